@@ -82,14 +82,14 @@ struct bpfspec_loop {
     int64_t answer; /* how many iterations ran, or -22 or -7 if the call was refused, as bpf_loop returns them */
 };
 
-/* Options of bpfspec_explain. Zeroes are `./bpfspec explain` without options. Each bool is 0 or 1. */
+/* Options of bpfspec_facts. Zeroes are `./bpfspec facts` without options. Each bool is 0 or 1. */
 struct bpfspec_options {
     uint64_t argument; /* --arg: main's argument */
     bool hex;          /* --hex: the unit is in hex form */
     bool lrpd;         /* --test lrpd: loops are tested by lrpd, not by flow */
-    bool states;       /* --states: each instruction, and the registers that it reads */
+    bool states;       /* --states: the abstract values of an accepted program too */
     bool all;          /* --all: up to 64 elements of each loop that conflicts, not only the least */
-    bool picture;      /* --picture: an SVG of the first loop that conflicts, if one does, in place of the text */
+    bool grid;         /* --grid: what iterations of the first loop that conflicts access */
 };
 
 /* Returns the number of the library's interface, BPFSPEC_VERSION. */
@@ -180,13 +180,12 @@ BPFSPEC_NONNULL int bpfspec_verify(const char *input, size_t length, char *answe
 BPFSPEC_NONNULL int bpfspec_verify_hex(const char *input, size_t length, char *answer, size_t room, size_t *size);
 
 /*
- * Writes what `./bpfspec explain` prints, as bpfspec_verify does: what `verify` prints, and then why the program is
- * refused, what is wrong with the text, or the execution strategies of an accepted program's loops and why they
- * conflict. For that it runs the program, on one thread, on the maps of the input or on zeroes. The reasons are left
- * out if memory suffices only for what `verify` prints.
+ * Writes what `./bpfspec facts` prints, as bpfspec_verify does: why the program is refused and what the verifier knows
+ * of each instruction, or the loops of an accepted program and why they conflict; a JSON object a line. For the loops
+ * it runs the program, on one thread, on the maps of the input or on zeroes.
  */
-BPFSPEC_NONNULL int bpfspec_explain(const char *input, size_t length, const struct bpfspec_options *options,
-                                    char *answer, size_t room, size_t *size);
+BPFSPEC_NONNULL int bpfspec_facts(const char *input, size_t length, const struct bpfspec_options *options,
+                                  char *answer, size_t room, size_t *size);
 
 #ifdef __cplusplus
 }

@@ -5,7 +5,8 @@
     with Machine("maps 1\\nmov64 r0, r1\\nadd64 r0, 1\\nexit\\n") as machine:
         print(machine.run(41))          # 42
 
-`verify` and `explain` give what the programs print of an input.
+`verify` gives what the program prints of an input; `facts` the records of why it is refused or its loops conflict, and
+`explain` those in words, where tools/explain is found.
 
 The library is searched beside this file, in the folder that BPFSPEC_LIBRARY names, and where the system has its
 libraries. As in C a machine is used by one thread at a time; ctypes lets other threads run during a call.
@@ -14,10 +15,13 @@ libraries. As in C a machine is used by one thread at a time; ctypes lets other 
 from __future__ import annotations
 
 import ctypes
+import importlib
+import json
 import os
+import sys
 from pathlib import Path
-from types import TracebackType
-from typing import Callable, Iterable, NamedTuple, Optional, Sequence, Type, Union
+from types import ModuleType, TracebackType
+from typing import Any, Callable, Iterable, NamedTuple, Optional, Sequence, Type, Union
 
 VERSION = 1
 DONE, EMPTY, MEMORY, REFUSED, HELD, MALFORMED, RANGE = 0, -9, -12, -13, -16, -22, -34
@@ -57,7 +61,7 @@ class _Loop(ctypes.Structure):
 
 class _Options(ctypes.Structure):
     _fields_ = [("argument", ctypes.c_uint64),
-                *((name, ctypes.c_bool) for name in ("hex", "lrpd", "states", "all", "picture"))]
+                *((name, ctypes.c_bool) for name in ("hex", "lrpd", "states", "all", "grid"))]
 
 
 def _folders() -> list[str]:
@@ -96,7 +100,7 @@ def _declared(library: ctypes.CDLL) -> ctypes.CDLL:
     room = [ctypes.c_char_p, count, ctypes.POINTER(count)]
     library.bpfspec_verify.argtypes = [*text, *room]
     library.bpfspec_verify_hex.argtypes = [*text, *room]
-    library.bpfspec_explain.argtypes = [*text, ctypes.POINTER(_Options), *room]
+    library.bpfspec_facts.argtypes = [*text, ctypes.POINTER(_Options), *room]
     if library.bpfspec_version() != VERSION:
         raise ImportError(f"libbpfspec.so has interface {library.bpfspec_version()}, not {VERSION}")
     return library
@@ -239,12 +243,42 @@ def verify(text: Union[str, bytes], hexadecimal: bool = False) -> Printed:
     return _printed(lambda *room: call(data, len(data), *room))
 
 
+def facts(text: Union[str, bytes], hexadecimal: bool = False, argument: int = 0, lrpd: bool = False,
+          states: bool = False, every: bool = False, grid: bool = False) -> list[dict[str, Any]]:
+    """The records that `bpfspec facts` prints of an input, `every` being its option --all. Raises MemoryError."""
+    printed = printed_facts(text, hexadecimal, argument, lrpd, states, every, grid)
+    return [json.loads(line) for line in printed.text.splitlines()]
+
+
+def printed_facts(text: Union[str, bytes], hexadecimal: bool = False, argument: int = 0, lrpd: bool = False,
+                  states: bool = False, every: bool = False, grid: bool = False) -> Printed:
+    """The same as the lines that are printed."""
+    data = text.encode() if isinstance(text, str) else text
+    options = _Options(_fits(argument, WORD, "argument"), hexadecimal, lrpd, states, every, grid)
+    return _printed(lambda *room: _library.bpfspec_facts(data, len(data), options, *room))
+
+
 def explain(text: Union[str, bytes], hexadecimal: bool = False, argument: int = 0, lrpd: bool = False,
             states: bool = False, every: bool = False, picture: bool = False) -> Printed:
-    """What `bpfspec explain` prints of an input, `every` being its option --all. Raises MemoryError."""
+    """What `bpfspec explain` prints of an input, `every` being its option --all. Raises MemoryError, and ImportError if
+    tools/explain isn't found: in this file's folder, or in `tools` of one of the two above it."""
+    asks, records, explaining = (_explainer(name) for name in ("command_line", "records", "explaining"))
     data = text.encode() if isinstance(text, str) else text
-    options = _Options(_fits(argument, WORD, "argument"), hexadecimal, lrpd, states, every, picture)
-    return _printed(lambda *room: _library.bpfspec_explain(data, len(data), options, *room))
+    printed = printed_facts(data, hexadecimal, argument, lrpd, states, every or picture, picture)
+    test = "lrpd" if lrpd else "flow"
+    ask = asks.Ask(hexadecimal, argument, test, states, every, picture)
+    return Printed(printed.accepted, explaining.Explanation(ask, data, records.read(printed.text)).text())
+
+
+def _explainer(name: str) -> ModuleType:
+    """A module of tools/explain."""
+    here = Path(__file__).resolve().parent
+    for folder in (here, here.parent / "tools", here.parent.parent / "tools"):
+        if (folder / "explain" / f"{name}.py").is_file():
+            if str(folder) not in sys.path:
+                sys.path.append(str(folder))
+            return importlib.import_module(f"explain.{name}")
+    raise ImportError("tools/explain isn't found: `explain` needs it, `facts` doesn't")
 
 
 def _printed(call: Callable[..., int]) -> Printed:

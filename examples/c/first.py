@@ -1,6 +1,6 @@
 """Loads a program, runs it a hundred times, and prints what it left in its map; then why another one is refused."""
 
-from bpfspec import Machine, Refused, explain
+from bpfspec import Machine, Refused, facts
 
 PROGRAM = """
 maps 1
@@ -20,4 +20,4 @@ try:
     Machine(REFUSED)
 except Refused as refused:
     print(refused)
-    print(explain(REFUSED).text.splitlines()[2])
+    print(next(record["name"] for record in facts(REFUSED) if record["record"] == "refusal"))

@@ -1,11 +1,11 @@
-/* Prints why a program is refused, as ./bpfspec explain does. */
+/* Prints why a program is refused, as ./bpfspec facts does: a JSON object a line. */
 #include "bpfspec.h"
 #include <stdio.h>
 #include <stdlib.h>
 #include <string.h>
 
-/* What explain prints of an input, in memory that the caller frees; NULL where there is none. */
-static char *explained(const char *input, size_t length, size_t *size)
+/* What `facts` prints of an input, in memory that the caller frees; NULL where there is none. */
+static char *facts_of(const char *input, size_t length, size_t *size)
 {
     static const struct bpfspec_options options = {0};
     char *answer = NULL;
@@ -18,7 +18,7 @@ static char *explained(const char *input, size_t length, size_t *size)
         if (!more)
             break;
         answer = more;
-        status = bpfspec_explain(input, length, &options, answer, room, size);
+        status = bpfspec_facts(input, length, &options, answer, room, size);
         room = *size;
     }
     if (status != BPFSPEC_RANGE && status != BPFSPEC_MEMORY)
@@ -38,7 +38,7 @@ int main(void)
         "ldx64 r0, [r2+0]\n"
         "exit\n";
     size_t size = 0;
-    char *answer = explained(input, strlen(input), &size);
+    char *answer = facts_of(input, strlen(input), &size);
 
     if (!answer)
         return 1;

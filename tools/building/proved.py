@@ -1,4 +1,4 @@
-"""Proves programs, or the library for C, and builds them, as `rt ci` does it, in a copy of the crates that they need."""
+"""Proves the program, or the library for C, and builds it, as `rt ci` does it, in a copy of the crates that it needs."""
 
 from __future__ import annotations
 
@@ -11,28 +11,26 @@ from pathlib import Path
 from .crates import LEFT_OUT, Repository
 from .kit import Failed, Kit, run, start
 from .rooms import Room, tell
-from .unproved import LEVELS, LEVELS_OF
+from .unproved import LEVELS
 
 PROVED = "proved here"
 DONE = b"== "  # begins what `rt ci` prints of a crate once that is proved
 DISK = "2.5 GB"
 
 
-def prove(top: Path, names: list[str], place: Path) -> None:
-    """Proves and builds into PLACE/NAME, for each of the names."""
+def prove(top: Path, name: str, folder: Path) -> None:
+    """Proves and builds into a folder."""
     kit, repository = Kit.find(), Repository.read(top)
-    needed = repository.needed(names)
-    rooms = {name: Room(place / name, repository, name) for name in names}
-    with tempfile.TemporaryDirectory(prefix="work-", dir=place) as made:
+    needed = repository.needed([name])
+    room = Room(folder, repository, name)
+    with tempfile.TemporaryDirectory(prefix="work-", dir=folder.parent) as made:
         work = Path(made)
         _copy(repository, needed, work)
-        tell(f"proves {len(needed)} crates and builds {' and '.join(names)}, in {work} ({DISK}): half an hour or more")
+        tell(f"proves {len(needed)} crates and builds {name}, in {work} ({DISK}): half an hour or more")
         _run_gate(work, len(needed))
-        for name, room in rooms.items():
-            for level in LEVELS_OF[name]:
-                _keep(top, work / "crates" / name, level, room.made / level / name)
-    for room in rooms.values():
-        room.keep(kit.name, PROVED, is_changed=False)
+        for level in LEVELS:
+            _keep(top, work / "crates" / name, level, room.made / level / name)
+    room.keep(kit.name, PROVED, is_changed=False)
 
 
 def _keep(top: Path, crate: Path, level: str, file: Path) -> None:

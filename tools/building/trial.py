@@ -31,9 +31,8 @@ def _examples(top: Path, name: str) -> Iterator[tuple[list[str], bytes, bytes]]:
     crate = top / "crates" / name
     words = crate / "args"
     yield words.read_text().splitlines() if words.is_file() else [], (crate / "stdin").read_bytes(), (crate / "stdout").read_bytes()
-    launcher = ["./bpfspec", "explain"] if name == "bpfspec_explain" else ["./bpfspec"]
     for command in stored(top):
         given, _, path = command.text.partition(" < ")
-        run = shlex.split(given)
-        if run[: len(launcher)] == launcher and (len(launcher) > 1 or run[1] != "explain"):
-            yield run[len(launcher) :], (top / path).read_bytes(), command.output.encode()
+        program, *run = shlex.split(given)
+        if program == "./bpfspec" and run[0] != "explain":
+            yield run, (top / path).read_bytes(), command.output.encode()

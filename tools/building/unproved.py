@@ -16,7 +16,7 @@ from .parts import parted
 from .trial import try_program
 
 LEVELS = "x86-64-v2", "x86-64-v3"
-LEVELS_OF = {"bpfspec": LEVELS, "bpfspec_explain": LEVELS[:1], "bpfspec_c": LEVELS}
+NAMES = "bpfspec", "bpfspec_c"
 LIBRARY = "bpfspec_c"
 # A function of large locals isn't put into its callers: the programs and hosts of the library have small stacks too.
 HOW = (

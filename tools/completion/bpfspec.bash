@@ -30,7 +30,7 @@ _bpfspec() {
     COMPREPLY=()
     _bpfspec_value "${COMP_WORDS[COMP_CWORD - 1]}" && return
     if ((COMP_CWORD == 1)); then
-        _bpfspec_words "verify order run replay asm disasm explain prove install library help"
+        _bpfspec_words "verify order run replay asm disasm facts explain prove install library help"
         return
     fi
     case $command in
@@ -38,7 +38,8 @@ _bpfspec() {
     order) _bpfspec_words "--hex --arg" ;;
     run) _bpfspec_words "--hex --arg --workers --blocks --test --way --stats" ;;
     replay) _bpfspec_words "--hex --arg --test" ;;
-    explain) _bpfspec_words "--hex --arg --test --states --all --picture" ;;
+    facts) _bpfspec_words "--hex --arg --test --states --all --grid" ;;
+    explain) _bpfspec_words "--hex --arg --test --states --all --picture --json --sarif" ;;
     prove) _bpfspec_words "library" ;;
     install | library) _bpfspec_files "!*/" ;;
     esac

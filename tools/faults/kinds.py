@@ -5,7 +5,8 @@ from __future__ import annotations
 from dataclasses import dataclass
 
 DONE, NO_MEMORY, NO_DEVICE = 0, 4, 5  # statuses of bpfspec
-REFUSED = b"refused memory\n"
+REFUSED = b"refused memory\n"  # what is printed if memory runs out, and of each command where its words are still read
+NO_MEMORY_TEXT = {"facts": b'{"record":"end","status":4}\n'}  # of a command that prints something else then
 TOLD = b"!"  # on standard error, by fail.c, where a call was made to fail
 NO_END = -1000  # in place of a status, of a run that had to be killed
 
@@ -31,14 +32,14 @@ class Fault:
         """The variables that `fail.c` reads, where call number `at` is to fail."""
         return {"FAULT_CALL": self.call, "FAULT_KIND": self.kind, "FAULT_AT": str(at)}
 
-    def is_right(self, ran: Ran, own: Ran, answer_alone: Ran) -> bool:
-        """Whether a run with this fault gave what it may: `own` is what the same run gives without, and the last is
-        its answer without the reasons, for which there may be no memory."""
+    def is_right(self, ran: Ran, own: Ran, no_memory: bytes) -> bool:
+        """Whether a run with this fault gave what it may: `own` is what the same run gives without, and the last what the
+        command prints where memory runs out."""
         answer = Ran(ran.status, ran.output)
         if ran.errors != TOLD:
             return ran.errors == b"" and answer == own
         if self.call == "growth":
-            return answer in (own, answer_alone, Ran(NO_MEMORY, REFUSED))
+            return answer in (own, Ran(NO_MEMORY, no_memory), Ran(NO_MEMORY, REFUSED))
         if self.call == "thread" or self.kind in ("short", "interrupted"):
             return answer == own
         is_beginning = ran.status == NO_DEVICE and own.output.startswith(ran.output)

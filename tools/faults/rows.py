@@ -33,16 +33,16 @@ FEW_LINES = {
         *("run --workers 2 --blocks 64", "run --workers 4 --blocks 4", "run --workers 16 --blocks 4"),
         *("run --workers 16 --blocks 64", "verify"),
     ),
-    "one break": ("run --way blocks --workers 1 --blocks 1", "run --stats", "replay", "disasm"),
+    "one break": ("run --way blocks --workers 1 --blocks 1", "run --stats", "replay", "disasm", "facts --states"),
     "two breaks": (
         *("run --workers 4 --blocks 1", "run --way blocks --workers 16 --blocks 64"),
         *("run --test lrpd --way blocks", "replay"),
     ),
     "two loops from zeros": ("run --workers 2 --blocks 1", "run --way blocks --workers 2 --blocks 4", "order", "disasm"),
-    "two loops from fives": ("run --workers 1 --blocks 1", "run --test lrpd --way blocks", "run --stats"),
+    "two loops from fives": ("run --workers 1 --blocks 1", "run --test lrpd --way blocks", "run --stats", "facts --test lrpd"),
     "copy forward": (
         *("run --workers 1 --blocks 4", "run --way blocks --workers 2 --blocks 4", "run --stats"),
-        "replay --test lrpd",
+        *("replay --test lrpd", "facts --all --grid"),
     ),
     "halves": ("run --workers 16 --blocks 1", "run --way blocks --workers 1 --blocks 1", "order", "asm"),
 }
@@ -60,11 +60,7 @@ class Row:
 
     def text(self) -> str:
         """The whole input."""
-        return f"{self.without_events()}%%\n{self.events}"
-
-    def without_events(self) -> str:
-        """Its unit and values."""
-        return f"{self.unit}%%\n{self.values}"
+        return f"{self.unit}%%\n{self.values}%%\n{self.events}"
 
     def in_order(self) -> str:
         """What `order` prints."""
@@ -81,6 +77,7 @@ def commands() -> Iterator[tuple[str, ...]]:
     yield from (("run", "--test", "lrpd"), ("run", "--test", "lrpd", "--way", "blocks"), ("run", "--stats"))
     yield from (("replay",), ("replay", "--test", "lrpd"))
     yield from (("verify",), ("order",), ("asm",), ("disasm",))
+    yield from (("facts", "--all", "--grid"), ("facts", "--states"), ("facts", "--test", "lrpd"))
 
 
 def few_commands(row: Row) -> list[tuple[str, ...]]:
@@ -88,19 +85,13 @@ def few_commands(row: Row) -> list[tuple[str, ...]]:
     return [tuple(line.split()) for line in FEW_LINES[row.name]]
 
 
-def explanations() -> Iterator[tuple[str, ...]]:
-    """The command lines of the program that explains, of which every short row is an input."""
-    yield from (("--all",), ("--test", "lrpd"), ("--states",), ("--picture",))
-
-
 def rows() -> list[Row]:
     """All rows, those first whose sweeps take longest. Both tests judge each alike."""
-    return [_many_elements(), _many_slots(), _long_conflict(), _long_break(), *short_rows()]
-
-
-def short_rows() -> list[Row]:
-    """The rows of few iterations."""
     return [
+        _many_elements(),
+        _many_slots(),
+        _long_conflict(),
+        _long_break(),
         _one_break(),
         _two_breaks(),
         _two_loops("zeros", (0, 0)),

@@ -8,7 +8,7 @@ from collections.abc import Iterator
 from dataclasses import dataclass
 from pathlib import Path
 
-from .kinds import NO_END, TOLD, Fault, Ran
+from .kinds import NO_END, NO_MEMORY_TEXT, REFUSED, TOLD, Fault, Ran
 from .program import Program
 
 PAST_LAST = 3  # runs in a row in which nothing failed end a sweep: threads come to their calls in another order each time
@@ -19,15 +19,14 @@ FIRST, STRIDE = 256, 16  # calls that each fail in a sweep that isn't whole; of 
 
 @dataclass(frozen=True)
 class Sweep:
-    """A row, a command that it is an input of, what that gives, with reasons and without, and a fault to be at each of
-    its calls in turn, or at some of many."""
+    """A row, a command that it is an input of, what that gives, and a fault to be at each of its calls in turn, or at some
+    of many."""
 
     program: Program
     row: str
     words: tuple[str, ...]
     stdin: Path
     own: Ran
-    answer_alone: Ran
     fault: Fault
     is_whole: bool
 
@@ -64,7 +63,7 @@ def outcome_of(sweep: Sweep) -> Outcome:
     for at, ran in sweep.runs():
         outcome.runs += 1
         outcome.failed += ran.errors.startswith(TOLD)
-        if not sweep.fault.is_right(ran, sweep.own, sweep.answer_alone):
+        if not sweep.fault.is_right(ran, sweep.own, NO_MEMORY_TEXT.get(sweep.words[0], REFUSED)):
             outcome.wrong += 1
             print(sweep.line(at, ran), file=sys.stderr, flush=True)
         if outcome.wrong == MOST_WRONG:

@@ -5,11 +5,11 @@ enum { ROOM = 4096 };
 
 typedef int print_call(const char *input, size_t length, char *answer, size_t room, size_t *size);
 
-static int explain(const char *input, size_t length, char *answer, size_t room, size_t *size)
+static int facts(const char *input, size_t length, char *answer, size_t room, size_t *size)
 {
     static const struct bpfspec_options options = {0};
 
-    return bpfspec_explain(input, length, &options, answer, room, size);
+    return bpfspec_facts(input, length, &options, answer, room, size);
 }
 
 static bool is_filled(const char *bytes, size_t count)
@@ -60,13 +60,19 @@ static void prints(print_call *call, const char *input, size_t length, int statu
 
 static const char forth[] = MOVES("0", "8"), back[] = MOVES("8", "0");
 
-/* Whether an explanation with these options has these words, and its status. */
+/* The beginnings of records. */
+#define CONFLICT "\"verdict\":\"conflict\""
+#define PAIR "{\"record\":\"pair\",\"loop\":0,\"map\":0,\"element\":"
+#define VALUE "{\"record\":\"value\","
+#define CELL "{\"record\":\"cell\","
+
+/* Whether the facts with these options have these words, and their status. */
 static bool says(const char *input, const struct bpfspec_options *options, int status, const char *words)
 {
-    char answer[4 * ROOM];
+    static char answer[4 * ROOM];
     size_t size;
 
-    EXPECT(bpfspec_explain(input, strlen(input), options, answer, sizeof answer - 1, &size) == status);
+    EXPECT(bpfspec_facts(input, strlen(input), options, answer, sizeof answer - 1, &size) == status);
     answer[size] = 0;
     return strstr(answer, words) != NULL;
 }
@@ -75,17 +81,21 @@ static void options(void)
 {
     const struct bpfspec_options none = {0}, argument = {.argument = 4}, all = {.argument = 4, .all = true};
     const struct bpfspec_options lrpd = {.argument = 4, .lrpd = true}, states = {.states = true}, hex = {.hex = true};
-    const struct bpfspec_options picture = {.argument = 4, .picture = true};
+    const struct bpfspec_options grid = {.argument = 4, .grid = true};
 
-    EXPECT(!says(forth, &none, BPFSPEC_DONE, "conflict") && !says(forth, &none, BPFSPEC_DONE, "slot 0:"));
-    EXPECT(says(forth, &argument, BPFSPEC_DONE, "answer 4, conflict 3 least 1"));
-    EXPECT(says(forth, &argument, BPFSPEC_DONE, "element 1 ") && !says(forth, &argument, BPFSPEC_DONE, "element 2 "));
-    EXPECT(says(forth, &all, BPFSPEC_DONE, "element 1 ") && says(forth, &all, BPFSPEC_DONE, "element 2 "));
-    EXPECT(!says(back, &argument, BPFSPEC_DONE, "conflict") && says(back, &lrpd, BPFSPEC_DONE, "conflict"));
-    EXPECT(says(forth, &states, BPFSPEC_DONE, "slot 0:"));
-    EXPECT(says(forth, &hex, BPFSPEC_MALFORMED, "A1 at unit line 2"));
-    EXPECT(says(forth, &picture, BPFSPEC_DONE, "<svg") && !says(forth, &picture, BPFSPEC_DONE, "accepted"));
+    EXPECT(!says(forth, &none, BPFSPEC_DONE, CONFLICT) && !says(forth, &none, BPFSPEC_DONE, VALUE));
+    EXPECT(says(forth, &argument, BPFSPEC_DONE, "\"answer\":4,\"verdict\":\"conflict\",\"conflicts\":3,"));
+    EXPECT(says(forth, &argument, BPFSPEC_DONE, PAIR "1,") && !says(forth, &argument, BPFSPEC_DONE, PAIR "2,"));
+    EXPECT(says(forth, &all, BPFSPEC_DONE, PAIR "1,") && says(forth, &all, BPFSPEC_DONE, PAIR "2,"));
+    EXPECT(!says(back, &argument, BPFSPEC_DONE, CONFLICT) && says(back, &lrpd, BPFSPEC_DONE, CONFLICT));
+    EXPECT(says(forth, &states, BPFSPEC_DONE, VALUE));
+    EXPECT(says(forth, &hex, BPFSPEC_MALFORMED, "\"code\":\"A1\",\"name\":\"form\",\"line\":2,"));
+    EXPECT(says(forth, &grid, BPFSPEC_DONE, CELL) && !says(forth, &argument, BPFSPEC_DONE, CELL));
 }
+
+#define HEADER                                                                        \
+    "{\"record\":\"header\",\"version\":1,\"form\":\"text\",\"argument\":\"0\",\"test\":\"flow\"," \
+    "\"states\":false,\"all\":false,\"grid\":false}\n"
 
 #define PRINTS(call, input, status, text) prints(call, input, sizeof(input) - 1, status, text)
 
@@ -103,8 +113,15 @@ int main(void)
     PRINTS(bpfspec_verify_hex, "maps 1\nbf10000000\n", BPFSPEC_REFUSED, "refused I1 at slot 0\n");
     PRINTS(bpfspec_verify_hex, "maps 1\n9500000000000000\n", BPFSPEC_REFUSED, "refused V12 at slot 0\n");
     PRINTS(bpfspec_verify_hex, "exit\n", BPFSPEC_MALFORMED, "refused A1 at unit line 1\n");
-    PRINTS(explain, "maps 1\nmov64 r0, 7\nexit\n", BPFSPEC_DONE, "accepted\nfunction 0 at 0 count 2\n");
-    PRINTS(explain, "\xff", BPFSPEC_MALFORMED, "refused A1 at unit line 0\n  the input isn't UTF-8\n");
+    PRINTS(facts, "maps 1\nmov64 r0, 7\nexit\n", BPFSPEC_DONE,
+           HEADER "{\"record\":\"function\",\"function\":0,\"slot\":0,\"count\":2}\n"
+           "{\"record\":\"map\",\"map\":0,\"elements\":1}\n"
+           "{\"record\":\"insn\",\"slot\":0,\"insn\":\"mov64 r0, 7\",\"reached\":true,\"ahead\":1,\"aside\":null}\n"
+           "{\"record\":\"insn\",\"slot\":1,\"insn\":\"exit\",\"reached\":true,\"ahead\":null,\"aside\":null}\n"
+           "{\"record\":\"end\",\"status\":0}\n");
+    PRINTS(facts, "\xff", BPFSPEC_MALFORMED,
+           HEADER "{\"record\":\"refusal\",\"section\":\"unit\",\"code\":\"A1\",\"name\":\"form\",\"line\":0,"
+           "\"slot\":null,\"event\":null}\n{\"record\":\"end\",\"status\":2}\n");
     options();
     puts("each text is as it should be");
     return 0;

@@ -1,7 +1,7 @@
-"""Compares what the library prints of inputs with what the programs print.
+"""Compares what the library prints of inputs with what the program prints.
 
 The inputs are the repository's examples and the blocks of docs/REFUSALS.md. BPFSPEC_LIBRARY names the folder of the
-library, BPFSPEC and BPFSPEC_EXPLAIN the programs. Each fault is a line; the last line has the count of texts.
+library, BPFSPEC the program. Each fault is a line; the last line has the count of texts.
 """
 
 from __future__ import annotations
@@ -17,7 +17,7 @@ TOP = Path(__file__).resolve().parent.parent.parent
 EXAMPLES = TOP / "examples"
 sys.path.insert(0, str(EXAMPLES / "c"))
 
-from bpfspec import Printed, explain, verify  # noqa: E402: it is found by the line above
+from bpfspec import Printed, printed_facts, verify  # noqa: E402: it is found by the line above
 
 BLOCK = re.compile(r"^```(?:refused|taken)\n(.*?)^```$", re.MULTILINE | re.DOTALL)
 LIMIT = 60  # seconds of a program
@@ -25,9 +25,9 @@ OPTIONS: tuple[dict[str, object], ...] = (
     {},
     {"argument": 7, "lrpd": True, "every": True},
     {"states": True},
-    {"argument": 7, "picture": True},
+    {"argument": 7, "grid": True},
 )
-WORDS = {"hexadecimal": "--hex", "states": "--states", "every": "--all", "picture": "--picture"}
+WORDS = {"hexadecimal": "--hex", "states": "--states", "every": "--all", "grid": "--grid"}
 
 
 def inputs() -> Iterator[tuple[bytes, bool]]:
@@ -65,8 +65,8 @@ def main() -> int:
         pairs = [(verify(text, hexadecimal), by_program(words, text))]
         for more in OPTIONS:
             options = {**more, "hexadecimal": hexadecimal}
-            words = [os.environ["BPFSPEC_EXPLAIN"], *words_of(options)]
-            pairs.append((explain(text, **options), by_program(words, text)))
+            words = [os.environ["BPFSPEC"], "facts", *words_of(options)]
+            pairs.append((printed_facts(text, **options), by_program(words, text)))
         count += len(pairs)
         for found, wanted in pairs:
             if found != wanted:

@@ -18,8 +18,8 @@ int __real_bpfspec_count(struct bpfspec_machine *machine, uint32_t function, uin
 int __real_bpfspec_report(struct bpfspec_machine *machine, size_t number, struct bpfspec_loop *loop);
 int __real_bpfspec_verify(const char *input, size_t length, char *answer, size_t room, size_t *size);
 int __real_bpfspec_verify_hex(const char *input, size_t length, char *answer, size_t room, size_t *size);
-int __real_bpfspec_explain(const char *input, size_t length, const struct bpfspec_options *options, char *answer,
-                           size_t room, size_t *size);
+int __real_bpfspec_facts(const char *input, size_t length, const struct bpfspec_options *options, char *answer,
+                         size_t room, size_t *size);
 
 int __wrap_bpfspec_load(struct bpfspec_machine *machine, const char *text, size_t length,
                         struct bpfspec_refusal *refusal)
@@ -102,12 +102,12 @@ int __wrap_bpfspec_verify_hex(const char *input, size_t length, char *answer, si
     return (WRONG == 16 ? __real_bpfspec_verify : __real_bpfspec_verify_hex)(input, length, answer, room, size);
 }
 
-int __wrap_bpfspec_explain(const char *input, size_t length, const struct bpfspec_options *options, char *answer,
-                           size_t room, size_t *size)
+int __wrap_bpfspec_facts(const char *input, size_t length, const struct bpfspec_options *options, char *answer,
+                         size_t room, size_t *size)
 {
     static const struct bpfspec_options none = {0};
 
     if (WRONG == 17)
         return __real_bpfspec_verify(input, length, answer, room, size);
-    return __real_bpfspec_explain(input, length, WRONG == 18 ? &none : options, answer, room, size);
+    return __real_bpfspec_facts(input, length, WRONG == 18 ? &none : options, answer, room, size);
 }

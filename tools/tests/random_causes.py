@@ -1,29 +1,30 @@
 #!/usr/bin/env python3
-"""Compares what `explain` tells of random loops with a plain reading of the definitions.
+"""Compares the facts of random loops with a plain reading of the definitions.
 
     tools/tests/random_causes.py PROGRAM [SEED [COUNT]]
 
-PROGRAM stands for `./bpfspec explain`. A loop accesses a few elements by loads, stores, halves of both, atomic
-operations with and without a fetch, and exchanges, each in some of its iterations; it may break. What has to be told of
-it is made from the list of what each iteration does: which way the loop goes, which elements conflict, by which least
-pair of iterations, which access is the first that isn't a reduce by the operator of the first one, and which variables
-lie there.
+PROGRAM is the program bpfspec, whose `facts --all` are read. A loop accesses a few elements by loads, stores, halves of
+both, atomic operations with and without a fetch, and exchanges, each in some of its iterations; it may break. The records
+`loop` and `pair` that it has to have are made from the list of what each iteration does: which way the loop goes, which
+elements conflict, by which least pair of iterations, and which access is the first that isn't a reduce by the operator of
+the first one.
 
 Each difference is on standard error. One line on standard output has the counts. The status is 0 where there was none.
 """
 
 from __future__ import annotations
 
+import json
 import random
 import subprocess
 import sys
-from collections.abc import Callable, Iterator
+from collections.abc import Callable
 from dataclasses import dataclass
 
-MOST_TOLD = 64
+Record = dict[str, object]
+MOST_PAIRS = 64
 LIMIT = 60  # seconds of a command
 OPERATORS = "add", "or", "and", "xor"
-WIDER = "u64 in place of u32, or the variables in elements apart"
 
 
 @dataclass(frozen=True)
@@ -61,38 +62,6 @@ class Kind:
         name = {"reduce": self.operator, "fetch": f"{self.operator}_fetch"}.get(self.word, self.word)
         return f"atomic{width} {name} {address}, r5"
 
-    def told(self) -> str:
-        """What it does, in words."""
-        half = "half of " if self.is_half else ""
-        return {
-            "load": f"reads {half}it",
-            "store": "stores half of it" if self.is_half else "writes it",
-            "reduce": f"reduces {half}it by {self.operator}",
-            "fetch": f"fetches it, and {self.operator}s",
-        }.get(self.word, "fetches it, and stores")
-
-    def mend(self) -> str:
-        """What mends a reduction that ends with it."""
-        if self.word == "load":
-            return "what is reduced is read after the loop, or in a loop of its own"
-        if self.word == "store":
-            return half_store() if self.is_half else "what is reduced is set before the loop, or in a loop of its own"
-        if self.word == "reduce":
-            return "a reduction has one operator for all, and one width" + (f": {WIDER}" if self.is_half else "")
-        if self.word == "fetch":
-            return fetch(self.operator)
-        return "it tells what was there, and is no reduce"
-
-
-def half_store() -> str:
-    """What mends a store to one half."""
-    return f"a store to one half keeps the other: {WIDER}"
-
-
-def fetch(operator: str) -> str:
-    """What makes a reduce of a fetch."""
-    return f"it tells what was there: without use of that, __atomic_fetch_{operator}(.., __ATOMIC_RELAXED) is a reduce"
-
 
 @dataclass(frozen=True)
 class Step:
@@ -107,29 +76,23 @@ class Step:
 
 @dataclass(frozen=True)
 class Place:
-    """An access as it was made: by which iteration, in which line, and what it does."""
+    """An access as it was made: by which iteration, at which slot, and what it does."""
 
     iteration: int
-    line: int
+    slot: int
     kind: Kind
-
-    def told(self, text: list[str]) -> str:
-        """Its line."""
-        does, instruction = self.kind.told(), text[self.line - 1].strip()
-        return f"    iteration {self.iteration:>4} {does:<12} line {self.line}: {instruction}"
 
 
 @dataclass
 class Unit:
-    """A random unit: its text, its variables, the kinds of its instructions that access an element, and what its
-    iterations do at each element, in order."""
+    """A random unit: its text, the kinds of its instructions that access an element, what its counted iterations do at each
+    element, in order, how many iterations it asks for, and the slot of its exit if one breaks."""
 
     text: list[str]
-    variables: list[tuple[str, int, int]]  # a name, the first byte, and the bytes
     kinds: list[Kind]
     iterations: list[dict[int, list[Place]]]
-    count: int
-    broke: str
+    asked: int
+    broke: int | None
 
 
 def random_kind(rng: random.Random) -> Kind:
@@ -162,48 +125,33 @@ def random_unit(rng: random.Random) -> Unit:
     elements, n = rng.randint(1, 4), rng.choice((1, 2, 3, 9, 60))
     usual = [random_kind(rng) for _ in range(elements)]
     steps = [random_step(rng, elements, usual, n) for _ in range(rng.randint(1, 6))]
-    variables = list(random_variables(rng, elements)) if rng.random() < 0.7 else []
-    text = ["; map 0: .bss", *(f";   {name} from {place(byte)}" for name, byte, _ in variables)] if variables else []
-    text += [f"maps {elements}", f"mov64 r1, {n}", "ldcode r2, callback", "mov64 r3, 0", "mov64 r4, 0", "call 181"]
+    text = [f"maps {elements}", f"mov64 r1, {n}", "ldcode r2, callback", "mov64 r3, 0", "mov64 r4, 0", "call 181"]
     text += ["exit", "callback:", "mov64 r6, r1", "ldmapval r9, 0, 0", "mov64 r0, 0"]
-    lines = []
+    slots = []
     for number, step in enumerate(steps):
         text += [line.replace("past", f"past_{number}") for line in step.when.split(" | ") if line]
         text += ["mov64 r5, 5"]
-        text += [step.kind.instruction(f"[r9+{8 * step.element + 4 * step.high}]")]
-        lines.append(len(text))
-        text += [f"past_{number}:"]
+        slots.append(slots_of(text))
+        text += [step.kind.instruction(f"[r9+{8 * step.element + 4 * step.high}]"), f"past_{number}:"]
     text += ["mov64 r0, 0"]
     breaks = rng.randrange(n) if rng.random() < 0.2 else n
     if breaks < n:
         text += [f"jne64 r6, {breaks}, done", "mov64 r0, 1", "done:"]
-    text += ["exit"]
-    counted = min(n, breaks + 1)
+    broke = slots_of(text) if breaks < n else None
     iterations: list[dict[int, list[Place]]] = []
-    for index in range(counted):
+    for index in range(min(n, breaks + 1)):
         done: dict[int, list[Place]] = {}
-        for step, line in zip(steps, lines):
+        for step, slot in zip(steps, slots):
             if step.is_made(index):
-                done.setdefault(step.element, []).append(Place(index, line, step.kind))
+                done.setdefault(step.element, []).append(Place(index, slot, step.kind))
         iterations.append(done)
-    broke = f"  iteration {breaks:>4} {'breaks it':<12} line {len(text)}: exit" if breaks < n else ""
-    return Unit(text, variables, [step.kind for step in steps], iterations, counted, broke)
+    return Unit([*text, "exit"], [step.kind for step in steps], iterations, n, broke)
 
 
-def random_variables(rng: random.Random, elements: int) -> Iterator[tuple[str, int, int]]:
-    """Variables of 4 bytes, or of whole elements, that leave no gap."""
-    byte = 0
-    while byte < 8 * elements:
-        size = 4 if byte % 8 or rng.random() < 0.4 else 8 * rng.randint(1, 2)
-        size = min(size, 8 * elements - byte)
-        yield f"v{byte}", byte, size
-        byte += size
-
-
-def place(byte: int) -> str:
-    """Where a variable begins."""
-    element, within = divmod(byte, 8)
-    return f"byte {within} of element {element}" if within else f"element {element}"
+def slots_of(text: list[str]) -> int:
+    """How many slots the instructions of a text take."""
+    insns = [line for line in text[1:] if not line.endswith(":")]
+    return len(insns) + sum(line.startswith(("ldcode", "ldmapval")) for line in insns)
 
 
 def least_pair(unit: Unit, element: int, test: str) -> tuple[Place, Place] | None:
@@ -234,28 +182,18 @@ def first_other(unit: Unit, element: int) -> Place | None:
     return None
 
 
-def cause(unit: Unit, element: int, test: str) -> list[str]:
-    """What has to be told of an element; nothing where it doesn't conflict."""
-    other, pair = first_other(unit, element), least_pair(unit, element, test)
-    if other is None or pair is None:
-        return []
+def pair_of(unit: Unit, element: int, test: str) -> Record | None:
+    """The record of an element that conflicts."""
+    end, pair = first_other(unit, element), least_pair(unit, element, test)
+    if end is None or pair is None:
+        return None
     writer, reader = pair
-    names = [n for n, byte, size in unit.variables if byte < 8 * element + 8 and byte + size > 8 * element]
-    told = [f"  element {element} (map 0 at {element}){': ' if names else ''}{' and '.join(names)}"]
-    told += [writer.told(unit.text), reader.told(unit.text)]
-    by_turns = sorted(pair, key=lambda access: access.iteration)
-    reduce = next((access.kind for access in by_turns if access.kind.word == "reduce"), None)
-    if reduce:
-        halves = " of halves" if reduce.is_half else ""
-        told += [f"    the first access that isn't a reduce by {reduce.operator}{halves}:"]
-        return [*told, other.told(unit.text), f"      {other.kind.mend()}"]
-    if reader.kind.word == "fetch":
-        return [*told, f"    {fetch(reader.kind.operator)}"]
-    if reader.kind.word == "store":
-        return [*told, f"    {half_store()}"]
-    if reader.kind == Kind("load", True) and writer.kind == Kind("store", True):
-        return [*told, f"    where these are two variables: {WIDER}"]
-    return told
+    return {
+        **{"record": "pair", "loop": 0, "map": 0, "element": element},
+        **{"writer": writer.iteration, "writer_slot": writer.slot},
+        **{"reader": reader.iteration, "reader_slot": reader.slot},
+        **{"end": end.iteration, "end_slot": end.slot},
+    }
 
 
 def reads_written(unit: Unit) -> bool:
@@ -271,55 +209,52 @@ def reads_written(unit: Unit) -> bool:
     return False
 
 
-def way(unit: Unit, test: str, conflicts: bool) -> str:
+def way(unit: Unit, test: str) -> Record:
     """Which way such a loop of few iterations goes, and why."""
-    then = " then in order" if conflicts else ""
     adds_up = all(kind.word == "reduce" and not kind.is_half for kind in unit.kinds)
     if adds_up and len({kind.operator for kind in unit.kinds}) == 1:
-        return "in order, 1 worker: iterations only reduce elements, several workers don't pay"
+        return {"way": "sums", "blocks": None, "workers": 1, "reason": "only_reduces"}
     if test == "lrpd":
-        return f"1 block{then}, 1 worker: judged by the lrpd test"
+        return {"way": "blocks", "blocks": 1, "workers": 1, "reason": "lrpd"}
     if reads_written(unit):
-        return f"watched then 1 block{then}, 1 worker: an iteration read what was written"
-    return "watched, 1 worker: no iteration read what an earlier one wrote"
+        return {"way": "blocks", "blocks": 1, "workers": 1, "reason": "reads_written"}
+    return {"way": "watched", "blocks": None, "workers": 1, "reason": "reads_nothing_written"}
 
 
-def expected(unit: Unit, test: str) -> list[str]:
-    """What has to be told of the loop."""
-    causes = {element: cause(unit, element, test) for element in range(4)}
-    found = [element for element, lines in causes.items() if lines]
-    verdict = f"conflict {len(found)} least {found[0]}" if found else "parallel"
-    told = [f"loop 0 at 5: answer {unit.count}, {verdict}", f"  way: {way(unit, test, bool(found))}"]
-    for element in found[:MOST_TOLD]:
-        told += causes[element]
-    return [*told, unit.broke] if unit.broke else told
+def expected(unit: Unit, test: str) -> list[Record]:
+    """The records of the loop."""
+    pairs = [pair for element in range(4) if (pair := pair_of(unit, element, test))]
+    count = len(unit.iterations)
+    loop = {
+        **{"record": "loop", "loop": 0, "slot": 5, "iterations": unit.asked, "flags": "0", "answer": count},
+        **{"verdict": "conflict" if pairs else "parallel", "conflicts": len(pairs), **way(unit, test)},
+        **{"break_iteration": count - 1 if unit.broke else None, "break_slot": unit.broke},
+    }
+    return [loop, *pairs[:MOST_PAIRS]]
 
 
-def explained(program: str, unit: Unit, test: str) -> list[str]:
-    """What is told of it."""
-    words = [program, "--all", "--test", test]
+def facts(program: str, unit: Unit, test: str) -> list[Record]:
+    """Those that the program prints."""
+    words = [program, "facts", "--all", "--test", test]
     text = "".join(f"{line}\n" for line in unit.text)
     done = subprocess.run(words, input=text, capture_output=True, text=True, timeout=LIMIT, check=False)
-    lines = done.stdout.splitlines()
-    start = next((number for number, line in enumerate(lines) if line.startswith("loop ")), 0)
-    return lines[start:]
+    records = map(json.loads, done.stdout.splitlines())
+    return [record for record in records if record["record"] in ("loop", "pair")]
 
 
 def main(program: str, seed: int, count: int) -> int:
-    """Compares what is told of so many loops."""
-    wrong = conflicts = ends = 0
+    """Compares so many loops."""
+    wrong = conflicts = 0
     for number in range(seed, seed + count):
         rng = random.Random(number)
         unit, test = random_unit(rng), rng.choice(("flow", "lrpd"))
-        wanted, found = expected(unit, test), explained(program, unit, test)
-        conflicts += "conflict" in wanted[0]
-        ends += any("first access" in line for line in wanted)
+        wanted, found = expected(unit, test), facts(program, unit, test)
+        conflicts += len(wanted) > 1
         if wanted != found:
             wrong += 1
-            shown = ["wanted:", *wanted, "found:", *found]
+            shown = ["wanted:", *map(json.dumps, wanted), "found:", *map(json.dumps, found)]
             print("\n".join([f"seed {number}, --test {test}", *unit.text, *shown]), file=sys.stderr)
-    told = f"{conflicts} with conflicts, {ends} with a reduced element that isn't reduction-only"
-    print(f"{count} loops, {told}; {wrong} differ")
+    print(f"{count} loops, {conflicts} with conflicts; {wrong} differ")
     return 1 if wrong else 0
 
 

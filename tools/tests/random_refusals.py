@@ -1,30 +1,27 @@
 #!/usr/bin/env python3
-"""Compares what `explain` tells of random programs that are refused with what happens in runs of them.
+"""Compares the facts of random programs that are refused with what happens in runs of them.
 
     tools/tests/random_refusals.py PROGRAM [SEED [COUNT]]
 
-PROGRAM stands for `./bpfspec explain`. A program has arithmetic, comparisons, branches, accesses of maps and frames,
-lookups and loops, and in main or a callback something that can't be done: an index that isn't bounded, or by one too
-little, a copy that isn't narrowed, a register that some paths leave unwritten. Of each seed programs are made until one
-is refused. An interpreter runs it with arguments and maps that are made from its numbers, main first and a few
-iterations of each loop call, until control comes to the slot of the fault. In each run:
+PROGRAM is the program bpfspec, whose `facts --states` are read. A program has arithmetic, comparisons, branches, accesses
+of maps and frames, lookups and loops, and in main or a callback something that can't be done: an index that isn't bounded,
+or by one too little, a copy that isn't narrowed, a register that some paths leave unwritten. Of each seed programs are made
+until one is refused. An interpreter runs it with arguments and maps that are made from its numbers, main first and a few
+iterations of each loop call, until control reaches the slot of the fault. In each run:
 
-- no instruction in front of the fault is one that can't be done;
-- each register that an instruction up to the fault reads has a value that `--states` tells;
-- the register that the chain is of was written last at the slot of its first link, or copied from one that was, and so
-  on back along the links, as far as the run came the way on which the chain goes on where paths meet; and what each was
-  made of has a value that is told;
-- each comparison that is shown was passed, with values that are told of what is before it and of the way that was
-  taken;
-- what is told to be different things on different paths was written; and where these meet, it has what is told of the
-  edge by which the run came.
+- no instruction before the fault is one that can't be done;
+- each register has, before each instruction and along each edge into a join, a value among those of its record;
+- each step is an edge, and each slot that it leads to is one that a path leads to;
+- each register that is read comes from where its record says: it was written there last, or main or the callback began
+  with it, or it is as it was where paths join.
 
-And of the program itself: the rule is the least that is broken by what the registers are at its slot, and at no slot
-before one is; a value is the same wherever it is told; where paths meet it is that of all edges, which are the
-program's; what isn't written is so on some path of jumps; lines, sizes, offsets and bytes are the program's.
+And of the program itself: the slots are those up to the fault, with their instructions and edges; the rule is the least
+that is broken by the values at its slot, and at no slot before one is; where paths join a register is the join of all
+edges, and the registers that are known on an edge are those that its instruction left or wrote; each byte that isn't
+written is so on some path of jumps.
 
-Each difference is on standard error, with the program and what is told of it. Standard output has the counts. The
-status is 0 where nothing was wrong, else 1.
+Each difference is on standard error, with the program and its facts. Standard output has the counts. The status is 0 where
+nothing was wrong, else 1.
 """
 
 from __future__ import annotations
@@ -41,7 +38,7 @@ from functools import partial
 
 from oracle.agreement import wrong_of
 from oracle.claims import Claims
-from oracle.explained import Explanation, NotUnderstood, Reader
+from oracle.facts import Facts, facts_of
 from oracle.instructions import Unit, unit_of
 from oracle.machine import WORD, Machine
 from oracle.random_refusal import RandomRefusal
@@ -88,29 +85,31 @@ class Inputs:
 
 
 def printed(program: str, lines: list[str]) -> list[str]:
-    """What is told of a unit, with its states."""
-    text = "".join(f"{line}\n" for line in lines)
-    done = subprocess.run([program, "--states"], input=text, capture_output=True, text=True, timeout=LIMIT, check=False)
-    return done.stdout.splitlines()
+    """The records of a unit."""
+    words, text = [program, "facts", "--states"], "".join(f"{line}\n" for line in lines)
+    return subprocess.run(words, input=text, capture_output=True, text=True, timeout=LIMIT, check=False).stdout.splitlines()
 
 
 def refused(program: str, rng: random.Random) -> tuple[list[str], list[str]]:
-    """A random unit that is refused, and what is told of it."""
+    """A random unit that is refused, and its records."""
     for _ in range(MOST_TRIES):
         lines = RandomRefusal(rng).lines
-        told = printed(program, lines)
-        if told and told[0].startswith("refused "):
-            return lines, told
+        records = printed(program, lines)
+        if any(record.startswith('{"record":"refusal"') for record in records):
+            return lines, records
     raise RuntimeError(f"{MOST_TRIES} programs, and none is refused")
 
 
-def differences(rng: random.Random, unit: Unit, told: Explanation, outcome: Outcome) -> Iterator[str]:
-    """What is wrong with what is told, by the unit and by its runs."""
-    yield from wrong_of(unit, outcome.lines, told)
-    claims, inputs = Claims(unit, told), Inputs(rng, unit)
+def differences(rng: random.Random, unit: Unit, facts: Facts, outcome: Outcome) -> Iterator[str]:
+    """What is wrong with facts by the unit; or else by its runs."""
+    wrong = [*wrong_of(unit, facts)]
+    if wrong:
+        yield from wrong
+        return
+    claims, inputs = Claims(unit, facts), Inputs(rng, unit)
     while outcome.runs < (RUNS if outcome.reached else MOST_RUNS):
         argument = inputs.word()
-        run = Machine(unit, inputs.maps(), told.slot, inputs.first).run(argument)
+        run = Machine(unit, inputs.maps(), facts.slot, inputs.first).run(argument)
         outcome.runs += 1
         outcome.reached += run.is_there
         for wrong in claims.wrong_in(run):
@@ -118,25 +117,21 @@ def differences(rng: random.Random, unit: Unit, told: Explanation, outcome: Outc
     outcome.held = claims.held
 
 
-def compared(rng: random.Random, lines: list[str], text: list[str]) -> Outcome:
-    """Compares what is told of a unit with the unit and with its runs."""
-    outcome, unit = Outcome(lines), unit_of(lines)
-    try:
-        told = Reader(unit, text).read()
-        outcome.rule = told.rule
-        outcome.wrong = [*differences(rng, unit, told, outcome)]
-    except NotUnderstood as line:
-        outcome.wrong = [f"not understood: {line}"]
+def compared(rng: random.Random, lines: list[str], records: list[str]) -> Outcome:
+    """Compares the facts of a unit with the unit and with its runs."""
+    outcome, unit, facts = Outcome(lines), unit_of(lines), facts_of(records)
+    outcome.rule = facts.rule or 0
+    outcome.wrong = [*differences(rng, unit, facts, outcome)]
     return outcome
 
 
 def outcome_of(program: str, seed: int) -> Outcome:
-    """Compares what is told of the program of a seed."""
+    """Compares the facts of the program of a seed."""
     rng = random.Random(seed)
-    lines, text = refused(program, rng)
-    outcome = compared(rng, lines, text)
+    lines, records = refused(program, rng)
+    outcome = compared(rng, lines, records)
     if outcome.wrong:
-        outcome.wrong += ["told:", *text]
+        outcome.wrong += records
     return outcome
 
 

@@ -3,7 +3,7 @@
 
     BPFSPEC_LIBRARY=FOLDER python3 tools/tests/test_by_library.py
 
-The folder is of `./bpfspec library`. The program is that of $BPFSPEC and $BPFSPEC_EXPLAIN, else ./bpfspec.
+The folder is of `./bpfspec library`. The program is that of $BPFSPEC, else ./bpfspec.
 """
 
 from __future__ import annotations
@@ -22,7 +22,7 @@ from bpf_run import compiler
 from bpf_run.programs import Clock
 
 FOLDER = os.environ.get("BPFSPEC_LIBRARY", "")
-NO_PROGRAM = {"BPFSPEC": "/bin/false", "BPFSPEC_EXPLAIN": "/bin/false"}
+NO_PROGRAM = {"BPFSPEC": "/bin/false"}
 Done = tuple[int, str, list[str]]
 
 
@@ -114,7 +114,7 @@ class ByLibrary(InFolder):
 
     def test_of_an_installation(self) -> None:
         place = self.folder / "bpfspec"
-        for name in "bpf_ir", "bpf_object", "bpf_run":
+        for name in "bpf_ir", "bpf_object", "bpf_run", "explain":
             shutil.copytree(TOP / "tools" / name, place / "tools" / name)
         shutil.copytree(FOLDER, place / "library")
         shutil.copy(BPFRUN, place / "tools")

@@ -1,18 +1,18 @@
 #!/usr/bin/env python3
 """Tries what `explain` tells of elements that are reduced, and accessed in another way.
 
-The program is that of $BPFSPEC_EXPLAIN, else `./bpfspec explain`.
+The program is that of $BPFSPEC, else `./bpfspec`.
 """
 
 from __future__ import annotations
 
-import os
 import subprocess
+import sys
 import unittest
 from pathlib import Path
 
 TOP = Path(__file__).resolve().parent.parent.parent
-PROGRAM = os.environ.get("BPFSPEC_EXPLAIN", f"{TOP / 'bpfspec'} explain").split()
+PROGRAM = [sys.executable, str(TOP / "tools" / "explain")]
 LIMIT = 3600  # seconds, as the launcher may have to build the program
 MAIN = "mov64 r1, 100", "ldcode r2, callback", "mov64 r3, 0", "mov64 r4, 0", "call 181", "exit"
 RELAXED = "__atomic_fetch_add(.., __ATOMIC_RELAXED)"

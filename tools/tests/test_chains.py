@@ -1,7 +1,7 @@
 #!/usr/bin/env python3
 """Tries which links `explain` shows of the chain back from a value that breaks a rule, and in which columns.
 
-The program is that of $BPFSPEC_EXPLAIN, else `./bpfspec explain`. Lines that are wanted are as in test_reasons.py.
+The program is that of $BPFSPEC, else `./bpfspec`. Lines that are wanted are as in test_reasons.py.
 """
 
 from __future__ import annotations

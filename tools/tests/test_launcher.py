@@ -20,23 +20,22 @@ LEVELS = "x86-64-v2", "x86-64-v3"
 BUILD = """#!/bin/bash
 [[ $1 == committed ]] && exit 0
 echo "$*" >>"$BUILDS"
-kind=$1 folder=${!#}
-for name in "${@:2:$#-2}"; do
-    room=$folder
-    if [[ $kind == proved ]]; then room=$folder/$name; fi
-    for level in $LEVELS; do
-        mkdir -p "$room/$level"
-        printf '#!/bin/bash\\necho %s for %s: "$@"\\n' "$name" "$level" >"$room/$level/$name"
-        chmod +x "$room/$level/$name"
-    done
-    find crates.txt crates -name '*.rt' >"$room/files"
-    cat "$KIT" >"$room/kit"
-    echo "built $kind" >"$room/how"
+kind=$1 name=$2 folder=$3
+for level in $LEVELS; do
+    mkdir -p "$folder/$level"
+    printf '#!/bin/bash\\necho %s for %s: "$@"\\n' "$name" "$level" >"$folder/$level/$name"
+    chmod +x "$folder/$level/$name"
 done
+find crates.txt crates -name '*.rt' >"$folder/files"
+cat "$KIT" >"$folder/kit"
+echo "built $kind" >"$folder/how"
 """
 MAKE_LIBRARY = """#!/bin/bash
 "$1" archive
 echo "in $2"
+"""
+EXPLAIN = """import os, sys
+print(*sys.argv[1:], "by", os.environ["BPFSPEC"])
 """
 USAGE, BUILD_FAILED = 3, 70
 
@@ -61,6 +60,9 @@ class Launcher(unittest.TestCase):
         self.kit.write_text("kit 1\n")
         self.write_command(self.top / "tools" / "build", f"cd {self.top}\n{BUILD}")
         self.write_command(self.top / "tools" / "make_library", MAKE_LIBRARY)
+        explain = self.top / "tools" / "explain" / "__main__.py"
+        explain.parent.mkdir()
+        explain.write_text(EXPLAIN)
         self.environment = {
             **os.environ,
             "PATH": f"{self.folder / 'words'}:{os.environ['PATH']}",
@@ -96,11 +98,10 @@ class Launcher(unittest.TestCase):
     def test_it_builds_each_program_once_and_after_an_edit(self) -> None:
         self.assertEqual(self.printed("run", "--arg", "1"), "bpfspec for x86-64-v2: run --arg 1\n")
         self.assertEqual(self.printed("run"), "bpfspec for x86-64-v2: run\n")
-        self.assertEqual(self.printed("explain", "--all"), "bpfspec_explain for x86-64-v2: --all\n")
-        self.assertEqual(self.built(), ["unproved bpfspec", "unproved bpfspec_explain"])
+        self.assertEqual(self.built(), ["unproved bpfspec"])
         self.source.write_text("fn main() { 1 }\n")
         self.printed("verify")
-        self.assertEqual(self.built()[2:], ["unproved bpfspec"])
+        self.assertEqual(len(self.built()), 2)
 
     def test_it_builds_anew_with_another_kit(self) -> None:
         self.printed("verify")
@@ -114,7 +115,7 @@ class Launcher(unittest.TestCase):
     def test_what_is_proved_runs_until_a_source_changes(self) -> None:
         self.printed("verify")
         self.printed("prove")
-        self.assertEqual(self.built(), ["unproved bpfspec", "proved bpfspec bpfspec_explain"])
+        self.assertEqual(self.built(), ["unproved bpfspec", "proved bpfspec"])
         self.assertEqual(self.printed("--version").splitlines()[-1], "built proved")
         self.assertIn("proved here already", self.run_it("prove").stderr)
         self.source.write_text("fn main() { 1 }\n")
@@ -142,7 +143,13 @@ class Launcher(unittest.TestCase):
             lines = self.printed(word).splitlines()
             self.assertEqual(lines[0], f"bpfspec for x86-64-v2: {word}")
             self.assertTrue(any(line.startswith("  explain ") for line in lines))
-        self.assertEqual(self.printed("explain", "--help"), "bpfspec_explain for x86-64-v2: --help\n")
+
+    def test_explain_is_a_tool_over_the_program(self) -> None:
+        self.printed("verify")
+        (program,) = self.folder.glob("cache/bpfspec/*/unproved/bpfspec/x86-64-v2/bpfspec")
+        self.assertEqual(self.printed("explain", "--all"), f"--all by {program}\n")
+        self.assertEqual(self.printed("explain", "--help"), f"--help by {program}\n")
+        self.assertEqual(len(self.built()), 1)
 
     def test_it_runs_the_program_for_the_processor_that_is_named(self) -> None:
         self.environment["BPFSPEC_CPU"] = LEVELS[1]

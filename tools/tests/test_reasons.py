@@ -1,19 +1,19 @@
 #!/usr/bin/env python3
 """Tries what `explain` tells of refused programs: the value that breaks the rule, where it comes from, and what helps.
 
-The program is that of $BPFSPEC_EXPLAIN, else `./bpfspec explain`. A line that is wanted may end with `..`: then it is
+The program is that of $BPFSPEC, else `./bpfspec`. A line that is wanted may end with `..`: then it is
 the beginning of the line that is told.
 """
 
 from __future__ import annotations
 
-import os
 import subprocess
+import sys
 import unittest
 from pathlib import Path
 
 TOP = Path(__file__).resolve().parent.parent.parent
-PROGRAM = os.environ.get("BPFSPEC_EXPLAIN", f"{TOP / 'bpfspec'} explain").split()
+PROGRAM = [sys.executable, str(TOP / "tools" / "explain")]
 LIMIT = 3600  # seconds, as the launcher may have to build the program
 MEETING = (
     "  where paths meet, numbers may differ, and places in one map's values; anything else has to be the same, or "

@@ -9,7 +9,7 @@ from pathlib import Path
 
 sys.path.insert(0, str(Path(__file__).resolve().parents[1]))
 
-from faults.rows import FEW_LINES, commands, explanations, few_commands, rows, short_rows  # noqa: E402
+from faults.rows import FEW_LINES, commands, few_commands, rows  # noqa: E402
 
 
 class FewSweeps(unittest.TestCase):
@@ -21,10 +21,6 @@ class FewSweeps(unittest.TestCase):
         self.assertEqual([*FEW_LINES], [row.name for row in rows()])
         for row in rows():
             self.assertEqual(len({*few_commands(row)}), len(few_commands(row)), row.name)
-
-    def test_each_explanation_has_a_turn(self) -> None:
-        pictures_of_loops = 1
-        self.assertGreaterEqual(len(short_rows()), len([*explanations()]) + pictures_of_loops)
 
 
 if __name__ == "__main__":

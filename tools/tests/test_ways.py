@@ -1,7 +1,7 @@
 #!/usr/bin/env python3
 """Compares the way that `explain` tells of each loop with the way that `run --stats` tells that it went.
 
-The programs are those of $BPFSPEC and $BPFSPEC_EXPLAIN, else `./bpfspec` and `./bpfspec explain`.
+The program is that of $BPFSPEC, else `./bpfspec`.
 """
 
 from __future__ import annotations
@@ -9,12 +9,13 @@ from __future__ import annotations
 import os
 import re
 import subprocess
+import sys
 import unittest
 from pathlib import Path
 
 TOP = Path(__file__).resolve().parent.parent.parent
 RUN = os.environ.get("BPFSPEC", str(TOP / "bpfspec")).split()
-EXPLAIN = os.environ.get("BPFSPEC_EXPLAIN", f"{TOP / 'bpfspec'} explain").split()
+EXPLAIN = [sys.executable, str(TOP / "tools" / "explain")]
 LIMIT = 3600  # seconds, as the launcher may have to build the programs
 WENT = re.compile(r"(loop \d+ at \d+): [^,]*, (.*), \S+ ms: (.*)")
 LOOP = re.compile(r"(loop \d+ at \d+): .*")

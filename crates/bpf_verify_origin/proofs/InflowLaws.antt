@@ -1,23 +1,19 @@
 -- Where the edges into each slot come from, as a pass goes on.
 use Rattle.std.proofs.Common.{◌≡◌, ℕ, zero, suc, ◌+◌, ◌<◌, ◌≤◌, Bool, true, false, ◌||◌, List, length, get_or}
 use Rattle.std.proofs.Common.{refl, ap, sym, ◌∙◌, subst, arith, add-one, Option, Some, None, is_some}
-use Rattle.std.specs.Prelude.{nat_eq, nat_lt, replicate, if◌then◌else◌}
+use Rattle.std.specs.Prelude.{nat_eq, nat_lt, replicate}
 use Rattle.std.proofs.lemmas.Bool.Decides.{nat_tests}
 use Rattle.bpf_insn_types.specs.declared.insn.Insn.{Insn}
-use Rattle.bpf_insn_types.specs.declared.insn.Insn.TheVariants.{Ja, Ja32, Jump, Call, Exit}
 use Rattle.bpf_insn_types.specs.Slots.{slots_of}
-use Rattle.bpf_insn_types.specs.Program.{Program, insn_at, moved, slot_count}
+use Rattle.bpf_insn_types.specs.Program.{Program, insn_at, slot_count}
 use Rattle.bpf_insn_types.proofs.ProgramLaws.{slots_some, slots_two}
 use Rattle.bpf_verify_model.specs.declared.state.State.{State}
 use Rattle.bpf_verify_model.specs.declared.outflow.Outflow.{Outflow}
-use Rattle.bpf_verify_model.specs.declared.outflow.BranchStates.{BranchStates}
-use Rattle.bpf_verify_model.specs.States.{known_register}
-use Rattle.bpf_verify_model.specs.Flow.{edge_to, branch_states, known_behind, flow}
-use Rattle.bpf_verify_model.specs.Inflow.{state_before, joined_with, received, received_all}
+use Rattle.bpf_verify_model.specs.Inflow.{state_before, received_all}
 use Rattle.bpf_verify.specs.Passing.{out_of}
 use Rattle.bpf_verify_origin.specs.declared.inflow.Inflow.{Inflow}
 use Rattle.bpf_verify_origin.specs.declared.inflow.Inflow.TheVariants.{Nowhere}
-use Rattle.bpf_verify_origin.specs.Edges.{flow_of, flow_at, with_edges, inflow_from, is_target, may_lead, state_between}
+use Rattle.bpf_verify_origin.specs.Edges.{flow_of, flow_at, with_edges, inflow_from, state_between}
 use Rattle.bpf_verify_origin.specs.Inspected.{AreInflows, is_stop}
 use Rattle.bpf_verify_origin.proofs.FaultLaws.{starts-within}
 
@@ -162,54 +158,11 @@ are-inflows_none program passed table none empty = record {
       ∙ ap (λ (n : ℕ). inflow_from program n slot) (sym none);
 }
 
--- an edge that leads elsewhere
-elsewhere : (to : ℕ) (target : Option ℕ) (state before : Option State) → is_target to target ≡ false
-    → received to before (edge_to target state) ≡ before
-elsewhere to None state before e = refl
-elsewhere to (Some target) None before e = refl
-elsewhere to (Some target) (Some state) before e = ap (λ (b : Bool). if b then joined_with before state else before) e
-
-or-first : (a b : Bool) → (a || b) ≡ false → a ≡ false
-or-first true b e = e
-or-first false b e = refl
-
-or-second : (a b : Bool) → (a || b) ≡ false → b ≡ false
-or-second true b e = cc
-or-second false b e = e
-
-flow-elsewhere : (sizes : List ℕ) (from to : ℕ) (state : State) (insn : Insn) → may_lead from to insn ≡ false
-    → received_all to None (flow sizes from state insn) ≡ None
-unfolding flow
-flow-elsewhere sizes from to state (Ja offset) e = elsewhere to (moved (from + 1) offset) (Some state) None e
-flow-elsewhere sizes from to state (Ja32 imm) e = elsewhere to (moved (from + 1) imm) (Some state) None e
-flow-elsewhere sizes from to state (Jump width compare dst operand offset) e =
-    let ways : BranchStates = branch_states state width compare dst operand (known_register state dst) in
-    ap (λ (before : Option State). received to before (edge_to (moved (from + 1) offset) ways.holds))
-    (elsewhere to (Some (from + 1)) ways.fails None
-    (or-first (is_target to (Some (from + 1))) (is_target to (moved (from + 1) offset)) e))
-    ∙ elsewhere to (moved (from + 1) offset) ways.holds None
-    (or-second (is_target to (Some (from + 1))) (is_target to (moved (from + 1) offset)) e)
-flow-elsewhere sizes from to state Exit e = refl
-flow-elsewhere sizes from to state (Call callee imm) e = cc
-flow-elsewhere sizes from to state insn e =
-    elsewhere to (Some (from + slots_of insn)) (Some (known_behind sizes from state insn)) None e
-
-out-elsewhere : (sizes : List ℕ) (from to : ℕ) (before : Option State) (insn : Insn) → may_lead from to insn ≡ false
-    → received_all to None (out_of sizes from insn before) ≡ None
-out-elsewhere sizes from to None insn e = refl
-out-elsewhere sizes from to (Some state) insn e = flow-elsewhere sizes from to state insn e
-
 -- the abstract state between two slots
 pub between-none : (program : Program) (from to : ℕ) → insn_at program.insns from ≡ None
     → None ≡ state_between program from to
 between-none program from to none =
     sym (ap (λ (i : Option Insn). received_all to None (flow_of program from i (state_before program from))) none)
-
-pub between-elsewhere : (program : Program) (from to : ℕ) (insn : Insn) → insn_at program.insns from ≡ Some insn
-    → may_lead from to insn ≡ false → None ≡ state_between program from to
-between-elsewhere program from to insn here e =
-    sym (ap (λ (i : Option Insn). received_all to None (flow_of program from i (state_before program from))) here
-    ∙ out-elsewhere program.sizes from to (state_before program from) insn e)
 
 pub between-some : (program : Program) (from to : ℕ) (insn : Insn) (before : Option State) (out : Outflow) →
     insn_at program.insns from ≡ Some insn → before ≡ state_before program from

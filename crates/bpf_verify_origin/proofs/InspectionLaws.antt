@@ -1,5 +1,5 @@
 -- What an inspection keeps, of its parts.
-use Rattle.std.proofs.Common.{◌≡◌, ℕ, true, List, [], length, get_or, ap, sym, ◌∙◌, subst, arith, Option, None}
+use Rattle.std.proofs.Common.{◌≡◌, ℕ, ◌≤◌, true, List, [], length, get_or, ap, sym, ◌∙◌, subst, arith, Option, None}
 use Rattle.std.specs.Option.{option_map}
 use Rattle.bpf_insn_types.specs.declared.insn.Insn.{Insn}
 use Rattle.bpf_insn_types.specs.Program.{Program, slot_count}
@@ -11,11 +11,14 @@ use Rattle.bpf_verify_model.proofs.JumpLaws.{program-is}
 use Rattle.bpf_verify.specs.States.{AreStatesBefore}
 use Rattle.bpf_verify_origin.specs.declared.inflow.Inflow.{Inflow}
 use Rattle.bpf_verify_origin.specs.declared.inflow.Inflow.TheVariants.{Nowhere}
+use Rattle.bpf_verify_origin.specs.declared.source.Source.{Source}
 use Rattle.bpf_verify_origin.specs.declared.fault.Fault.{Fault}
 use Rattle.bpf_verify_origin.specs.Edges.{slots_before, passed_slots}
-use Rattle.bpf_verify_origin.specs.Inspected.{broken_rule, IsPassedTo, is_stop, AreInsns, AreInflows, IsInspection}
+use Rattle.bpf_verify_origin.specs.Inspected.{broken_rule, IsPassedTo, is_stop, AreInsns, AreInflows, AreWays}
+use Rattle.bpf_verify_origin.specs.Inspected.{AreSources, IsInspection}
 use Rattle.bpf_verify_origin.proofs.FaultLaws.{passed-fine, passed-stop, passed-up_to, outside-none}
 use Rattle.bpf_verify_origin.proofs.InflowLaws.{all_nowhere, are-inflows_none}
+use Rattle.bpf_verify_origin.proofs.SourceLaws.{inflow-there, are-sources, sources-none}
 
 -- no slot before the last breaks a rule
 pub parts-fine : (program : Program) (sizes : List ℕ) (insns : List Insn) (fault : Option BrokenRule) (count last : ℕ) →
@@ -41,15 +44,16 @@ passed-at program fault count is counted =
 
 -- an inspection of a program within the limits
 pub inspection-is : (program : Program) (sizes : List ℕ) (insns : List Insn) (fault : Option Fault) (count last : ℕ)
-    (by_slot : List (Option Insn)) (states : List (Option State)) (inflows : List Inflow) → sizes ≡ program.sizes
-    → insns ≡ program.insns → FieldsFit program.insns → AreInsns program.insns by_slot
+    (by_slot : List (Option Insn)) (states : List (Option State)) (inflows : List Inflow) (sources : List Source)
+    → sizes ≡ program.sizes → insns ≡ program.insns → FieldsFit program.insns → AreInsns program.insns by_slot
     → option_map broken_rule fault ≡ first_fault program → WithinLimits program count
     → last ≡ slots_before (option_map broken_rule fault) count
     → AreStatesBefore (record { sizes = sizes; insns = insns }) last states
     → AreInflows (record { sizes = sizes; insns = insns }) last inflows → length inflows ≡ count
-    → IsInspection program fault by_slot states inflows
-inspection-is program sizes insns fault count last by_slot states inflows same_sizes same_insns fits found is within at
-    are from size =
+    → ((p : Program) → AreWays p by_slot inflows → AreSources p sources)
+    → IsInspection program fault by_slot states inflows sources
+inspection-is program sizes insns fault count last by_slot states inflows sources same_sizes same_insns fits found is
+    within at are from size sourced =
     let same : record { sizes = sizes; insns = insns } ≡ program = program-is program sizes insns same_sizes same_insns
     in
     let up_to : last ≡ passed_slots program =
@@ -57,6 +61,10 @@ inspection-is program sizes insns fault count last by_slot states inflows same_s
     let here : AreStatesBefore program (passed_slots program) states =
     subst (λ (n : ℕ). AreStatesBefore program n states) up_to
     (subst (λ (p : Program). AreStatesBefore p last states) same are) in
+    let there : AreInflows program (passed_slots program) inflows =
+    subst (λ (n : ℕ). AreInflows program n inflows) up_to
+    (subst (λ (p : Program). AreInflows p last inflows) same from) in
+    let few : length inflows ≤ slot_count program.insns = omega (arith, size, within.counted) in
     record {
       fault_is = is;
       fits = fits;
@@ -64,28 +72,37 @@ inspection-is program sizes insns fault count last by_slot states inflows same_s
       small = omega (arith, here.size, within.counted, within.few);
       within = λ some. subst (WithinLimits program) (sym within.counted) within;
       states_are = λ w. here;
-      inflows_are = subst (λ (n : ℕ). AreInflows program n inflows) up_to
-          (subst (λ (p : Program). AreInflows p last inflows) same from);
-      none_past = omega (arith, size, within.counted);
+      inflows_are = there;
+      none_past = few;
+      sources_are = sourced program (record {
+        insns_are = found;
+        inflows_are = inflow-there program inflows there few;
+      });
     }
 
 -- and of another
 pub inspection-outside : (program : Program) (fault : Option Fault) (by_slot : List (Option Insn))
-    (states : List (Option State)) (inflows : List Inflow) → FieldsFit program.insns → AreInsns program.insns by_slot
-    → option_map broken_rule fault ≡ first_fault program
-    → (WithinLimits program (slot_count program.insns) → ⊥) → states ≡ [] → inflows ≡ []
-    → IsInspection program fault by_slot states inflows
-inspection-outside program fault by_slot states inflows fits found is outside no_states no_inflows = record {
-  fault_is = is;
-  fits = fits;
-  insns_are = found;
-  small = omega (arith, ap length no_states);
-  within = λ some. absurd (omega (arith, ap length no_states, some));
-  states_are = λ within. absurd (outside within);
-  inflows_are = are-inflows_none program (passed_slots program) inflows (outside-none program outside)
-      (λ slot. ap (λ (l : List Inflow). get_or l slot Nowhere) no_inflows ∙ all_nowhere 0 slot);
-  none_past = omega (arith, ap length no_inflows);
-}
+    (states : List (Option State)) (inflows : List Inflow) (sources : List Source) → FieldsFit program.insns
+    → AreInsns program.insns by_slot → option_map broken_rule fault ≡ first_fault program
+    → (WithinLimits program (slot_count program.insns) → ⊥) → states ≡ [] → inflows ≡ [] → sources ≡ []
+    → IsInspection program fault by_slot states inflows sources
+inspection-outside program fault by_slot states inflows sources fits found is outside no_states no_inflows no_sources =
+    let there : AreInflows program (passed_slots program) inflows =
+    are-inflows_none program (passed_slots program) inflows (outside-none program outside)
+    (λ slot. ap (λ (l : List Inflow). get_or l slot Nowhere) no_inflows ∙ all_nowhere 0 slot) in
+    let few : length inflows ≤ slot_count program.insns = omega (arith, ap length no_inflows) in
+    record {
+      fault_is = is;
+      fits = fits;
+      insns_are = found;
+      small = omega (arith, ap length no_states);
+      within = λ some. absurd (omega (arith, ap length no_states, some));
+      states_are = λ within. absurd (outside within);
+      inflows_are = there;
+      none_past = few;
+      sources_are = are-sources program inflows 0 sources (inflow-there program inflows there few)
+          (ap length no_inflows) (sources-none program sources no_sources);
+    }
 
 -- the abstract state before a slot to which the pass comes
 pub state-there : (program : Program) (states : List (Option State)) (slot : ℕ) (found : Option State) →

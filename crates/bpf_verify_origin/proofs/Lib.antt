@@ -7,5 +7,6 @@ pub mod PassedLaws
 pub mod OutcomeForms
 pub mod EdgeLaws
 pub mod RunLaws
+pub mod FlowLaws
 pub mod RunSourceLaws
 pub mod RunStepLaws

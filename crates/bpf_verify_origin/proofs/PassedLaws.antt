@@ -17,7 +17,7 @@ use Rattle.bpf_verify_origin.proofs.FaultLaws.{starts-within, passed-fine, passe
 use Rattle.bpf_verify_origin.proofs.InspectionLaws.{state-there}
 
 -- where n slots break no rule, fewer break none
-fine-earlier : (program : Program) (slot n : ℕ) → fault_within program n ≡ None → slot ≤ n
+pub fine-earlier : (program : Program) (slot n : ℕ) → fault_within program n ≡ None → slot ≤ n
     → fault_within program slot ≡ None
 fine-earlier program slot n fine earlier = by_found program slot n fine earlier (fault_within program slot) refl
   where

@@ -21,14 +21,15 @@ use Rattle.bpf_verify_origin.specs.declared.source.Source.{Source}
 use Rattle.bpf_verify_origin.specs.declared.source.Source.TheVariants.{Start, Written, Entered}
 use Rattle.bpf_verify_origin.specs.Edges.{inflow}
 use Rattle.bpf_verify_origin.specs.Sources.{writes_register, is_call, source_by_insn, or_earlier, source_by_inflow}
-use Rattle.bpf_verify_origin.specs.Sources.{source_within, source_before, source_along}
+use Rattle.bpf_verify_origin.specs.Sources.{source_back, source_among, source_before}
 use Rattle.bpf_verify_origin.specs.Runs.{GoesOnTo, Enters, ComesTo}
 use Rattle.bpf_verify_origin.specs.RunSources.{writes_if_any, ComesFrom}
-use Rattle.bpf_verify_origin.specs.RunSources.{IsSourceBefore, IsSourceAlong, SourcesHold, EachSourceHolds}
+use Rattle.bpf_verify_origin.specs.RunSources.{IsSourceBefore, SourcesHold, EachSourceHolds}
 use Rattle.bpf_verify_origin.proofs.FaultLaws.{starts-within}
 use Rattle.bpf_verify_origin.proofs.OutcomeForms.{outcome-goes, outcome-enters, within-goes, within-enters}
 use Rattle.bpf_verify_origin.proofs.OutcomeForms.{Behind, CallsLoop, insn_step-does}
 use Rattle.bpf_verify_origin.proofs.EdgeLaws.{Includes, inflow-includes}
+use Rattle.bpf_verify_origin.proofs.SourceLaws.{among-suc}
 use Rattle.bpf_verify_origin.proofs.RunLaws.{Flows, LastStep, goes-by, last-step}
 
 -- the step at an instruction
@@ -177,67 +178,70 @@ first-slot program m comes =
 later-slot : (slot from : ℕ) → from < slot → (slot == 0) ≡ false
 later-slot slot from later = grind (arith, nat_tests)
 
-pub within-holds : ResultsFit → (program : Program) → AreInsns program.insns → (edges reg : ℕ) (passed : List Machine)
-    (m : Machine) → ComesTo program passed m → m.slot < edges
-    → ComesFrom program (source_within edges program m.slot reg) reg passed m
-unfolding source_within
-within-holds fit program fits zero reg passed m comes near = absurd (omega arith)
-within-holds fit program fits (suc edges) reg [] m comes near =
-    subst (λ (first : Bool). ComesFrom program (if first then Start
-    else source_by_inflow program m.slot reg (inflow program m.slot) (λ from. source_within edges program from reg)) reg
-    [] m) (sym (first-slot program m comes)) tt
-within-holds fit program fits (suc edges) reg (before ∷ earlier) m comes near =
-    let last : LastStep program before m = last-step fit program fits before earlier m comes in
-    let later : before.slot < m.slot = last.stepped.later in
+-- by the last slot of the first n
+abbrev source_last : Program → (count slot reg : ℕ) → Source
+source_last program count slot reg = source_back program slot reg (λ from. source_among program count from reg)
+
+last-holds : ResultsFit → (program : Program) → AreInsns program.insns → (count reg : ℕ) (passed : List Machine)
+    (m : Machine) → ComesTo program passed m → m.slot ≡ count
+    → ((earlier : List Machine) (before : Machine) → ComesTo program earlier before → before.slot < count
+    → ComesFrom program (source_among program count before.slot reg) reg earlier before)
+    → ComesFrom program (source_last program count m.slot reg) reg passed m
+last-holds fit program fits count reg [] m comes last go =
+    subst (λ (first : Bool). ComesFrom program (if first then Start else source_by_inflow m.slot reg
+    (insn_at program.insns) (λ from. source_among program count from reg) (inflow program m.slot)) reg [] m)
+    (sym (first-slot program m comes)) tt
+last-holds fit program fits count reg (before ∷ earlier) m comes last go =
+    let step : LastStep program before m = last-step fit program fits before earlier m comes in
+    let later : before.slot < m.slot = step.stepped.later in
     let among : Includes before.slot (inflow program m.slot) =
     inflow-includes program before.slot m comes.early.0
-    (starts-within program.insns m.slot last.stepped.known.contained.stands) last.stepped.flows in
-    subst (λ (first : Bool). ComesFrom program (if first then Start
-    else source_by_inflow program m.slot reg (inflow program m.slot) (λ from. source_within edges program from reg)) reg
+    (starts-within program.insns m.slot step.stepped.known.contained.stands) step.stepped.flows in
+    subst (λ (first : Bool). ComesFrom program (if first then Start else source_by_inflow m.slot reg
+    (insn_at program.insns) (λ from. source_among program count from reg) (inflow program m.slot)) reg
     (before ∷ earlier) m) (sym (later-slot m.slot before.slot later))
-    (by_inflow program edges reg before earlier m last comes (inflow program m.slot) among
-    (within-holds fit program fits edges reg earlier before (shorter program before earlier m comes) (omega arith)))
+    (by_inflow step (inflow program m.slot) among
+    (go earlier before (shorter program before earlier m comes) (omega (arith, later, last))))
   where
-    by_inflow : (program : Program) (edges reg : ℕ) (before : Machine) (earlier : List Machine) (m : Machine)
-        → LastStep program before m → ComesTo program (before ∷ earlier) m → (into : Inflow)
-        → Includes before.slot into
-        → ComesFrom program (source_within edges program before.slot reg) reg earlier before
-        → ComesFrom program (source_by_inflow program m.slot reg into (λ from. source_within edges program from reg))
-        reg (before ∷ earlier) m
-    by_inflow program edges reg before earlier m last comes Nowhere among holds = absurd among
-    by_inflow program edges reg before earlier m last comes (One from) among holds =
+    by_inflow : LastStep program before m → (into : Inflow) → Includes before.slot into
+        → ComesFrom program (source_among program count before.slot reg) reg earlier before
+        → ComesFrom program (source_by_inflow m.slot reg (insn_at program.insns)
+        (λ from. source_among program count from reg) into) reg (before ∷ earlier) m
+    by_inflow step Nowhere among holds = absurd among
+    by_inflow step (One from) among holds =
         subst (λ (k : ℕ). ComesFrom program (source_by_insn k m.slot reg (insn_at program.insns k)
-        (source_within edges program k reg)) reg (before ∷ earlier) m) (sym among)
-        (step-holds program before earlier m reg (source_within edges program before.slot reg) last.here
-        last.known.sound last.stepped.known.sound comes.run.0 holds)
-    by_inflow program edges reg before earlier m last comes Several among holds = inl refl
+        (source_among program count k reg)) reg (before ∷ earlier) m) (sym among)
+        (step-holds program before earlier m reg (source_among program count before.slot reg) step.here
+        step.known.sound step.stepped.known.sound comes.run.0 holds)
+    by_inflow step Several among holds = inl refl
 
-along-holds : ResultsFit → (program : Program) → AreInsns program.insns → (from to reg : ℕ)
-    → IsSourceAlong program from to reg (source_along program from to reg)
-along-holds fit program fits from to reg before earlier m comes at_from at_to =
-    let last : LastStep program before m = last-step fit program fits before earlier m comes in
-    subst (λ (slot : ℕ). ComesFrom program (source_along program from slot reg) reg (before ∷ earlier) m) at_to
-    (subst (λ (slot : ℕ). ComesFrom program (source_along program slot m.slot reg) reg (before ∷ earlier) m) at_from
-    (step-holds program before earlier m reg (source_before program before.slot reg) last.here
-    last.known.sound last.stepped.known.sound comes.run.0
-    (within-holds fit program fits (before.slot + 1) reg earlier before (shorter program before earlier m comes)
-    (omega arith))))
+pub among-holds : ResultsFit → (program : Program) → AreInsns program.insns → (count reg : ℕ) (passed : List Machine)
+    (m : Machine) → ComesTo program passed m → m.slot < count
+    → ComesFrom program (source_among program count m.slot reg) reg passed m
+among-holds fit program fits zero reg passed m comes near = absurd (omega arith)
+among-holds fit program fits (suc count) reg passed m comes near =
+    subst (λ (source : Source). ComesFrom program source reg passed m) (sym (among-suc program count m.slot reg))
+    (by_place (m.slot == count) refl near (among-holds fit program fits count reg))
+  where
+    by_place : (last : Bool) → (m.slot == count) ≡ last → m.slot < suc count
+        → ((earlier : List Machine) (before : Machine) → ComesTo program earlier before → before.slot < count
+        → ComesFrom program (source_among program count before.slot reg) reg earlier before)
+        → ComesFrom program (if last then source_last program count m.slot reg
+        else source_among program count m.slot reg) reg passed m
+    by_place true e near go = last-holds fit program fits count reg passed m comes (grind (arith, nat_tests)) go
+    by_place false e near go =
+        let early : m.slot < count = grind (arith, nat_tests) in
+        go passed m comes early
 
 pub sources-hold : ResultsFit → EachSourceHolds
 sources-hold fit program fits = record {
   before = λ slot reg passed m comes at.
       subst (λ (k : ℕ). ComesFrom program (source_before program k reg) reg passed m) at
-      (within-holds fit program fits (m.slot + 1) reg passed m comes (omega arith));
-  along = along-holds fit program fits;
+      (among-holds fit program fits (m.slot + 1) reg passed m comes (omega arith));
 }
 
--- what is told of a register before a slot, and on the edges between two
+-- what is told of a register before a slot
 pub source-holds : (program : Program) (slot reg : ℕ) (found : Source) → SourcesHold program
     → found ≡ source_before program slot reg → IsSourceBefore program slot reg found
 source-holds program slot reg found hold is =
     subst (IsSourceBefore program slot reg) (sym is) (hold.before slot reg)
-
-pub source-holds_along : (program : Program) (from to reg : ℕ) (found : Source) → SourcesHold program
-    → found ≡ source_along program from to reg → IsSourceAlong program from to reg found
-source-holds_along program from to reg found hold is =
-    subst (IsSourceAlong program from to reg) (sym is) (hold.along from to reg)

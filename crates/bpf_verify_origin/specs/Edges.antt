@@ -1,10 +1,8 @@
 -- The edges between the slots of a program, up to its first fault.
-use Rattle.std.specs.Prelude.{ℕ, ℤ, zero, suc, ◌+◌, ◌==◌, ◌||◌, nat_lt, Bool, true, false, if◌then◌else◌}
+use Rattle.std.specs.Prelude.{ℕ, zero, suc, ◌==◌, nat_lt, Bool, true, false, if◌then◌else◌}
 use Rattle.std.specs.Prelude.{Option, Some, None}
 use Rattle.bpf_insn_types.specs.declared.insn.Insn.{Insn}
-use Rattle.bpf_insn_types.specs.declared.insn.Insn.TheVariants.{Ja, Ja32, Jump, Call, Exit}
-use Rattle.bpf_insn_types.specs.Slots.{slots_of}
-use Rattle.bpf_insn_types.specs.Program.{Program, insn_at, moved, slot_count}
+use Rattle.bpf_insn_types.specs.Program.{Program, insn_at, slot_count}
 use Rattle.bpf_verify_model.specs.declared.state.State.{State}
 use Rattle.bpf_verify_model.specs.declared.outflow.Edge.{Edge}
 use Rattle.bpf_verify_model.specs.declared.outflow.Outflow.{Outflow}
@@ -52,29 +50,14 @@ slots_before (Some fault) count = fault.slot
 abbrev pub passed_slots : Program → ℕ
 passed_slots program = slots_before (first_fault program) (slot_count program.insns)
 
+-- what flows from a slot before the first fault
+abbrev pub flow_passed : Program → ℕ → Outflow
+flow_passed program slot = if nat_lt slot (passed_slots program) then flow_at program slot else no_edges
+
 -- where the edges into a slot come from, of those out of the slots before the first fault
 abbrev pub inflow : Program → ℕ → Inflow
 inflow program slot = if nat_lt slot (slot_count program.insns) then inflow_from program (passed_slots program) slot
     else Nowhere
-
--- whether the slot to which an edge may lead is this one
-abbrev pub is_target : ℕ → Option ℕ → Bool
-is_target slot None = false
-is_target slot (Some target) = target == slot
-
--- whether a comparison's edges may lead to a slot: to the next, and by the offset
-abbrev pub branch_may_lead : (from to : ℕ) → ℤ → Bool
-branch_may_lead from to offset = is_target to (Some (from + 1)) || is_target to (moved (from + 1) offset)
-
--- whether an edge out of an instruction at a slot may lead to another, by the instruction alone: a call's may lead to
--- any
-abbrev pub may_lead : (from to : ℕ) → Insn → Bool
-may_lead from to (Ja offset) = is_target to (moved (from + 1) offset)
-may_lead from to (Ja32 imm) = is_target to (moved (from + 1) imm)
-may_lead from to (Jump width compare dst operand offset) = branch_may_lead from to offset
-may_lead from to Exit = false
-may_lead from to (Call callee imm) = true
-may_lead from to insn = is_target to (Some (from + slots_of insn))
 
 -- the abstract state on the edges from one slot to another: the join of both, where both lead there
 abbrev pub state_between : Program → (from to : ℕ) → Option State

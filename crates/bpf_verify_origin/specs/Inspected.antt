@@ -1,5 +1,5 @@
 -- What an inspection of a program has.
-use Rattle.std.specs.Prelude.{◌≡◌, ℕ, ◌<◌, ◌≤◌, ◌==◌, ◌||◌, Bool, true, List, [], ◌∷◌, length}
+use Rattle.std.specs.Prelude.{◌≡◌, ℕ, ◌+◌, ◌*◌, ◌<◌, ◌≤◌, ◌==◌, ◌||◌, Bool, true, false, List, [], ◌∷◌, length}
 use Rattle.std.specs.Prelude.{slice_index_or, Option, Some, None, is_some, nat_le}
 use Rattle.std.specs.Option.{option_map}
 use Rattle.bpf_insn_types.specs.declared.insn.Insn.{Insn}
@@ -13,7 +13,10 @@ use Rattle.bpf_verify.specs.States.{AreStatesBefore}
 use Rattle.bpf_verify_origin.specs.declared.inflow.Inflow.{Inflow}
 use Rattle.bpf_verify_origin.specs.declared.inflow.Inflow.TheVariants.{Nowhere}
 use Rattle.bpf_verify_origin.specs.declared.fault.Fault.{Fault}
-use Rattle.bpf_verify_origin.specs.Edges.{inflow_from, passed_slots, state_between}
+use Rattle.bpf_verify_origin.specs.declared.source.Source.{Source}
+use Rattle.bpf_verify_origin.specs.declared.source.Source.TheVariants.{Start}
+use Rattle.bpf_verify_origin.specs.Edges.{inflow, inflow_from, passed_slots, state_between}
+use Rattle.bpf_verify_origin.specs.Sources.{source_before}
 
 -- a fault as a broken rule at a slot
 abbrev pub broken_rule : Fault → BrokenRule
@@ -30,6 +33,11 @@ pub record IsPassedTo (program : Program) (slot : ℕ) : Type 0 where
 abbrev pub is_up_to : Option BrokenRule → ℕ → Bool
 is_up_to None slot = true
 is_up_to (Some fault) slot = nat_le slot fault.slot
+
+-- whether a slot is a fault's, if there is one, or past it
+abbrev pub is_past : Option BrokenRule → ℕ → Bool
+is_past None slot = false
+is_past (Some fault) slot = nat_le fault.slot slot
 
 -- the abstract state before a slot to which the pass comes
 pub record IsStateBefore (program : Program) (slot : ℕ) (state : State) : Type 0 where
@@ -59,10 +67,19 @@ insn_slots insn = Some insn ∷ []
 pub record AreInsns (insns : List Insn) (table : List (Option Insn)) : Type 0 where
   pub at : (slot : ℕ) → slice_index_or table slot None ≡ insn_at insns slot
 
+-- tables have at each slot the instruction that starts there, and where the edges into it come from
+pub record AreWays (program : Program) (by_slot : List (Option Insn)) (inflows : List Inflow) : Type 0 where
+  pub insns_are : AreInsns program.insns by_slot
+  pub inflows_are : (slot : ℕ) → slice_index_or inflows slot Nowhere ≡ inflow program slot
+
+-- a table has for each slot and each of the 11 registers where its value there comes from
+pub record AreSources (program : Program) (sources : List Source) : Type 0 where
+  pub at : (slot reg : ℕ) → reg < 11 → slice_index_or sources (slot * 11 + reg) Start ≡ source_before program slot reg
+
 -- what an inspection keeps: the first fault, the instructions by their slots, the abstract states before the slots up to
--- the fault, and where edges come from; the instructions' fields fit
+-- the fault, where edges come from, and the sources of values; the instructions' fields fit
 pub record IsInspection (program : Program) (fault : Option Fault) (by_slot : List (Option Insn))
-    (states : List (Option State)) (inflows : List Inflow) : Type 0 where
+    (states : List (Option State)) (inflows : List Inflow) (sources : List Source) : Type 0 where
   pub fault_is : option_map broken_rule fault ≡ first_fault program
   pub fits : FieldsFit program.insns
   pub insns_are : AreInsns program.insns by_slot
@@ -72,3 +89,4 @@ pub record IsInspection (program : Program) (fault : Option Fault) (by_slot : Li
       states
   pub inflows_are : AreInflows program (passed_slots program) inflows
   pub none_past : length inflows ≤ slot_count program.insns
+  pub sources_are : AreSources program sources

@@ -7,7 +7,7 @@ use Rattle.bpf_step_model.specs.State.{Machine, register}
 use Rattle.bpf_step_model.specs.Step.{step}
 use Rattle.bpf_verify_origin.specs.declared.source.Source.{Source}
 use Rattle.bpf_verify_origin.specs.declared.source.Source.TheVariants.{Start, Written, Entered, Meeting}
-use Rattle.bpf_verify_origin.specs.Sources.{writes_register, source_before, source_along}
+use Rattle.bpf_verify_origin.specs.Sources.{writes_register, source_before}
 use Rattle.bpf_verify_origin.specs.Runs.{GoesOnTo, Enters, ComesTo}
 
 -- whether the instruction at a slot, if one starts there, writes a register
@@ -54,16 +54,9 @@ abbrev pub IsSourceBefore : Program → (slot reg : ℕ) → Source → Type 0
 IsSourceBefore program slot reg source = (passed : List Machine) (m : Machine) → ComesTo program passed m
     → m.slot ≡ slot → ComesFrom program source reg passed m
 
--- the same of one that is told of the edges from one slot to another, where the run comes from there
-abbrev pub IsSourceAlong : Program → (from to reg : ℕ) → Source → Type 0
-IsSourceAlong program from to reg source = (before : Machine) (earlier : List Machine) (m : Machine)
-    → ComesTo program (before ∷ earlier) m → before.slot ≡ from → m.slot ≡ to
-    → ComesFrom program source reg (before ∷ earlier) m
-
 -- what is told of where the values of a program's registers come from holds on its runs
 pub record SourcesHold (program : Program) : Type 0 where
   pub before : (slot reg : ℕ) → IsSourceBefore program slot reg (source_before program slot reg)
-  pub along : (from to reg : ℕ) → IsSourceAlong program from to reg (source_along program from to reg)
 
 -- the law of sources, of programs that are refused too
 abbrev pub EachSourceHolds : Type 0

@@ -11,8 +11,6 @@ use Rattle.bpf_verify_origin.specs.declared.inflow.Inflow.{Inflow}
 use Rattle.bpf_verify_origin.specs.declared.inflow.Inflow.TheVariants.{Nowhere, One, Several}
 use Rattle.bpf_verify_origin.specs.declared.source.Source.{Source}
 use Rattle.bpf_verify_origin.specs.declared.source.Source.TheVariants.{Start, Written, Entered, Meeting}
-use Rattle.bpf_verify_origin.specs.declared.step.Step.{Step}
-use Rattle.bpf_verify_origin.specs.declared.step.Step.TheVariants.{Found, Back}
 use Rattle.bpf_verify_origin.specs.Edges.{inflow}
 
 -- an atomic operation that fetches or exchanges writes its source register, and one that compares R0
@@ -57,35 +55,28 @@ abbrev pub source_by_insn : (from slot reg : ℕ) → Option Insn → Source →
 source_by_insn from slot reg None earlier = Start
 source_by_insn from slot reg (Some insn) earlier = or_earlier (source_through insn from slot reg) earlier
 
--- the source by the edges into a slot
-abbrev pub source_by_inflow : Program → (slot reg : ℕ) → Inflow → (ℕ → Source) → Source
-source_by_inflow program slot reg Nowhere earlier = Start
-source_by_inflow program slot reg (One from) earlier =
-    source_by_insn from slot reg (insn_at program.insns from) (earlier from)
-source_by_inflow program slot reg Several earlier = Meeting slot
+-- the source by the edges into a slot, of the instructions at slots; earlier has the sources before other slots
+abbrev pub source_by_inflow : (slot reg : ℕ) → (ℕ → Option Insn) → (earlier : ℕ → Source) → Inflow → Source
+source_by_inflow slot reg insns earlier Nowhere = Start
+source_by_inflow slot reg insns earlier (One from) = source_by_insn from slot reg (insns from) (earlier from)
+source_by_inflow slot reg insns earlier Several = Meeting slot
 
--- the source, one edge back: main starts at slot 0
-abbrev pub source_back : Program → (slot reg : ℕ) → (ℕ → Source) → Source
-source_back program slot reg earlier =
-    if slot == 0 then Start else source_by_inflow program slot reg (inflow program slot) earlier
+-- the same also of slot 0, where main starts
+abbrev pub source_into : (slot reg : ℕ) → (ℕ → Option Insn) → (earlier : ℕ → Source) → Inflow → Source
+source_into slot reg insns earlier inflow =
+    if slot == 0 then Start else source_by_inflow slot reg insns earlier inflow
 
--- what one step back along the one edge into a slot finds: a source, or the slot from which that edge leads
-abbrev pub taken : Step → (ℕ → Source) → Source
-taken (Found source) earlier = source
-taken (Back from) earlier = earlier from
+-- the source before a slot of a program, by those before other slots
+abbrev pub source_back : Program → (slot reg : ℕ) → (earlier : ℕ → Source) → Source
+source_back program slot reg earlier = source_into slot reg (insn_at program.insns) earlier (inflow program slot)
 
--- the source, at most n edges back
-unfoldable pub source_within : ℕ → Program → (slot reg : ℕ) → Source
-source_within zero program slot reg = Start
-source_within (suc edges) program slot reg =
-    source_back program slot reg (λ from. source_within edges program from reg)
+-- the source before a slot among the first n: edges lead from earlier slots to later ones
+unfoldable pub source_among : Program → (count slot reg : ℕ) → Source
+source_among program zero slot reg = Start
+source_among program (suc count) slot reg =
+    if slot == count then source_back program slot reg (λ from. source_among program count from reg)
+    else source_among program count slot reg
 
--- where the value of a register before a slot comes from: edges lead from earlier slots to later ones, so that there
--- are fewer edges back than slots
+-- where the value of a register before a slot comes from
 abbrev pub source_before : Program → (slot reg : ℕ) → Source
-source_before program slot reg = source_within (slot + 1) program slot reg
-
--- the same of what the edges from one slot to another have
-abbrev pub source_along : Program → (from to reg : ℕ) → Source
-source_along program from to reg =
-    source_by_insn from to reg (insn_at program.insns from) (source_before program from reg)
+source_before program slot reg = source_among program (slot + 1) slot reg

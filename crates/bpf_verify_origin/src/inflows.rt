@@ -21,6 +21,16 @@ fn add_inflow(table: &mut Vec<Inflow>, inflow: Inflow) -> Result<(), AllocError>
     table.extend_from_slice(&[inflow])
 }
 
+/// Where the edges into a slot come from, of those into all slots.
+pub(crate) fn inflow_in(table: &[Inflow], slot: u32) -> Inflow
+    ensures { result ≡ slice_index_or table.now slot Nowhere }
+{
+    match table.get(slot as usize) {
+        None => Inflow::Nowhere,
+        Some(inflow) => *inflow,
+    }
+}
+
 /// No edge leads to any slot.
 fn no_inflows(alloc: Global, count: u32) -> Result<Vec<Inflow>, AllocError>
     ensures { IfOk result (λ table. table.items ≡ replicate count Nowhere) }

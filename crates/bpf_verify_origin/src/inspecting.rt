@@ -12,6 +12,7 @@ use crate::fields::insns_fit;
 use crate::finding::insns_by_slot;
 use crate::inflows::inflows;
 use crate::inspection::Inspection;
+use crate::sourcing::sources;
 use bpf_insn_types::{Insn, Unit, elements_of, slot_count};
 use bpf_verify::{VerifyError, states_before, verify};
 use std::alloc::{AllocError, Global};
@@ -32,8 +33,8 @@ fn slots_within(unit: &Unit) -> Option<u32>
     }
 }
 
-/// The same unit once more.
-fn copied(alloc: Global, unit: &Unit) -> Result<Unit, AllocError>
+/// A copy of a unit. Memory may run out.
+pub fn copied(alloc: Global, unit: &Unit) -> Result<Unit, AllocError>
     ensures { IfOk result (λ copy. copy ≡ unit.now) }
 {
     let mut sizes: Vec<u32> = Vec::new(alloc);
@@ -67,6 +68,7 @@ fn with_fault(alloc: Global, unit: Unit, fault: Option<Fault>) -> Result<Inspect
             by_slot,
             states: Vec::new(alloc),
             inflows: Vec::new(alloc),
+            sources: Vec::new(alloc),
         });
     };
     let last = last_slot(fault, count);
@@ -75,12 +77,14 @@ fn with_fault(alloc: Global, unit: Unit, fault: Option<Fault>) -> Result<Inspect
         Err(_) => return Err(AllocError),
     };
     let inflows = inflows(alloc, &unit.sizes, &unit.insns, &states, count, last)?;
+    let sources = sources(alloc, &by_slot, &inflows, count)?;
     Ok(Inspection {
         unit,
         fault,
         by_slot,
         states,
         inflows,
+        sources,
     })
 }
 

@@ -1,28 +1,28 @@
 //! An inspected program.
 
-ghost use Rattle.std.specs.Prelude.{◌≡◌, ℕ, IfSome};
+ghost use Rattle.std.specs.Prelude.{◌≡◌, ℕ, IfSome, None};
 ghost use Rattle.std.specs.Option.{option_map};
 ghost use Rattle.bpf_insn_types.specs.Program.{insn_at};
 ghost use Rattle.bpf_insn_types.specs.Values.{AreInsns};
-ghost use Rattle.bpf_verify_model.specs.Inflow.{state_before};
+ghost use Rattle.bpf_verify_model.specs.Inflow.{received_all, state_before};
 ghost use Rattle.bpf_verify_model.specs.Accepted.{first_fault};
-ghost use Rattle.bpf_verify_origin.specs.declared.source.Source.{Source};
-ghost use Rattle.bpf_verify_origin.specs.Edges.{inflow, state_between};
+ghost use Rattle.bpf_verify_origin.specs.Edges.{flow_passed, inflow, state_between};
 ghost use Rattle.bpf_verify_origin.specs.Runs.{HoldsBefore, HoldsBetween, StatesHold};
-ghost use Rattle.bpf_verify_origin.specs.RunSources.{IsSourceBefore, IsSourceAlong, SourcesHold};
-ghost use Rattle.bpf_verify_origin.specs.Inspected.{broken_rule, is_up_to, IsPassedTo, IsStateBefore, IsStateBetween};
-ghost use Rattle.bpf_verify_origin.specs.Sources.{source_by_insn, source_back, source_along, source_before, taken};
+ghost use Rattle.bpf_verify_origin.specs.RunSources.{IsSourceBefore, SourcesHold};
+ghost use Rattle.bpf_verify_origin.specs.Inspected.{broken_rule, is_past, is_up_to};
+ghost use Rattle.bpf_verify_origin.specs.Inspected.{IsPassedTo, IsStateBefore, IsStateBetween};
+ghost use Rattle.bpf_verify_origin.specs.Sources.{source_before};
 
 use crate::fault::Fault;
 use crate::finding::insn_in;
 use crate::inflow::Inflow;
+use crate::inflows::inflow_in;
 use crate::laws::{law_of_sources, law_of_states};
-use crate::outflow::{may_lead, outflow, state_in, state_to};
+use crate::outflow::{no_outflow, outflow, state_in, state_to};
 use crate::source::Source;
-use crate::step::Step;
-use crate::writing::source_at;
+use crate::sourcing::source_in;
 use bpf_insn_types::{Insn, Reg, Unit};
-use bpf_verify_model::State;
+use bpf_verify_model::{Outflow, State};
 use std::marker::Model;
 
 /// A unit with its first fault, and what is known of it up to there. In contracts it is the unit's program.
@@ -33,6 +33,7 @@ pub struct Inspection {
     pub(crate) by_slot: Vec<Option<Insn>>,
     pub(crate) states: Vec<Option<State>>,
     pub(crate) inflows: Vec<Inflow>,
+    pub(crate) sources: Vec<Source>,
 }
 
 impl Model for Inspection {
@@ -43,7 +44,8 @@ impl Model for Inspection {
 
     ghost view = { λ i. i.unit };
 
-    ghost invariant = { λ i. IsInspection i.unit i.fault i.by_slot.items i.states.items i.inflows.items };
+    ghost invariant = { λ i. IsInspection i.unit i.fault i.by_slot.items i.states.items i.inflows.items
+        i.sources.items };
 }
 
 /// Whether a slot is one up to a fault, if there is one.
@@ -53,6 +55,16 @@ fn is_up_to(fault: Option<Fault>, slot: u32) -> bool
     match fault {
         None => true,
         Some(fault) => slot <= fault.slot,
+    }
+}
+
+/// Whether a slot is a fault's, if there is one, or past it.
+fn is_past(fault: Option<Fault>, slot: u32) -> bool
+    ensures { result ≡ is_past (option_map broken_rule fault) slot }
+{
+    match fault {
+        None => false,
+        Some(fault) => fault.slot <= slot,
     }
 }
 
@@ -139,63 +151,33 @@ impl Inspection {
         let Some(insn) = self.insn(from) else {
             return None;
         };
-        if !may_lead(from, to, &insn) {
-            return None;
-        }
         let before = self.state(from);
         let out = outflow(self.sizes(), from, &before, insn);
         state_to(to, &out)
     }
 
-    /// Where the edges into a slot come from.
-    fn inflow(&self, slot: u32) -> Inflow
+    /// The edges out of a slot before the first fault, with the abstract states on them; no edges where no instruction
+    /// starts there, from the first fault on, and where the slot isn't reached. A run that comes to another slot
+    /// from there is within the abstract state on the edges to that one.
+    pub fn flow(&self, slot: u32) -> Outflow
+        ensures is { result ≡ flow_passed self.now slot }
+        ensures runs { (to : ℕ) → HoldsBetween self.now slot to (received_all to None result) }
+    {
+        self.states_hold();
+        let Some(insn) = self.insn(slot) else {
+            return no_outflow();
+        };
+        if is_past(self.fault, slot) {
+            return no_outflow();
+        }
+        outflow(self.sizes(), slot, &self.state(slot), insn)
+    }
+
+    /// Where the edges into a slot come from, of those out of the slots before the first fault.
+    pub fn inflow(&self, slot: u32) -> Inflow
         ensures { result ≡ inflow self.now slot }
     {
-        match self.inflows.get(slot as usize) {
-            None => Inflow::Nowhere,
-            Some(inflow) => *inflow,
-        }
-    }
-
-    /// One step back from a slot to that from which all edges lead there.
-    fn back_to(&self, from: u32, slot: u32, reg: Reg) -> Step
-        ensures { (earlier : ℕ → Source) → source_by_insn from slot reg (insn_at self.now.insns from) (earlier from)
-            ≡ taken result earlier }
-    {
-        let Some(insn) = self.insn(from) else {
-            return Step::Found(Source::Start);
-        };
-        match source_at(&insn, from, slot, reg) {
-            Some(source) => Step::Found(source),
-            None => Step::Back(from),
-        }
-    }
-
-    /// One step back from a slot.
-    fn back(&self, slot: u32, reg: Reg) -> Step
-        ensures { (earlier : ℕ → Source) → source_back self.now slot reg earlier ≡ taken result earlier }
-    {
-        if slot == 0 {
-            return Step::Found(Source::Start);
-        }
-        match self.inflow(slot) {
-            Inflow::Nowhere => Step::Found(Source::Start),
-            Inflow::One(from) => self.back_to(from, slot, reg),
-            Inflow::Several => Step::Found(Source::Meeting(slot)),
-        }
-    }
-
-    /// Where the value of a register comes from that the edges from one slot to another have, also on each run
-    /// that comes by them.
-    pub fn source_along(&self, from: u32, to: u32, reg: Reg) -> Source
-        ensures is { result ≡ source_along self.now from to reg }
-        ensures runs { IsSourceAlong self.now from to reg result }
-    {
-        self.sources_hold();
-        match self.back_to(from, to, reg) {
-            Step::Found(source) => source,
-            Step::Back(from) => self.source(from, reg),
-        }
+        inflow_in(self.inflows.as_slice(), slot)
     }
 
     /// Where the value of a register before a slot comes from, also on each run that comes there.
@@ -204,15 +186,6 @@ impl Inspection {
         ensures runs { IsSourceBefore self.now slot reg result }
     {
         self.sources_hold();
-        let mut at = slot;
-        let mut left = u64::from(slot) + 1;
-        while left > 0 {
-            match self.back(at, reg) {
-                Step::Found(source) => return source,
-                Step::Back(from) => at = from,
-            }
-            left -= 1;
-        }
-        Source::Start
+        source_in(self.sources.as_slice(), slot, reg)
     }
 }

@@ -6,6 +6,8 @@
 //! let inspection = inspect(alloc, unit)?;
 //! let fault = inspection.fault();                   // Some(Fault { rule: Rule::AccessBounds, slot: 33 })
 //! let state = inspection.state(33);                 // what is known before slot 33
+//! let out = inspection.flow(33);                     // its edges: to slot 34, and none aside
+//! let inflow = inspection.inflow(33);               // Inflow::One(32): all edges into it come from there
 //! let source = inspection.source(33, reg(1));       // Source::Written(32): the instruction there wrote r1
 //! ```
 #![tactic(auto)]
@@ -20,11 +22,13 @@ mod inspection;
 mod laws;
 mod outflow;
 mod source;
-mod step;
+mod sourcing;
 mod writing;
 
 pub use fault::Fault;
-pub use inspecting::inspect;
+pub use inflow::Inflow;
+pub use inspecting::{copied, inspect};
 pub use inspection::Inspection;
 pub use laws::{law_of_run_steps, law_of_sources, law_of_states};
+pub use outflow::state_to;
 pub use source::Source;

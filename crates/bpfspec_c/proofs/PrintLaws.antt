@@ -3,25 +3,26 @@ use Rattle.std.proofs.Common.{◌≡◌, ℕ, ℤ, ◌<◌, ◌≤◌, Bool, tru
 use Rattle.std.proofs.Common.{sym, subst, arith}
 use Rattle.std.specs.Prelude.{nat_le}
 use Rattle.std.proofs.lemmas.Bool.Decides.{nat_tests}
+use Rattle.std.specs.String.{string_bytes}
+use Rattle.bpfspec_serve.specs.declared.serving.Answer.{Answer as AnswerGiven}
+use Rattle.bpfspec_serve.specs.Answering.{answer_of}
 use Rattle.bpfspec_serve.specs.Output.{Answer}
-use Rattle.bpfspec_answers.specs.declared.printed.Printed.{Printed}
-use Rattle.bpfspec_answers.specs.Printing.{answer_of}
 use Rattle.bpfspec_c.specs.Printing.{Gives, WritesIf, answer_status, given}
 use Rattle.bpfspec_c.specs.Statuses as status
 
 -- there was no memory
-pub gives_nothing : {E : Type 0} (printed : Result Printed E) (result : ℤ) (before after : List ℕ) (old new : ℕ)
+pub gives_nothing : {E : Type 0} (printed : Result AnswerGiven E) (result : ℤ) (before after : List ℕ) (old new : ℕ)
     (error : E) → printed ≡ Err error → result ≡ status.memory → after ≡ before → new ≡ old
     → Gives (given printed) result before after old new
 gives_nothing {E} printed result before after old new error is memory same kept =
-    subst (λ (p : Result Printed E). Gives (given p) result before after old new) (sym is) (memory, same, kept)
+    subst (λ (p : Result AnswerGiven E). Gives (given p) result before after old new) (sym is) (memory, same, kept)
 
-gives : {E : Type 0} (printed : Result Printed E) (result : ℤ) (before after : List ℕ) (old new : ℕ) (text : Printed)
-    → printed ≡ Ok text
-    → WritesIf (nat_le (length text.text.items) (length before)) (answer_of text) result before after
-    → new ≡ length text.text.items → Gives (given printed) result before after old new
+gives : {E : Type 0} (printed : Result AnswerGiven E) (result : ℤ) (before after : List ℕ) (old new : ℕ)
+    (text : AnswerGiven) → printed ≡ Ok text
+    → WritesIf (nat_le (length (string_bytes text.text)) (length before)) (answer_of text) result before after
+    → new ≡ length (string_bytes text.text) → Gives (given printed) result before after old new
 gives {E} printed result before after old new text is writes size =
-    subst (λ (p : Result Printed E). Gives (given p) result before after old new) (sym is) (writes, size)
+    subst (λ (p : Result AnswerGiven E). Gives (given p) result before after old new) (sym is) (writes, size)
 
 writes_none : (fits : Bool) (answer : Answer) (result : ℤ) (before after : List ℕ) → fits ≡ false
     → result ≡ status.out_of_range → after ≡ before → WritesIf fits answer result before after
@@ -35,26 +36,27 @@ writes_all true answer result before after fits is same = (is, same)
 writes_all false answer result before after fits is same = absurd (cc)
 
 -- there is too little room
-pub gives_range : {E : Type 0} (printed : Result Printed E) (result : ℤ) (before after : List ℕ) (old new : ℕ)
-    (text : Printed) → printed ≡ Ok text → length before < length text.text.items → result ≡ status.out_of_range
-    → after ≡ before → new ≡ length text.text.items → Gives (given printed) result before after old new
+pub gives_range : {E : Type 0} (printed : Result AnswerGiven E) (result : ℤ) (before after : List ℕ) (old new : ℕ)
+    (text : AnswerGiven) → printed ≡ Ok text → length before < length (string_bytes text.text)
+    → result ≡ status.out_of_range → after ≡ before → new ≡ length (string_bytes text.text)
+    → Gives (given printed) result before after old new
 gives_range printed result before after old new text is more range same size =
-    let less : nat_le (length text.text.items) (length before) ≡ false = grind (arith, nat_tests, more) in
+    let less : nat_le (length (string_bytes text.text)) (length before) ≡ false = grind (arith, nat_tests, more) in
     gives printed result before after old new text is
-    (writes_none (nat_le (length text.text.items) (length before)) (answer_of text) result before after less range same)
-    size
+    (writes_none (nat_le (length (string_bytes text.text)) (length before)) (answer_of text) result before after less
+    range same) size
 
 -- there is enough
-pub gives_all : {E : Type 0} (printed : Result Printed E) (result : ℤ) (before after : List ℕ) (old new : ℕ)
-    (text : Printed) → printed ≡ Ok text → length text.text.items ≤ length before
+pub gives_all : {E : Type 0} (printed : Result AnswerGiven E) (result : ℤ) (before after : List ℕ) (old new : ℕ)
+    (text : AnswerGiven) → printed ≡ Ok text → length (string_bytes text.text) ≤ length before
     → result ≡ answer_status text.served
-    → after ≡ text.text.items ++ drop (length text.text.items) before
-    → new ≡ length text.text.items → Gives (given printed) result before after old new
+    → after ≡ string_bytes text.text ++ drop (length (string_bytes text.text)) before
+    → new ≡ length (string_bytes text.text) → Gives (given printed) result before after old new
 gives_all printed result before after old new text is few told same size =
-    let fits : nat_le (length text.text.items) (length before) ≡ true = grind (arith, nat_tests, few) in
+    let fits : nat_le (length (string_bytes text.text)) (length before) ≡ true = grind (arith, nat_tests, few) in
     gives printed result before after old new text is
-    (writes_all (nat_le (length text.text.items) (length before)) (answer_of text) result before after fits told same)
-    size
+    (writes_all (nat_le (length (string_bytes text.text)) (length before)) (answer_of text) result before after fits
+    told same) size
 
 -- the laws of what is given
 pub ruleset give_laws = (gives_nothing, gives_range, gives_all)

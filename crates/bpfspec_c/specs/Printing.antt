@@ -4,9 +4,9 @@ use Rattle.std.specs.Prelude.{◌≡◌, ℕ, ℤ, Bool, true, false, nat_le, Li
 use Rattle.std.specs.Prelude.{Option, Some, None, IfSome, Result, Ok, Err}
 use Rattle.bpfspec_serve.specs.declared.serving.Served.{Served}
 use Rattle.bpfspec_serve.specs.declared.serving.Served.TheVariants as served
+use Rattle.bpfspec_serve.specs.declared.serving.Answer.{Answer as AnswerGiven}
+use Rattle.bpfspec_serve.specs.Answering.{answer_of}
 use Rattle.bpfspec_serve.specs.Output.{Answer}
-use Rattle.bpfspec_answers.specs.declared.printed.Printed.{Printed}
-use Rattle.bpfspec_answers.specs.Printing.{answer_of}
 use Rattle.bpfspec_c.specs.Statuses as status
 
 -- the status of an answer, which says what the program's exit status does: accepted, refused, or no text of its form
@@ -39,6 +39,6 @@ pub record Prints (Is_printed : Answer → Type 0) (result : ℤ) (before after 
   pub gives : Gives answer result before after size_before size_after
 
 -- what was printed, if anything was
-abbrev pub given : {E : Type 0} → Result Printed E → Option Answer
+abbrev pub given : {E : Type 0} → Result AnswerGiven E → Option Answer
 given (Ok printed) = Some (answer_of printed)
 given (Err error) = None

@@ -20,5 +20,5 @@ pub use calls::{
 pub use loaded::Loaded;
 pub use loop_line::LoopLine;
 pub use options::Options;
-pub use printing::{bpfspec_explain, bpfspec_verify, bpfspec_verify_hex};
+pub use printing::{bpfspec_facts, bpfspec_verify, bpfspec_verify_hex};
 pub use refusal::Refusal;

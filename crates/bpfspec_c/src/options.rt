@@ -1,11 +1,11 @@
-//! What is asked of an explanation, as C gives it.
+//! What is asked of facts, as C gives it.
 
 ghost use Rattle.std.specs.Prelude.{◌≡◌};
 ghost use Rattle.bpfspec_c.specs.Options.{ask_of};
 
-use bpfspec_answers::{Ask, Extent, Test, UnitForm};
+use bpfspec_serve::{Ask, Test, UnitForm};
 
-/// The options of an explanation. Zeroes ask for what `explain` prints without any.
+/// The options of facts. Zeroes ask for what `facts` prints without any.
 #[repr(C)]
 #[derive(Clone, Copy)]
 pub struct Options {
@@ -15,12 +15,12 @@ pub struct Options {
     pub hex: bool,
     /// Whether its loops conflict by the test `lrpd`, and not by `flow`.
     pub lrpd: bool,
-    /// Whether each instruction is shown with the registers that it reads.
+    /// Whether the abstract values of an accepted unit are wanted, and not of a refused one alone.
     pub states: bool,
-    /// Whether up to 64 elements that conflict are explained of each loop, and not the least alone.
+    /// Whether up to 64 elements that conflict are wanted of each loop, and not the least alone.
     pub all: bool,
-    /// Whether a picture is drawn in place of the explanation, if a loop conflicts.
-    pub picture: bool,
+    /// Whether it is wanted which elements the iterations of the first loop that conflicts access.
+    pub grid: bool,
 }
 
 /// What options ask for.
@@ -33,14 +33,10 @@ pub(crate) fn ask_of(options: &Options) -> Ask
         } else {
             UnitForm::Assembler
         },
-        extent: if options.states {
-            Extent::States
-        } else {
-            Extent::Refusal
-        },
-        argument: options.argument,
+        arg: options.argument,
         test: if options.lrpd { Test::Lrpd } else { Test::Flow },
+        states: options.states,
         all: options.all,
-        picture: options.picture,
+        grid: options.grid,
     }
 }

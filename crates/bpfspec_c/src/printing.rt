@@ -1,14 +1,16 @@
 //! The calls that print what the program prints of an input.
 
 ghost use Rattle.std.specs.Prelude.{◌≡◌};
+ghost use Rattle.bpfspec_command_line.specs.declared.job.Job.TheVariants.{Serve, Facts};
+ghost use Rattle.bpfspec_command_line.specs.declared.job.Mode.TheVariants.{Verify};
 ghost use Rattle.bpfspec_command_line.specs.declared.job.UnitForm.TheVariants.{Assembler, Hex};
-ghost use Rattle.bpfspec_explain_serve.specs.Explained.{Verifies, Explains};
+ghost use Rattle.bpfspec_serve.specs.Answering.{Answers};
 ghost use Rattle.bpfspec_c.specs.Options.{ask_of};
 ghost use Rattle.bpfspec_c.specs.Printing.{Gives, Prints, answer_status, given};
 
 use crate::options::{Options, ask_of};
 use crate::statuses::{DONE, MALFORMED, MEMORY, OUT_OF_RANGE, REFUSED};
-use bpfspec_answers::{Printed, Served, UnitForm, explain_text, verify_text};
+use bpfspec_serve::{Answer, Mode, Served, UnitForm, answer_facts, answer_input};
 use std::alloc::{AllocError, Global};
 
 /// The status of an answer.
@@ -25,12 +27,12 @@ fn answer_status(served: Served) -> i32
 
 /// Writes what is printed to the front of a buffer, where there is room for it, and its size.
 #[tactic(auto, using(crate::proofs::PrintLaws::give_laws))]
-fn give(printed: Result<Printed, AllocError>, answer: &mut [u8], size: &mut usize) -> i32
+fn give(printed: Result<Answer, AllocError>, answer: &mut [u8], size: &mut usize) -> i32
     ensures { Gives (given printed) result answer.old answer.new size.old size.new }
 {
     match printed {
         Ok(printed) => {
-            let text = printed.text.as_slice();
+            let text = printed.text.as_bytes();
             *size = text.len();
             if text.len() > answer.len() {
                 return OUT_OF_RANGE;
@@ -50,9 +52,14 @@ pub extern "C" fn bpfspec_verify(
     answer: &mut [u8],
     size: &mut usize,
 ) -> i32
-    ensures { Prints (Verifies Assembler input.now) result answer.old answer.new size.old size.new }
+    ensures { Prints (Answers (Serve (Verify Assembler)) input.now) result answer.old answer.new size.old size.new }
 {
-    give(verify_text(alloc, UnitForm::Assembler, input), answer, size)
+    let form = UnitForm::Assembler;
+    give(
+        answer_input(alloc, &Mode::Verify { form }, input),
+        answer,
+        size,
+    )
 }
 
 /// Prints what `verify --hex` prints of an input.
@@ -63,21 +70,26 @@ pub extern "C" fn bpfspec_verify_hex(
     answer: &mut [u8],
     size: &mut usize,
 ) -> i32
-    ensures { Prints (Verifies Hex input.now) result answer.old answer.new size.old size.new }
+    ensures { Prints (Answers (Serve (Verify Hex)) input.now) result answer.old answer.new size.old size.new }
 {
-    give(verify_text(alloc, UnitForm::Hex, input), answer, size)
+    let form = UnitForm::Hex;
+    give(
+        answer_input(alloc, &Mode::Verify { form }, input),
+        answer,
+        size,
+    )
 }
 
-/// Prints what `explain` prints of an input, with these options.
+/// Prints what `facts` prints of an input, with these options.
 #[unsafe(no_mangle)]
-pub extern "C" fn bpfspec_explain(
+pub extern "C" fn bpfspec_facts(
     alloc: Global,
     input: &[u8],
     options: &Options,
     answer: &mut [u8],
     size: &mut usize,
 ) -> i32
-    ensures { Prints (Explains (ask_of options.now) input.now) result answer.old answer.new size.old size.new }
+    ensures { Prints (Answers (Facts (ask_of options.now)) input.now) result answer.old answer.new size.old size.new }
 {
-    give(explain_text(alloc, &ask_of(options), input), answer, size)
+    give(answer_facts(alloc, &ask_of(options), input), answer, size)
 }

@@ -5,7 +5,7 @@ use Rattle.std.specs.Prelude.{Box, option_map}
 use Rattle.std.specs.Box.{box_value}
 use Rattle.std.specs.Str.{bytes_eq}
 use Rattle.std.specs.Str.Parse.{ParsesUnsigned}
-use Rattle.clap.specs.Words.{AddsArg, AddsSubcommand, App, ReadsOne, Row, Rule, Text}
+use Rattle.clap.specs.Words.{AddsArg, AddsInTurn, AddsSubcommand, App, ReadsOne, Row, Rule, Text}
 use Rattle.clap.specs.Words.{first_of, one_of, one_text, rows_of, subcommand_rows, with_rule, with_subcommand}
 use Rattle.clap.specs.declared.builder.arg.Arg.{Arg}
 use Rattle.clap.specs.declared.builder.command.Command.{Command}
@@ -18,11 +18,13 @@ use Rattle.loop_core_model.specs.declared.loop_test.Test.TheVariants.{Flow, Lrpd
 use Rattle.spec_run_plan.specs.declared.plan.Plan.{Plan}
 use Rattle.spec_run_plan.specs.declared.plan.Policy.{Policy}
 use Rattle.spec_run_plan.specs.declared.plan.Policy.TheVariants.{Pays, Blocks}
-use Rattle.bpfspec_command_line.specs.CommandLine.{AsksFor, AsksForJob, AsksForStats, Finds, IsArg, IsArgument}
-use Rattle.bpfspec_command_line.specs.CommandLine.{IsChosen, IsCommand}
+use Rattle.bpfspec_command_line.specs.CommandLine.{AreArgs, AreCommands, AsksFor, AsksForJob, AsksForStats, Finds}
+use Rattle.bpfspec_command_line.specs.CommandLine.{IsArg, IsArgument, IsAskOf, IsChosen, IsCommand}
+use Rattle.bpfspec_command_line.specs.CommandLine.{with_commands, with_rules}
 use Rattle.bpfspec_command_line.specs.CommandLine.{IsNumber, IsNumberWithin, IsPlanOf, IsPolicy, IsTest}
+use Rattle.bpfspec_command_line.specs.declared.job.Ask.{Ask}
 use Rattle.bpfspec_command_line.specs.declared.job.Job.{Job}
-use Rattle.bpfspec_command_line.specs.declared.job.Job.TheVariants.{Serve, Run}
+use Rattle.bpfspec_command_line.specs.declared.job.Job.TheVariants.{Serve, Run, Facts}
 use Rattle.bpfspec_command_line.specs.declared.job.Mode.{Mode}
 use Rattle.bpfspec_command_line.specs.declared.job.Mode.TheVariants.{Verify, Order, Replay, Asm, Disasm}
 
@@ -179,11 +181,28 @@ run_for rows none (Serve (Replay form argument test)) asks =
 run_for rows none (Serve Asm) asks = same_initial 114 asks tt
 run_for rows none (Serve Disasm) asks = same_initial 114 asks tt
 run_for rows none (Run form argument plan) asks = none argument plan asks.2 asks.3
+run_for rows none (Facts ask) asks = same_initial 114 asks.0 tt
 
 pub no_run : (named : Option (Text × List Row)) (rows : List Row) → named ≡ Some (codes "run", rows)
     → ((n : ℕ) (plan : Plan) → IsArgument rows n → ¬ (IsPlanOf rows plan)) → (job : Job) → ¬ (AsksForJob named job)
 no_run named rows is none = subst (λ (used : Option (Text × List Row)). (job : Job) → ¬ (AsksForJob used job))
     (sym is) (run_for rows none)
+
+-- facts asks for no job where its arguments ask for none
+facts_for : (rows : List Row) → ((ask : Ask) → ¬ (IsAskOf rows ask)) → (job : Job)
+    → ¬ (AsksForJob (Some (codes "facts", rows)) job)
+facts_for rows none (Serve (Verify form)) asks = same_initial 102 asks.0 tt
+facts_for rows none (Serve (Order form argument)) asks = same_initial 102 asks.0 tt
+facts_for rows none (Serve (Replay form argument test)) asks = same_initial 102 asks.0 tt
+facts_for rows none (Serve Asm) asks = same_initial 102 asks tt
+facts_for rows none (Serve Disasm) asks = same_initial 102 asks tt
+facts_for rows none (Run form argument plan) asks = same_initial 102 asks.0 tt
+facts_for rows none (Facts ask) asks = none ask asks.1
+
+pub no_facts : (named : Option (Text × List Row)) (rows : List Row) → named ≡ Some (codes "facts", rows)
+    → ((ask : Ask) → ¬ (IsAskOf rows ask)) → (job : Job) → ¬ (AsksForJob named job)
+no_facts named rows is none = subst (λ (used : Option (Text × List Row)). (job : Job) → ¬ (AsksForJob used job))
+    (sym is) (facts_for rows none)
 
 -- the stats of run, and of any other subcommand
 pub stats_of_run : (named : Option (Text × List Row)) (rows : List Row) (stats : Bool)
@@ -214,3 +233,20 @@ with_command {app} {sub_app} {old} {sub} {new} is its adds = record {
   app_is = adds.shape its.own ∙ ap₂ with_subcommand is.app_is (ap (λ (a : App). a.top) its.app_is);
   own = adds.globals ∙ ap₂ (λ (b c : Bool). b || c) is.own its.own;
 }
+
+-- a command with these arguments more, added in turn, and with these subcommands more
+pub with_args : {app : App} {old new : Command} (rules : List Rule) (args : List Arg) → IsCommand app old
+    → AreArgs rules args → AddsInTurn AddsArg old args new → IsCommand (with_rules app rules) new
+with_args [] [] is are same = subst (IsCommand _) same is
+with_args [] (arg ∷ args) is are adds = absurd are
+with_args (rule ∷ rules) [] is are adds = absurd are
+with_args (rule ∷ rules) (arg ∷ args) is are adds =
+    with_args rules args (with_arg arg is are.0 adds.1) are.1 adds.2
+
+pub with_subcommands : {app : App} {old new : Command} (apps : List App) (subs : List Command) → IsCommand app old
+    → AreCommands apps subs → AddsInTurn AddsSubcommand old subs new → IsCommand (with_commands app apps) new
+with_subcommands [] [] is are same = subst (IsCommand _) same is
+with_subcommands [] (sub ∷ subs) is are adds = absurd are
+with_subcommands (first ∷ apps) [] is are adds = absurd are
+with_subcommands (first ∷ apps) (sub ∷ subs) is are adds =
+    with_subcommands apps subs (with_command is are.0 adds.1) are.1 adds.2

@@ -14,8 +14,9 @@ use Rattle.spec_run_plan.specs.declared.plan.Plan.{Plan}
 use Rattle.spec_run_plan.specs.declared.plan.Policy.{Policy}
 use Rattle.spec_run_plan.specs.declared.plan.Policy.TheVariants.{Pays, Blocks}
 use Rattle.spec_run_plan.specs.Plans.{IsPlan}
+use Rattle.bpfspec_command_line.specs.declared.job.Ask.{Ask}
 use Rattle.bpfspec_command_line.specs.declared.job.Job.{Job}
-use Rattle.bpfspec_command_line.specs.declared.job.Job.TheVariants.{Serve, Run}
+use Rattle.bpfspec_command_line.specs.declared.job.Job.TheVariants.{Serve, Run, Facts}
 use Rattle.bpfspec_command_line.specs.declared.job.Mode.{Mode}
 use Rattle.bpfspec_command_line.specs.declared.job.Mode.TheVariants.{Verify, Order, Replay, Asm, Disasm}
 use Rattle.bpfspec_command_line.specs.declared.job.Request.{Request}
@@ -26,12 +27,21 @@ use Rattle.bpfspec_command_line.specs.declared.job.UnitForm.TheVariants.{Assembl
 abbrev pub flag_rule : Text → Rule
 flag_rule name = record (new_rule name) { long = Some name; action = Some SetTrue }
 
--- --hex and --stats
+-- --hex, --stats, --states, --all and --grid
 abbrev pub hex_rule : Rule
 hex_rule = flag_rule (codes "hex")
 
 abbrev pub stats_rule : Rule
 stats_rule = flag_rule (codes "stats")
+
+abbrev pub states_rule : Rule
+states_rule = flag_rule (codes "states")
+
+abbrev pub all_rule : Rule
+all_rule = flag_rule (codes "all")
+
+abbrev pub grid_rule : Rule
+grid_rule = flag_rule (codes "grid")
 
 -- an option of this name with a value, which is this where it isn't given
 abbrev pub valued_rule : (name default : Text) → Rule
@@ -68,20 +78,46 @@ pub record IsArg (rule : Rule) (arg : Arg) : Type 0 where
   pub rule_is : rule_of arg ≡ rule
   pub own : arg.global ≡ false
 
+-- arguments by these rules, one by one
+abbrev pub AreArgs : List Rule → List Arg → Type 0
+AreArgs [] [] = Unit {0}
+AreArgs (rule ∷ rules) (arg ∷ args) = IsArg rule arg × AreArgs rules args
+AreArgs _ _ = ⊥
+
+-- commands that are told so, one by one
+abbrev pub AreCommands : List App → List Command → Type 0
+AreCommands [] [] = Unit {0}
+AreCommands (app ∷ apps) (command ∷ commands) = IsCommand app command × AreCommands apps commands
+AreCommands _ _ = ⊥
+
+-- a command line with arguments by these rules more, and one with these subcommands more
+abbrev pub with_rules : App → List Rule → App
+with_rules app [] = app
+with_rules app (rule ∷ rules) = with_rules (with_rule app rule) rules
+
+abbrev pub with_commands : App → List App → App
+with_commands app [] = app
+with_commands app (sub ∷ subs) = with_commands (with_subcommand app sub.top) subs
+
 -- verify [--hex], order [--hex] [--arg N], run [--hex] [--arg N] [--workers N] [--blocks N] [--test flow|lrpd]
--- [--way pays|blocks] [--stats], and replay [--hex] [--arg N] [--test flow|lrpd]
+-- [--way pays|blocks] [--stats], replay [--hex] [--arg N] [--test flow|lrpd], and facts [--hex] [--arg N]
+-- [--test flow|lrpd] [--states] [--all] [--grid]
 abbrev pub verify_app : App
 verify_app = with_rule (new_app (codes "verify")) hex_rule
 
 abbrev pub order_app : App
-order_app = with_rule (with_rule (new_app (codes "order")) hex_rule) arg_rule
+order_app = with_rules (new_app (codes "order")) (hex_rule ∷ arg_rule ∷ [])
 
 abbrev pub run_app : App
-run_app = with_rule (with_rule (with_rule (with_rule (with_rule (with_rule (with_rule (new_app (codes "run")) hex_rule)
-    arg_rule) workers_rule) blocks_rule) test_rule) way_rule) stats_rule
+run_app = with_rules (new_app (codes "run"))
+    (hex_rule ∷ arg_rule ∷ workers_rule ∷ blocks_rule ∷ test_rule ∷ way_rule ∷ stats_rule ∷ [])
 
 abbrev pub replay_app : App
-replay_app = with_rule (with_rule (with_rule (new_app (codes "replay")) hex_rule) arg_rule) test_rule
+replay_app = with_rules (new_app (codes "replay")) (hex_rule ∷ arg_rule ∷ test_rule ∷ [])
+
+abbrev pub facts_app : App
+facts_app = with_rules (new_app (codes "facts"))
+    (hex_rule ∷ arg_rule ∷ test_rule ∷ states_rule ∷ all_rule ∷ grid_rule ∷ [])
 
 -- the program without its subcommands, of which one is wanted; it has a version
 abbrev pub top_app : App
@@ -92,10 +128,8 @@ top_app = record {
 
 -- the program's command line
 abbrev pub bpfspec_app : App
-bpfspec_app =
-    with_subcommand (with_subcommand
-    (with_subcommand (with_subcommand (with_subcommand (with_subcommand top_app verify_app.top) order_app.top)
-    run_app.top) replay_app.top) (new_app (codes "asm")).top) (new_app (codes "disasm")).top
+bpfspec_app = with_commands top_app
+    (verify_app ∷ order_app ∷ run_app ∷ replay_app ∷ facts_app ∷ new_app (codes "asm") ∷ new_app (codes "disasm") ∷ [])
 
 -- a value that the flag of this name chooses: the one where it isn't set, the other where it is
 pub record IsChosen {A : Type 0} (name : Text) (off on : A) (rows : List Row) (value : A) : Type 0 where
@@ -106,6 +140,10 @@ pub record IsChosen {A : Type 0} (name : Text) (off on : A) (rows : List Row) (v
 -- a value of which this holds, or None, and it holds of none
 abbrev pub Finds : {A : Type 0} → (A → Type 0) → Option A → Type 0
 Finds {A} Holds result = MatchOption result ((value : A) → ¬ (Holds value)) Holds
+
+-- whether the arguments have the flag of this name
+abbrev pub HasFlag : Text → List Row → Bool → Type 0
+HasFlag name rows given = IsChosen name false true rows given
 
 -- whether the arguments say hex: by the flag --hex
 abbrev pub IsForm : List Row → UnitForm → Type 0
@@ -155,6 +193,15 @@ pub record IsPlanOf (rows : List Row) (plan : Plan) : Type 0 where
   pub policy : IsPolicy rows plan.policy
   pub within : IsPlan plan
 
+-- what arguments ask of facts: by --hex, --arg, --test, --states, --all and --grid
+pub record IsAskOf (rows : List Row) (ask : Ask) : Type 0 where
+  pub form : IsForm rows ask.form
+  pub argument : IsArgument rows ask.arg
+  pub test : IsTest rows ask.test
+  pub states : HasFlag (codes "states") rows ask.states
+  pub all : HasFlag (codes "all") rows ask.all
+  pub grid : HasFlag (codes "grid") rows ask.grid
+
 -- the mode that a subcommand of this name and its arguments ask for
 abbrev pub Names : Text → List Row → Mode → Type 0
 Names name rows (Verify form) = (name ≡ codes "verify") × IsForm rows form
@@ -175,15 +222,21 @@ AsksForRun None form argument plan = ⊥
 AsksForRun (Some named) form argument plan =
     (named.0 ≡ codes "run") × IsForm named.1 form × IsArgument named.1 argument × IsPlanOf named.1 plan
 
+-- what the subcommand facts and its arguments ask for
+abbrev pub AsksForFacts : Option (Text × List Row) → Ask → Type 0
+AsksForFacts None ask = ⊥
+AsksForFacts (Some named) ask = (named.0 ≡ codes "facts") × IsAskOf named.1 ask
+
 -- a job that the words of a command line ask for
 abbrev pub AsksForJob : Option (Text × List Row) → Job → Type 0
 AsksForJob named (Serve mode) = AsksFor named mode
 AsksForJob named (Run form argument plan) = AsksForRun named form argument plan
+AsksForJob named (Facts ask) = AsksForFacts named ask
 
 -- whether stats are asked for: the subcommand run asks for them by its flag --stats, and no other does
 abbrev pub AsksForStats : Option (Text × List Row) → Bool → Type 0
 AsksForStats None stats = stats ≡ false
-AsksForStats (Some named) stats = (named.0 ≡ codes "run" → IsChosen (codes "stats") false true named.1 stats)
+AsksForStats (Some named) stats = (named.0 ≡ codes "run" → HasFlag (codes "stats") named.1 stats)
     × (named.0 ≢ codes "run" → stats ≡ false)
 
 -- what the words of a command line ask for: clap takes them

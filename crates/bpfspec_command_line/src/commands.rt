@@ -2,10 +2,11 @@
 
 ghost use Rattle.std.specs.Prelude.{IfOk};
 ghost use Rattle.clap.specs.Words.{new_app};
-ghost use Rattle.bpfspec_command_line.specs.CommandLine.{IsArg, IsCommand, arg_rule, blocks_rule, bpfspec_app};
-ghost use Rattle.bpfspec_command_line.specs.CommandLine.{flag_rule, hex_rule, order_app, replay_app, run_app};
-ghost use Rattle.bpfspec_command_line.specs.CommandLine.{stats_rule, test_rule, top_app, valued_rule, verify_app};
-ghost use Rattle.bpfspec_command_line.specs.CommandLine.{way_rule, workers_rule};
+ghost use Rattle.bpfspec_command_line.specs.CommandLine.{IsArg, IsCommand, all_rule, arg_rule, blocks_rule};
+ghost use Rattle.bpfspec_command_line.specs.CommandLine.{bpfspec_app, facts_app, flag_rule, grid_rule, hex_rule};
+ghost use Rattle.bpfspec_command_line.specs.CommandLine.{order_app, replay_app, run_app, states_rule, stats_rule};
+ghost use Rattle.bpfspec_command_line.specs.CommandLine.{test_rule, top_app, valued_rule, verify_app, way_rule};
+ghost use Rattle.bpfspec_command_line.specs.CommandLine.{workers_rule};
 
 use clap::{Arg, ArgAction, Command};
 use std::alloc::{AllocError, Global};
@@ -21,7 +22,7 @@ fn flag<'a>(alloc: Global, name: &'a str, help: &'a str) -> Arg<'a>
 }
 
 /// The flag --hex.
-pub fn hex_flag<'a>(alloc: Global) -> Arg<'a>
+fn hex_flag<'a>(alloc: Global) -> Arg<'a>
     ensures { IsArg hex_rule result }
 {
     flag(alloc, "hex", "Read the unit in hex form")
@@ -35,6 +36,39 @@ fn stats_flag<'a>(alloc: Global) -> Arg<'a>
         alloc,
         "stats",
         "Report each loop's strategy and time on standard error",
+    )
+}
+
+/// The flag --states.
+fn states_flag<'a>(alloc: Global) -> Arg<'a>
+    ensures { IsArg states_rule result }
+{
+    flag(
+        alloc,
+        "states",
+        "Print the abstract values of an accepted program too",
+    )
+}
+
+/// The flag --all.
+fn all_flag<'a>(alloc: Global) -> Arg<'a>
+    ensures { IsArg all_rule result }
+{
+    flag(
+        alloc,
+        "all",
+        "Print up to 64 conflicting elements of each loop",
+    )
+}
+
+/// The flag --grid.
+fn grid_flag<'a>(alloc: Global) -> Arg<'a>
+    ensures { IsArg grid_rule result }
+{
+    flag(
+        alloc,
+        "grid",
+        "Print what iterations of the first conflicting loop access",
     )
 }
 
@@ -57,14 +91,14 @@ fn valued_option<'a>(
 }
 
 /// The option --arg N, which is 0 where it isn't given.
-pub fn arg_option<'a>(alloc: Global) -> Arg<'a>
+fn arg_option<'a>(alloc: Global) -> Arg<'a>
     ensures { IsArg arg_rule result }
 {
     valued_option(alloc, "arg", "N", "0", "The program's argument, in R1")
 }
 
 /// The option --test TEST, which is flow where it isn't given.
-pub fn test_option<'a>(alloc: Global) -> Arg<'a>
+fn test_option<'a>(alloc: Global) -> Arg<'a>
     ensures { IsArg test_rule result }
 {
     valued_option(
@@ -131,37 +165,55 @@ fn verify_command<'a>(alloc: Global) -> Result<Command<'a>, AllocError>
 pub(crate) fn order_command<'a>(alloc: Global) -> Result<Command<'a>, AllocError>
     ensures { IfOk result (IsCommand order_app) }
 {
-    new_command(alloc, "order", "Run a program in order")
-        .arg(hex_flag(alloc))?
-        .arg(arg_option(alloc))
+    let args = vec![in alloc; hex_flag(alloc), arg_option(alloc)]?;
+    new_command(alloc, "order", "Run a program in order").args(args)
 }
 
 pub(crate) fn run_command<'a>(alloc: Global) -> Result<Command<'a>, AllocError>
     ensures { IfOk result (IsCommand run_app) }
 {
-    new_command(alloc, "run", "Run a program, its loops in parallel")
-        .arg(hex_flag(alloc))?
-        .arg(arg_option(alloc))?
-        .arg(workers_option(alloc))?
-        .arg(blocks_option(alloc))?
-        .arg(test_option(alloc))?
-        .arg(way_option(alloc))?
-        .arg(stats_flag(alloc))
+    let args = vec![in alloc;
+        hex_flag(alloc),
+        arg_option(alloc),
+        workers_option(alloc),
+        blocks_option(alloc),
+        test_option(alloc),
+        way_option(alloc),
+        stats_flag(alloc),
+    ]?;
+    new_command(alloc, "run", "Run a program, its loops in parallel").args(args)
 }
 
 pub(crate) fn replay_command<'a>(alloc: Global) -> Result<Command<'a>, AllocError>
     ensures { IfOk result (IsCommand replay_app) }
 {
-    new_command(alloc, "replay", "Replay events of a program's first loop")
-        .arg(hex_flag(alloc))?
-        .arg(arg_option(alloc))?
-        .arg(test_option(alloc))
+    let args = vec![in alloc; hex_flag(alloc), arg_option(alloc), test_option(alloc)]?;
+    new_command(alloc, "replay", "Replay events of a program's first loop").args(args)
+}
+
+pub(crate) fn facts_command<'a>(alloc: Global) -> Result<Command<'a>, AllocError>
+    ensures { IfOk result (IsCommand facts_app) }
+{
+    let args = vec![in alloc;
+        hex_flag(alloc),
+        arg_option(alloc),
+        test_option(alloc),
+        states_flag(alloc),
+        all_flag(alloc),
+        grid_flag(alloc),
+    ]?;
+    new_command(
+        alloc,
+        "facts",
+        "Print why a program is refused or its loops conflict, as JSON Lines",
+    )
+    .args(args)
 }
 
 /// The end of the help: streams and exit statuses.
 const STREAMS: &str = "\
 Standard input has a program, the values of its maps, and events of a replay; results go to standard output.
-bpfspec_explain, in a clone ./bpfspec explain, says why a program is refused or a loop conflicts.
+In a clone, ./bpfspec explain says why a program is refused or a loop conflicts.
 
 Exit status:
   0  done
@@ -185,11 +237,14 @@ fn top_command<'a>(alloc: Global) -> Command<'a>
 pub(crate) fn bpfspec_command<'a>(alloc: Global) -> Result<Command<'a>, AllocError>
     ensures { IfOk result (IsCommand bpfspec_app) }
 {
-    top_command(alloc)
-        .subcommand(verify_command(alloc)?)?
-        .subcommand(order_command(alloc)?)?
-        .subcommand(run_command(alloc)?)?
-        .subcommand(replay_command(alloc)?)?
-        .subcommand(new_command(alloc, "asm", "Print assembler text in hex form"))?
-        .subcommand(new_command(alloc, "disasm", "Print the hex form as assembler text"))
+    let commands = vec![in alloc;
+        verify_command(alloc)?,
+        order_command(alloc)?,
+        run_command(alloc)?,
+        replay_command(alloc)?,
+        facts_command(alloc)?,
+        new_command(alloc, "asm", "Print assembler text in hex form"),
+        new_command(alloc, "disasm", "Print the hex form as assembler text"),
+    ]?;
+    top_command(alloc).subcommands(commands)
 }

@@ -6,7 +6,7 @@ ghost use Rattle.std.specs.declared.io.ErrorKind.TheVariants as io_errors;
 ghost use Rattle.clap.specs.Words.{kind_of};
 ghost use Rattle.bpfspec_command_line.specs.Faults.{Shows, is_help, is_usage};
 
-use crate::commands::{bpfspec_command, order_command, replay_command, run_command};
+use crate::commands::{bpfspec_command, facts_command, order_command, replay_command, run_command};
 use crate::job::LineFault;
 use crate::values::{argument, blocks_of, policy_of, workers_of};
 use clap::error::ErrorKind;
@@ -24,7 +24,7 @@ fn is_asked_for(kind: ErrorKind) -> bool
 
 /// What clap says of words: `Usage` where they are wrong, `Help` where they ask for help or the version, and `Memory`
 /// where clap ran out of it, or there is none for the text.
-pub fn fault_of(alloc: Global, error: &clap::Error) -> LineFault
+fn fault_of(alloc: Global, error: &clap::Error) -> LineFault
     ensures memory { kind_of error.now ≡ ErrorKind.OutOfMemory → result ≡ LineFault.Memory }
     ensures help { is_help result ≡ true → Shows (kind_of error.now) }
     ensures usage { is_usage result ≡ true → ¬ (Shows (kind_of error.now)) }
@@ -41,7 +41,7 @@ pub fn fault_of(alloc: Global, error: &clap::Error) -> LineFault
 
 /// The fault of words that are wrong in a way that clap doesn't judge, told as clap tells its own: `Usage` with this
 /// text and the command's usage, or `Memory`.
-pub fn own_fault(alloc: Global, command: &mut Command<'_>, wrong: &str) -> LineFault
+fn own_fault(alloc: Global, command: &mut Command<'_>, wrong: &str) -> LineFault
     ensures { is_help result ≡ false }
 {
     let Ok(error) = command.error(ErrorKind::ValueValidation, wrong) else {
@@ -127,6 +127,13 @@ fn replay_fault(alloc: Global, replay: &ArgMatches<'_>) -> Result<LineFault, All
     subcommand_fault(alloc, replay_command(alloc)?, "bpfspec replay", &wrong)
 }
 
+fn facts_fault(alloc: Global, facts: &ArgMatches<'_>) -> Result<LineFault, AllocError>
+    ensures { IfOk result (λ fault. is_help fault ≡ false) }
+{
+    let wrong = wrong_value(alloc, facts)?;
+    subcommand_fault(alloc, facts_command(alloc)?, "bpfspec facts", &wrong)
+}
+
 fn order_fault(alloc: Global, order: &ArgMatches<'_>) -> Result<LineFault, AllocError>
     ensures { IfOk result (λ fault. is_help fault ≡ false) }
 {
@@ -144,6 +151,9 @@ pub(crate) fn value_fault(alloc: Global, matches: &ArgMatches<'_>) -> Result<Lin
     if let Some(replay) = matches.subcommand_matches("replay") {
         return replay_fault(alloc, replay);
     }
+    if let Some(facts) = matches.subcommand_matches("facts") {
+        return facts_fault(alloc, facts);
+    }
     order_fault(
         alloc,
         matches.subcommand_matches("order").unwrap_or(matches),
@@ -160,9 +170,9 @@ fn program_fault(alloc: Global, wrong: &str) -> LineFault
     }
 }
 
-/// What is told of words that ask this program for `explain`.
+/// What is said of words that ask this program for `explain`.
 const EXPLAIN: &str = "\
-'explain' is a program of its own, bpfspec_explain, which ./bpfspec and an installed bpfspec start";
+'explain' is no command of this program: ./bpfspec and an installed bpfspec have it, by what 'facts' prints";
 
 /// Whether the first word after the program's name and any `help` is `explain`.
 fn names_explain<S: AsStr>(words: &[S]) -> bool {

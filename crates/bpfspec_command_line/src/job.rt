@@ -41,6 +41,23 @@ pub enum Mode {
     Disasm,
 }
 
+/// What is asked of the facts of an input.
+#[derive(Clone, Copy, Debug)]
+pub struct Ask {
+    /// How its unit is written.
+    pub form: UnitForm,
+    /// Main's argument, where it runs.
+    pub arg: u64,
+    /// The test by which its loops conflict.
+    pub test: Test,
+    /// Whether the abstract values of an accepted unit are wanted, and not of a refused one alone.
+    pub states: bool,
+    /// Whether up to 64 elements that conflict are wanted of each loop, and not the least alone.
+    pub all: bool,
+    /// Whether it is wanted which elements the iterations of the first loop that conflicts access.
+    pub grid: bool,
+}
+
 /// What a command line asks for.
 #[derive(Clone, Copy, Debug)]
 pub enum Job {
@@ -52,6 +69,8 @@ pub enum Job {
         arg: u64,
         plan: Plan,
     },
+    /// To read the input and write its facts as records, as this asks.
+    Facts(Ask),
 }
 
 /// A job, and whether more is told of it.

@@ -2,37 +2,37 @@
 
 ghost use Rattle.std.specs.Prelude.{◌≡◌, codes};
 ghost use Rattle.clap.specs.Words.{found_of, rows_of};
-ghost use Rattle.bpfspec_command_line.specs.CommandLine.{Finds, IsArgument, IsChosen, IsForm, IsNumber};
-ghost use Rattle.bpfspec_command_line.specs.CommandLine.{IsNumberWithin, IsPlanOf, IsPolicy, IsTest};
+ghost use Rattle.bpfspec_command_line.specs.CommandLine.{Finds, HasFlag, IsArgument, IsAskOf, IsChosen, IsForm};
+ghost use Rattle.bpfspec_command_line.specs.CommandLine.{IsNumber, IsNumberWithin, IsPlanOf, IsPolicy, IsTest};
 
-use crate::job::UnitForm;
+use crate::job::{Ask, UnitForm};
 use clap::ArgMatches;
 use loop_core_model::Test;
 use spec_run_plan::{Plan, Policy};
 
 /// The value that the flag of this name chooses: `off` where it isn't given, and else `on`.
-pub fn chosen<T: Copy>(matches: &ArgMatches<'_>, name: &str, off: T, on: T) -> T
+fn chosen<T: Copy>(matches: &ArgMatches<'_>, name: &str, off: T, on: T) -> T
     ensures { IsChosen name.now off on (rows_of (found_of matches.now)) result }
 {
     if matches.get_flag(name) { on } else { off }
 }
 
 /// The form of a unit that the arguments ask for, by --hex.
-pub fn unit_form(matches: &ArgMatches<'_>) -> UnitForm
+pub(crate) fn unit_form(matches: &ArgMatches<'_>) -> UnitForm
     ensures { IsForm (rows_of (found_of matches.now)) result }
 {
     chosen(matches, "hex", UnitForm::Assembler, UnitForm::Hex)
 }
 
 /// The program's argument that the arguments give by --arg, or None where it is no number below 2^64.
-pub fn argument(matches: &ArgMatches<'_>) -> Option<u64>
+pub(crate) fn argument(matches: &ArgMatches<'_>) -> Option<u64>
     ensures { Finds (IsArgument (rows_of (found_of matches.now))) result }
 {
     matches.get_one::<u64>("arg")
 }
 
 /// The test that the arguments name by --test, or None where they name another.
-pub fn loop_test(matches: &ArgMatches<'_>) -> Option<Test>
+pub(crate) fn loop_test(matches: &ArgMatches<'_>) -> Option<Test>
     ensures { Finds (IsTest (rows_of (found_of matches.now))) result }
 {
     let word = matches.get_str("test")?;
@@ -100,5 +100,26 @@ pub(crate) fn plan_of(matches: &ArgMatches<'_>) -> Option<Plan>
         blocks: blocks_of(matches)?,
         test: loop_test(matches)?,
         policy: policy_of(matches)?,
+    })
+}
+
+/// Whether the arguments have the flag of this name.
+pub(crate) fn has_flag(matches: &ArgMatches<'_>, name: &str) -> bool
+    ensures { HasFlag name.now (rows_of (found_of matches.now)) result }
+{
+    chosen(matches, name, false, true)
+}
+
+/// What the arguments ask of facts, or None where they name another test or an argument that is no number.
+pub(crate) fn ask_of(matches: &ArgMatches<'_>) -> Option<Ask>
+    ensures { Finds (IsAskOf (rows_of (found_of matches.now))) result }
+{
+    Some(Ask {
+        form: unit_form(matches),
+        arg: argument(matches)?,
+        test: loop_test(matches)?,
+        states: has_flag(matches, "states"),
+        all: has_flag(matches, "all"),
+        grid: has_flag(matches, "grid"),
     })
 }

@@ -9,7 +9,7 @@ ghost use Rattle.bpfspec_command_line.specs.Faults.{AreNoCommand, AsksForHelp, i
 use crate::commands::bpfspec_command;
 use crate::faults::{line_fault, value_fault, words_fault};
 use crate::job::{Job, LineFault, Mode, Request};
-use crate::values::{argument, chosen, loop_test, plan_of, unit_form};
+use crate::values::{argument, ask_of, has_flag, loop_test, plan_of, unit_form};
 use clap::ArgMatches;
 use std::alloc::Global;
 use std::convert::AsStr;
@@ -46,7 +46,7 @@ fn mode_of(matches: &ArgMatches<'_>) -> Option<Mode>
     Some(Mode::Disasm)
 }
 
-/// The job that the words ask for in which clap found these matches, or None as `mode_of` and `plan_of` say.
+/// The job that the words ask for in which clap found these matches, or None as `mode_of`, `plan_of` and `ask_of` say.
 fn job_of(matches: &ArgMatches<'_>) -> Option<Job>
     ensures { Finds (AsksForJob (subcommand_rows_of matches.now)) result }
 {
@@ -57,6 +57,9 @@ fn job_of(matches: &ArgMatches<'_>) -> Option<Job>
             plan: plan_of(run)?,
         });
     }
+    if let Some(facts) = matches.subcommand_matches("facts") {
+        return Some(Job::Facts(ask_of(facts)?));
+    }
     Some(Job::Serve(mode_of(matches)?))
 }
 
@@ -65,7 +68,7 @@ fn asks_for_stats(matches: &ArgMatches<'_>) -> bool
     ensures { AsksForStats (subcommand_rows_of matches.now) result }
 {
     match matches.subcommand_matches("run") {
-        Some(run) => chosen(run, "stats", false, true),
+        Some(run) => has_flag(run, "stats"),
         None => false,
     }
 }
@@ -75,8 +78,9 @@ fn asks_for_stats(matches: &ArgMatches<'_>) -> bool
 /// It fails with `Help` where they ask for help or the version (`--help`, `-h`, `help`, `--version`, `-V`), and with
 /// the text that they ask for; with `Usage` where they aren't `verify [--hex]`, `order [--hex] [--arg N]`,
 /// `run [--hex] [--arg N] [--workers W] [--blocks B] [--test flow|lrpd] [--way pays|blocks] [--stats]`,
-/// `replay [--hex] [--arg N] [--test flow|lrpd]`, N from 0 to 18446744073709551615, W from 1 to 16, B from 1 to 64,
-/// `asm` or `disasm`; and with `Memory` where there is no memory.
+/// `replay [--hex] [--arg N] [--test flow|lrpd]`, `facts [--hex] [--arg N] [--test flow|lrpd] [--states] [--all]
+/// [--grid]`, N from 0 to 18446744073709551615, W from 1 to 16, B from 1 to 64, `asm` or `disasm`; and with `Memory`
+/// where there is no memory.
 pub fn read_words<S: AsStr>(alloc: Global, words: &[S]) -> Result<Request, LineFault>
     ensures request { IfOk result (WordsAskFor (map S.text words.now)) }
     ensures help { IfErr result (λ fault. is_help fault ≡ true → AsksForHelp bpfspec_app (map S.text words.now)) }

@@ -1,14 +1,23 @@
 -- What inputs can be read.
 use Rattle.std.proofs.Common.{◌≡◌, ℕ, ◌≤◌, ◌<◌, Bool, false, true, List, length, if◌then◌else◌, Result, Ok, Err}
-use Rattle.std.proofs.Common.{refl, take, Option, Some, None, IfSome, sym, ap, ◌∙◌, subst, nat_eq, arith}
+use Rattle.std.proofs.Common.{refl, take, Option, Some, None, IfSome, sym, ap, ap₂, ◌∙◌, subst, nat_eq, arith}
+use Rattle.std.specs.Prelude.{◌++◌, IfOk, codes}
+use Rattle.std.proofs.lemmas.Fmt.{decimal_digit}
+use Rattle.std.specs.declared.alloc.AllocError.{AllocError}
 use Rattle.std.specs.Cmp.Lexicographic.{pointwise, same_text}
-use Rattle.std.specs.List.{concat}
+use Rattle.std.specs.List.{concat, flat_map}
 use Rattle.array_maps.specs.MapList.{lengths}
 use Rattle.bpf_insn_types.specs.Limits.{AreSizes, sizes_fit}
 use Rattle.bpf_insn_types.specs.Program.{Program}
 use Rattle.bpf_step_model.specs.Run.{BoundedResult, Ended}
+use Rattle.bpf_verify_model.specs.Accepted.{first_fault}
+use Rattle.bpf_verify_model.specs.declared.rule.Rule.{Rule}
 use Rattle.loop_core_model.specs.Report.{Reported}
-use Rattle.bpfspec_output.specs.ReportText.{report_text}
+use Rattle.bpfspec_output.specs.ReportText.{replay_text, report_text}
+use Rattle.loop_core_event.specs.declared.event.Event.{Event}
+use Rattle.loop_core_model.specs.declared.loop_test.Test.{Test}
+use Rattle.spec_run_replay.specs.declared.replaying.Replayed.{Replayed}
+use Rattle.spec_run_replay.specs.ProgramReplay.{LoopReplay}
 use Rattle.std.specs.Prelude.{nat_lt, nat_le}
 use Rattle.std.specs.Str.{IsUtf8, is_utf8}
 use Rattle.std.proofs.lemmas.Bool.Decides.{nat_tests}
@@ -21,10 +30,20 @@ use Rattle.bpfspec_serve.specs.HowServed.{AnswersReader, HowWritten, HowServed, 
 use Rattle.bpfspec_serve.specs.declared.answer_error.AnswerError.{AnswerError}
 use Rattle.bpfspec_serve.specs.declared.answer_error.AnswerError.TheVariants as errors
 use Rattle.bpfspec_serve.specs.declared.serving.Served.{Served}
+use Rattle.bpfspec_serve.specs.declared.serving.Answer.{Answer as AnswerGiven}
+use Rattle.bpfspec_command_line.specs.declared.job.Ask.{Ask}
 use Rattle.bpfspec_command_line.specs.declared.job.Job.{Job}
+use Rattle.bpfspec_command_line.specs.declared.job.Job.TheVariants.{Facts, Run, Serve}
+use Rattle.bpfspec_records.specs.declared.records.Record.{Record}
+use Rattle.bpfspec_records.specs.declared.records.Record.TheVariants as records
+use Rattle.bpfspec_records.specs.Fields.{key, number, object, object_end, object_start}
+use Rattle.bpfspec_records.specs.Printed.{printed}
+use Rattle.bpfspec_serve.specs.Answering.{Answers, AreLines, Gives, IsText, answer_of}
+use Rattle.bpfspec_serve.specs.Facts.{AreFacts, verify_served}
 use Rattle.std.proofs.lemmas.List.{take_all, length-take}
-use Rattle.bpfspec_serve.specs.Output.{refused, readable, fitting, OfReadable, OfInput, Answer, Answers}
-use Rattle.bpfspec_serve.specs.Output.{IsPrinted, SatisfiesUnlessMemory, AnswerTells}
+use Rattle.bpfspec_serve.specs.Output.{refused, readable, fitting, ByPlan, InMode, OfReadable, OfInput, Answer}
+use Rattle.bpfspec_serve.specs.Output.{IsReplayed, ReplaysTo, judged, loop_replay, unless_rule_broken}
+use Rattle.bpfspec_serve.specs.Output.{IsPrinted, SatisfiesUnlessMemory, AnswerTells, TextOutcome}
 
 -- an input that isn't too long
 short : (input : List ℕ) → length input ≤ 3145728 → readable input
@@ -49,6 +68,17 @@ refuses_bytes input few other =
     sym (short input few ∙ ap (λ (b : Bool). if b then Ok input
     else refused (refusals.Text text_faults.Form sections.Unit 0)) (not_utf8 input (is_utf8 input) refl other))
 
+-- a unit that breaks no rule is its program, and another is refused by its first fault
+pub judges_fine : (unit program : Program) → program ≡ unit → first_fault unit ≡ None → Ok program ≡ judged unit
+unfolding judged
+judges_fine unit program same fine = ap Ok same ∙ sym (ap (unless_rule_broken unit) fine)
+
+pub judges_fault : (unit : Program) (rule : Rule) (slot : ℕ)
+    → first_fault unit ≡ Some (record { rule = rule; slot = slot })
+    → refused (refusals.Rule rule slot) ≡ judged unit
+unfolding judged
+judges_fault unit rule slot fault = sym (ap (unless_rule_broken unit) fault)
+
 -- values that no maps may have aren't those of a program
 pub other_sizes : (values : List (List ℕ)) (sizes : List ℕ) → sizes_fit (lengths values) ≡ false → AreSizes sizes
     → refused refusals.Sizes ≡ fitting sizes (Ok values)
@@ -58,6 +88,27 @@ other_sizes values sizes none are = go (pointwise nat_eq (lengths values) sizes)
         then Ok (concat values) else refused refusals.Sizes)
     go false same = refl
     go true same = absurd cc (sym (subst AreSizes (sym (same_text (lengths values) sizes (sym same))) are) ∙ none)
+
+-- what comes of a replay is printed, or its refusal
+pub replay_printed : (test : Test) (program : Program) (argument : ℕ) (words : List ℕ)
+    (schedule : List ℕ × List Event) (replayed : Replayed) (text : List ℕ)
+    → IsReplayed test program argument words schedule (Ok (loop_replay replayed))
+    → replayed.maps.sizes ≡ program.sizes
+    → text ≡ replay_text replayed.maps.sizes replayed.number replayed.told replayed.maps.words
+    → ReplaysTo program argument test (Ok words) (Ok schedule) (Ok text)
+replay_printed test program argument words schedule replayed text is fits same = (
+  Ok (loop_replay replayed),
+  is,
+  ap Ok (same ∙ ap (λ (sizes : List ℕ). replay_text sizes replayed.number replayed.told replayed.maps.words) fits),
+)
+
+pub replay_refused : {X Y : Type 0} (view : X → LoopReplay) (text : Y → List ℕ) (test : Test) (program : Program)
+    (argument : ℕ) (words : List ℕ) (schedule : List ℕ × List Event) (error : AnswerError)
+    → SatisfiesUnlessMemory view (IsReplayed test program argument words schedule) (Err error)
+    → SatisfiesUnlessMemory text (ReplaysTo program argument test (Ok words) (Ok schedule)) (Err error)
+replay_refused view text test program argument words schedule (errors.Refused refusal) is =
+    (refused refusal, is, refl)
+replay_refused view text test program argument words schedule errors.Memory is = tt
 
 -- what is longer than the limit is still longer where it is cut after it
 cut_long : (limit n : ℕ) (input : List ℕ) → limit < n → limit < length input → limit < length (take n input)
@@ -82,11 +133,38 @@ reads_enough : (n : ℕ) (input : List ℕ) → 3145728 < n → readable (take n
 reads_enough n input behind = enough n input behind (nat_le (length input) n) refl
 
 -- what is reported of a program, on maps of its sizes, is printed
-pub printed : (program : Program) (reported : BoundedResult Reported) (told : Reported) (sizes text : List ℕ)
+pub report_printed : (program : Program) (reported : BoundedResult Reported) (told : Reported) (sizes text : List ℕ)
     → reported ≡ Ended told → sizes ≡ program.sizes
     → text ≡ report_text sizes told → IsPrinted program reported (Ok text)
-printed program reported told sizes text same fits is =
+report_printed program reported told sizes text same fits is =
     (told, same, ap Ok (is ∙ ap (λ (s : List ℕ). report_text s told) fits))
+
+-- what comes of bytes comes of others that are read alike
+text_alike : (Comes : List ℕ → TextOutcome → Type 0) (read input : List ℕ) (answer : Answer)
+    → readable read ≡ readable input → IsText Comes read answer → IsText Comes input answer
+text_alike Comes read input answer same text = record {
+  outcome = text.outcome;
+  comes = subst (λ (r : TextOutcome). OfReadable Comes r text.outcome) same text.comes;
+  told = text.told;
+}
+
+lines_alike : (ask : Ask) (read input : List ℕ) (answer : Answer) → readable read ≡ readable input
+    → AreLines ask read answer → AreLines ask input answer
+lines_alike ask read input answer same lines = record {
+  facts = lines.facts;
+  are = subst (λ (r : TextOutcome). AreFacts ask r lines.facts) same lines.are;
+  told = lines.told ∙ ap (λ (r : TextOutcome). record {
+    served = verify_served ask.form r;
+    text = flat_map printed lines.facts;
+  }) same;
+}
+
+answers_alike : (job : Job) (read input : List ℕ) (answer : Answer) → readable read ≡ readable input
+    → Answers job read answer → Answers job input answer
+answers_alike (Serve mode) read input answer same answers = text_alike (InMode mode) read input answer same answers
+answers_alike (Run form argument plan) read input answer same answers =
+    text_alike (ByPlan form argument plan) read input answer same answers
+answers_alike (Facts ask) read input answer same answers = lines_alike ask read input answer same answers
 
 -- the answer to the bytes that were read is the answer to all that the reader had left
 pub answers_reader : (job : Job) (old new : Option (List ℕ)) (read : List ℕ) (answer : Answer)
@@ -102,43 +180,58 @@ answers_reader job None new read answer same to_end answers = record {
 answers_reader job (Some bytes) new read answer same to_end answers = record {
   input = bytes;
   known = refl;
-  answers = record {
-    outcome = answers.outcome;
-    comes = subst (λ r. OfReadable job r answers.outcome) (ap readable same ∙ reads_enough 3145729 bytes (omega arith))
-        answers.comes;
-    told = answers.told;
-  };
+  answers = answers_alike job read bytes answer (ap readable same ∙ reads_enough 3145729 bytes (omega arith)) answers;
   read = read;
   to_end = to_end;
 }
 
 -- an answer that says what comes of an input answers it
-pub told_answers : {X : Type 0} (view : X → List ℕ) (job : Job) (input : List ℕ) (outcome : Result X AnswerError)
-    (answer : Answer)
-    → SatisfiesUnlessMemory view (OfInput job input) outcome → AnswerTells view outcome answer
-    → Answers job input answer
-told_answers view job input (Ok x) answer comes told = record { outcome = Ok (view x); comes = comes; told = told }
-told_answers view job input (Err (errors.Refused refusal)) answer comes told =
+pub told_answers : {X : Type 0} (view : X → List ℕ) (Comes : List ℕ → TextOutcome → Type 0) (input : List ℕ)
+    (outcome : Result X AnswerError) (answer : Answer)
+    → SatisfiesUnlessMemory view (OfInput Comes input) outcome → AnswerTells view outcome answer
+    → IsText Comes input answer
+told_answers view Comes input (Ok x) answer comes told =
+    record { outcome = Ok (view x); comes = comes; told = told }
+told_answers view Comes input (Err (errors.Refused refusal)) answer comes told =
     record { outcome = refused refusal; comes = comes; told = told }
-told_answers view job input (Err errors.Memory) answer comes told = absurd told
+told_answers view Comes input (Err errors.Memory) answer comes told = absurd told
 
--- what is served once an input was read is served
-pub served_as : {A B : Answer → Type 0} {result : Served} {reads_failed writes_failed : ℕ → Type 0}
-    {before after : Option (List ℕ)}
-    → ((answer : Answer) → A answer → B answer) → reads_failed 0
-    → HowServed A result (λ n. n ≡ 0) writes_failed before after → HowServed B result reads_failed writes_failed before
-    after
-served_as weaker none (Answered answer is zero written) = Answered answer (weaker answer is) none written
-served_as weaker none (Out_of_memory zero written) = Out_of_memory none written
-served_as weaker none (Read_failed device one zero nothing) = absurd (omega (arith, one))
+-- the lines of facts answer the input whose facts they are
+pub lines_answer : (ask : Ask) (input : List ℕ) (facts : List Record) (served : Served) (text : List ℕ)
+    → AreFacts ask (readable input) facts → served ≡ verify_served ask.form (readable input)
+    → text ≡ flat_map printed facts → AreLines ask input (record { served = served; text = text })
+lines_answer ask input facts served text are as_verify lines = record {
+  facts = facts;
+  are = are;
+  told = ap₂ (λ (s : Served) (t : List ℕ). record { served = s; text = t }) as_verify lines;
+}
 
--- what is served is served by the same job under another name
-pub serves_job : {old new : Option (List ℕ)} {result : Served} {reads_failed writes_failed : ℕ → Type 0}
-    {before after : Option (List ℕ)} (job other : Job) → other ≡ job
-    → HowServed (AnswersReader job old new) result reads_failed writes_failed before after
-    → HowServed (AnswersReader other old new) result reads_failed writes_failed before after
-serves_job {old} {new} {result} {reads_failed} {writes_failed} {before} {after} job other is served =
-    subst (λ j. HowServed (AnswersReader j old new) result reads_failed writes_failed before after) (sym is) served
+-- the record where memory ran out
+pub memory_record : codes "{\"record\":\"end\",\"status\":4}\n" ≡ printed (records.End 4)
+unfolding number object_start object_end printed
+memory_record =
+    sym (ap (λ (digits : List ℕ). object (codes "end") (key (codes "status") ++ digits))
+    (decimal_digit 4 (omega arith)))
+
+-- an answer that was made is given
+pub gives_made : (given : Result AnswerGiven AllocError) (made : AnswerGiven) → given ≡ Ok made
+    → Gives given (answer_of made)
+gives_made given made is = subst (λ (g : Result AnswerGiven AllocError). Gives g (answer_of made)) (sym is) refl
+
+-- an answer to a job is one to the same job under another name
+pub answers_job : {E : Type 0} (job other : Job) (input : List ℕ) (given : Result AnswerGiven E) → other ≡ job
+    → IfOk given (λ answer. Answers job input (answer_of answer))
+    → IfOk given (λ answer. Answers other input (answer_of answer))
+answers_job job other input given is answers =
+    subst (λ (j : Job). IfOk given (λ answer. Answers j input (answer_of answer))) (sym is) answers
+
+-- an answer that was made is an answer
+pub given_answers : (job : Job) (read input : List ℕ) (given : Result AnswerGiven AllocError) (answer : Answer)
+    → read ≡ input → IfOk given (λ made. Answers job read (answer_of made)) → Gives given answer
+    → Answers job input answer
+given_answers job read input (Ok made) answer same answers is =
+    subst (λ (bytes : List ℕ). Answers job bytes answer) same (subst (Answers job read) (sym is) answers)
+given_answers job read input (Err error) answer same answers is = absurd is
 
 -- the same text by another name
 pub written_as : {wanted result : Served} {failed : ℕ → Type 0} {before after : Option (List ℕ)} (text other : List ℕ)
@@ -146,3 +239,15 @@ pub written_as : {wanted result : Served} {failed : ℕ → Type 0} {before afte
     → HowWritten text wanted result failed before after → HowWritten other wanted result failed before after
 written_as {wanted} {result} {failed} {before} {after} text other same written =
     subst (λ t. HowWritten t wanted result failed before after) same written
+
+-- what is served once an input was read is served
+pub served_as : {A B : Answer → Type 0} {result : Served} {reads_failed writes_failed : ℕ → Type 0}
+    {before after : Option (List ℕ)} (memory other : List ℕ) → memory ≡ other
+    → ((answer : Answer) → A answer → B answer) → reads_failed 0
+    → HowServed A memory result (λ n. n ≡ 0) writes_failed before after
+    → HowServed B other result reads_failed writes_failed before after
+served_as memory other same weaker none (Answered answer is zero written) =
+    Answered answer (weaker answer is) none written
+served_as memory other same weaker none (Out_of_memory zero written) =
+    Out_of_memory none (written_as memory other same written)
+served_as memory other same weaker none (Read_failed device one zero nothing) = absurd (omega (arith, one))

@@ -8,6 +8,7 @@ use Rattle.bpfspec_serve.specs.declared.program_end.ProgramEnd.{ProgramEnd}
 use Rattle.bpfspec_serve.specs.declared.program_end.ProgramEnd.TheVariants as ends
 use Rattle.bpfspec_serve.specs.declared.serving.Served.{Served}
 use Rattle.bpfspec_serve.specs.declared.serving.Served.TheVariants as served
+use Rattle.bpfspec_serve.specs.Answering.{memory_text}
 use Rattle.bpfspec_serve.specs.HowServed.{HowServed, HowWritten}
 use Rattle.bpfspec_serve.specs.Output.{Answer}
 use Rattle.bpfspec_output.specs.Refusals.{memory_line}
@@ -17,7 +18,8 @@ use Rattle.bpfspec_output.specs.Refusals.{memory_line}
 pub data HowRan (Is_answer : Job → Answer → Type 0) (end : ProgramEnd) (reads_failed writes_failed : ℕ → Type 0)
     (before after : Option (List ℕ)) : Type 0 where
   Serves : (words : List (List ℕ)) (request : Request) (result : Served) → WordsAskFor words request
-      → end ≡ ends.Served result → HowServed (Is_answer request.job) result reads_failed writes_failed before after
+      → end ≡ ends.Served result
+      → HowServed (Is_answer request.job) (memory_text request.job) result reads_failed writes_failed before after
       → HowRan Is_answer end reads_failed writes_failed before after
   Helps : (words : List (List ℕ)) (text : List ℕ) (result : Served) → AsksForHelp bpfspec_app words
       → end ≡ ends.Served result → HowWritten text served.Done result writes_failed before after

@@ -4,8 +4,8 @@ use Rattle.std.specs.Io.KnownBytes.{Appends}
 use Rattle.bpfspec_command_line.specs.declared.job.Job.{Job}
 use Rattle.bpfspec_serve.specs.declared.serving.Served.{Served}
 use Rattle.bpfspec_serve.specs.declared.serving.Served.TheVariants as served
-use Rattle.bpfspec_serve.specs.Output.{Answer, Answers}
-use Rattle.bpfspec_output.specs.Refusals.{memory_line}
+use Rattle.bpfspec_serve.specs.Answering.{Answers}
+use Rattle.bpfspec_serve.specs.Output.{Answer}
 use Rattle.bpfspec_streams.specs.Streams.{AppendsBeginning, ReadsToEnd}
 
 -- the answer to what a reader had left, where that is known, and else to some input; of which no more than one byte
@@ -26,14 +26,13 @@ pub data HowWritten (text : List ℕ) (wanted result : Served) (writes_failed : 
   Broke_off : result ≡ served.Device → writes_failed 1 → AppendsBeginning before after text
       → HowWritten text wanted result writes_failed before after
 
--- an answer was written, or the line that memory ran out; or a read failed, and nothing was
-pub data HowServed (Is_answer : Answer → Type 0) (result : Served) (reads_failed writes_failed : ℕ → Type 0)
-    (before after : Option (List ℕ)) : Type 0 where
+-- an answer was written, or the text that memory ran out; or a read failed, and nothing was
+pub data HowServed (Is_answer : Answer → Type 0) (memory : List ℕ) (result : Served)
+    (reads_failed writes_failed : ℕ → Type 0) (before after : Option (List ℕ)) : Type 0 where
   Answered : (answer : Answer) → Is_answer answer → reads_failed 0
-      → HowWritten answer.text answer.served result writes_failed before after → HowServed Is_answer result reads_failed
-      writes_failed before after
-  Out_of_memory : reads_failed 0
-      → HowWritten memory_line served.Memory result writes_failed before after → HowServed Is_answer result reads_failed
-      writes_failed before after
-  Read_failed : result ≡ served.Device → reads_failed 1 → writes_failed 0
-      → Appends before after [] → HowServed Is_answer result reads_failed writes_failed before after
+      → HowWritten answer.text answer.served result writes_failed before after
+      → HowServed Is_answer memory result reads_failed writes_failed before after
+  Out_of_memory : reads_failed 0 → HowWritten memory served.Memory result writes_failed before after
+      → HowServed Is_answer memory result reads_failed writes_failed before after
+  Read_failed : result ≡ served.Device → reads_failed 1 → writes_failed 0 → Appends before after []
+      → HowServed Is_answer memory result reads_failed writes_failed before after

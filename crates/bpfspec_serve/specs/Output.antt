@@ -24,13 +24,12 @@ use Rattle.bpf_step_model.specs.Run.{BoundedResult, Ended}
 use Rattle.loop_core_model.specs.declared.loop_test.Test.{Test}
 use Rattle.loop_core_model.specs.Report.{Reported, report, report_in_order}
 use Rattle.loop_core_event.specs.declared.event.Event.{Event}
+use Rattle.spec_run_replay.specs.declared.replaying.Replayed.{Replayed}
 use Rattle.spec_run_replay.specs.declared.replaying.ReplayRefusal.{ReplayRefusal}
 use Rattle.spec_run_replay.specs.declared.replaying.ReplayRefusal.TheVariants as replays
 use Rattle.spec_run_replay.specs.ProgramReplay.{LoopReplay, ReplaysFrom}
 use Rattle.spec_run_plan.specs.declared.plan.Plan.{Plan}
 use Rattle.spec_run_plan.specs.Plans.{IsPlan}
-use Rattle.bpfspec_command_line.specs.declared.job.Job.{Job}
-use Rattle.bpfspec_command_line.specs.declared.job.Job.TheVariants.{Serve, Run}
 use Rattle.bpfspec_command_line.specs.declared.job.Mode.{Mode}
 use Rattle.bpfspec_command_line.specs.declared.job.Mode.TheVariants.{Verify, Order, Replay, Asm, Disasm}
 use Rattle.bpfspec_command_line.specs.declared.job.UnitForm.{UnitForm}
@@ -113,10 +112,14 @@ abbrev pub unless_rule_broken : Program → Option BrokenRule → Result Program
 unless_rule_broken program None = Ok program
 unless_rule_broken program (Some fault) = refused (refusals.Rule fault.rule fault.slot)
 
+-- the program of a unit, if it breaks no rule
+unfoldable pub judged : Program → Result Program AnswerError
+judged unit = unless_rule_broken unit (first_fault unit)
+
 -- a section's program, where it is accepted
 abbrev pub accepted : Result Program AnswerError → Result Program AnswerError
 accepted (Err error) = Err error
-accepted (Ok program) = unless_rule_broken program (first_fault program)
+accepted (Ok unit) = judged unit
 
 -- the answer on an accepted program lists its functions
 abbrev pub verified : Result Program AnswerError → TextOutcome
@@ -172,20 +175,36 @@ replay_refusal replays.NoLoop = refusals.NoLoop
 replay_refusal (replays.Split fault) = refusals.Split fault
 replay_refusal (replays.Schedule fault) = refusals.Schedule fault
 
--- the line of the loop that was replayed and the maps of these sizes after it, or the replay's refusal
-abbrev pub replay_outcome : List ℕ → Result LoopReplay ReplayRefusal → TextOutcome
-replay_outcome sizes (Ok loop) = Ok (replay_text sizes loop.number loop.told loop.words)
-replay_outcome sizes (Err refusal) = refused (replay_refusal refusal)
+-- what comes of a replay, or its refusal
+abbrev pub or_refusal : Result LoopReplay ReplayRefusal → Result LoopReplay AnswerError
+or_refusal (Ok replayed) = Ok replayed
+or_refusal (Err refusal) = refused (replay_refusal refusal)
+
+-- a loop that was replayed, as what comes of it
+abbrev pub loop_replay : Replayed → LoopReplay
+loop_replay r = record { number = r.number; told = r.told; words = r.maps.words }
 
 -- a program runs in order from its start words up to its first valid loop call, which is replayed with bounds and
--- events, and what comes of it is printed
+-- events
+abbrev pub IsReplayed : Test → Program → (argument : ℕ) → (words : List ℕ) → (schedule : List ℕ × List Event)
+    → Result LoopReplay AnswerError → Type 0
+IsReplayed test program argument words schedule replayed =
+    (comes : Result LoopReplay ReplayRefusal) × ReplaysFrom test program argument words schedule.0 schedule.1 comes
+    × (replayed ≡ or_refusal comes)
+
+-- the line of the loop that was replayed and the maps of these sizes after it, or the replay's refusal
+abbrev pub replay_outcome : List ℕ → Result LoopReplay AnswerError → TextOutcome
+replay_outcome sizes (Ok loop) = Ok (replay_text sizes loop.number loop.told loop.words)
+replay_outcome sizes (Err error) = Err error
+
+-- what comes of that is printed
 abbrev pub ReplaysTo : Program → ℕ → Test → TextOutcome → Result (List ℕ × List Event) AnswerError → TextOutcome
     → Type 0
 ReplaysTo program argument test (Err error) schedule outcome = outcome ≡ Err error
 ReplaysTo program argument test (Ok words) (Err error) outcome = outcome ≡ Err error
 ReplaysTo program argument test (Ok words) (Ok schedule) outcome =
-    (comes : Result LoopReplay ReplayRefusal) × ReplaysFrom test program argument words schedule.0 schedule.1 comes
-    × (outcome ≡ replay_outcome program.sizes comes)
+    (replayed : Result LoopReplay AnswerError) × IsReplayed test program argument words schedule replayed
+    × (outcome ≡ replay_outcome program.sizes replayed)
 
 -- an accepted program is replayed on the maps of a section with the events of another
 abbrev pub OfReplay : Result Program AnswerError → ℕ → Test → (maps events : List ℕ) → TextOutcome → Type 0
@@ -211,16 +230,19 @@ InMode (Verify form) input outcome = outcome ≡ verified (accepted (unit_progra
 InMode Asm input outcome = outcome ≡ written Hex (unit_program Assembler (unit_section input))
 InMode Disasm input outcome = outcome ≡ written Assembler (unit_program Hex (unit_section input))
 
--- what comes of an input that can be read
-abbrev pub OfReadable : Job → TextOutcome → TextOutcome → Type 0
-OfReadable job (Err error) outcome = outcome ≡ Err error
-OfReadable (Serve mode) (Ok input) outcome = InMode mode input outcome
-OfReadable (Run form argument plan) (Ok input) outcome = OfRun (accepted (unit_program form (unit_section input)))
-    argument plan (maps_section input) outcome
+-- what comes of an input whose program runs by a plan
+abbrev pub ByPlan : UnitForm → ℕ → Plan → List ℕ → TextOutcome → Type 0
+ByPlan form argument plan input outcome =
+    OfRun (accepted (unit_program form (unit_section input))) argument plan (maps_section input) outcome
+
+-- what comes of an input, if it can be read
+abbrev pub OfReadable : (Comes : List ℕ → TextOutcome → Type 0) → TextOutcome → TextOutcome → Type 0
+OfReadable Comes (Err error) outcome = outcome ≡ Err error
+OfReadable Comes (Ok input) outcome = Comes input outcome
 
 -- what comes of an input
-abbrev pub OfInput : Job → List ℕ → TextOutcome → Type 0
-OfInput job input outcome = OfReadable job (readable input) outcome
+abbrev pub OfInput : (Comes : List ℕ → TextOutcome → Type 0) → List ℕ → TextOutcome → Type 0
+OfInput Comes input outcome = OfReadable Comes (readable input) outcome
 
 -- an answer: its text, and how it is served
 pub record Answer : Type 0 where
@@ -237,12 +259,6 @@ abbrev pub text_answer : TextOutcome → Answer
 text_answer (Ok text) = record { served = served.Done; text = text }
 text_answer (Err (errors.Refused refusal)) = record { served = refused_as refusal; text = refusal_line refusal }
 text_answer (Err errors.Memory) = record { served = served.Memory; text = memory_line }
-
--- the answer to an input
-pub record Answers (job : Job) (input : List ℕ) (answer : Answer) : Type 0 where
-  pub outcome : TextOutcome
-  pub comes : OfInput job input outcome
-  pub told : answer ≡ text_answer outcome
 
 -- what a function returns, seen by view, is as wanted, or memory ran out
 abbrev pub SatisfiesUnlessMemory : {X Y : Type 0} → (X → Y) → (Result Y AnswerError → Type 0) → Result X AnswerError

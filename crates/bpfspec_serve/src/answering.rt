@@ -3,10 +3,10 @@
 ghost use Rattle.std.specs.Prelude.{◌≡◌, ◌<◌, ◌≤◌, IfOk, Ok, length};
 ghost use Rattle.bpf_insn_types.specs.Program.{callback_starts};
 ghost use Rattle.std.specs.String.{string_bytes};
-ghost use Rattle.bpfspec_command_line.specs.declared.job.Job.TheVariants.{Serve, Run};
 ghost use Rattle.bpfspec_command_line.specs.declared.job.Mode.TheVariants.{Order, Replay};
-ghost use Rattle.bpfspec_serve.specs.Output.{unit_program, function_numbered, functions_of, replay_refusal};
-ghost use Rattle.bpfspec_serve.specs.Output.{PrintsReportInOrder, PrintsReportByPlan, ReplaysTo, InMode, OfReadable};
+ghost use Rattle.bpfspec_serve.specs.Output.{unit_program, function_numbered, functions_of, loop_replay};
+ghost use Rattle.bpfspec_serve.specs.Output.{IsReplayed, replay_refusal};
+ghost use Rattle.bpfspec_serve.specs.Output.{PrintsReportInOrder, PrintsReportByPlan, ReplaysTo, InMode, ByPlan};
 ghost use Rattle.bpfspec_serve.specs.Output.{OfInput, SatisfiesUnlessMemory, written, accepted, verified};
 ghost use Rattle.bpfspec_serve.specs.Sections.{unit_section};
 
@@ -22,7 +22,7 @@ use bpfspec_output::{Function, Refusal, print_accepted, print_replay, print_repo
 use loop_core_event::Event;
 use loop_core_split::Gate;
 use spec_run::{Observer, RunError, run_in_order, run_observed};
-use spec_run_replay::{NoReplay, ReplayRefusal, replay};
+use spec_run_replay::{NoReplay, ReplayRefusal, Replayed, replay};
 use std::alloc::{AllocError, Global};
 use std::thread::Threads;
 
@@ -93,7 +93,7 @@ fn run_program<R: Threads + Sync, G: Gate, O: Observer>(
     observer: &mut O,
     input: &str,
 ) -> Result<String, AnswerError>
-    ensures { SatisfiesUnlessMemory string_bytes (OfReadable (Run form argument plan.now) (Ok input.now)) result }
+    ensures { SatisfiesUnlessMemory string_bytes (ByPlan form argument plan.now input.now) result }
 {
     let unit = part(input);
     let maps = part(unit.rest);
@@ -113,8 +113,29 @@ fn replay_refusal(refusal: ReplayRefusal) -> Refusal
     }
 }
 
-/// What comes of a program whose first valid loop call is replayed with these bounds and events, on these
-/// maps, which are of its sizes.
+/// Replays the first valid loop call of a program with these bounds and events, on these maps, which are of its sizes.
+pub(crate) fn replay_with(
+    alloc: Global,
+    program: &Verified,
+    maps: Maps,
+    argument: u64,
+    schedule: (Vec<u32>, Vec<Event>),
+    test: Test,
+) -> Result<Replayed, AnswerError>
+    requires sizes { maps.sizes ≡ program.now.sizes }
+    ensures replayed { SatisfiesUnlessMemory loop_replay (IsReplayed test program.now argument maps.words
+        (schedule.0.items, schedule.1.items)) result }
+    ensures sizes { IfOk result (λ replayed. replayed.maps.sizes ≡ program.now.sizes) }
+{
+    let (bounds, events) = schedule;
+    match replay(alloc, program, maps, argument, bounds, &events, test) {
+        Ok(replayed) => Ok(replayed),
+        Err(NoReplay::Refused(refusal)) => Err(AnswerError::Refused(replay_refusal(refusal))),
+        Err(NoReplay::Memory) => Err(AnswerError::Memory),
+    }
+}
+
+/// What is printed of that.
 fn replay_on(
     alloc: Global,
     program: &Verified,
@@ -127,11 +148,9 @@ fn replay_on(
     ensures { SatisfiesUnlessMemory string_bytes (ReplaysTo program.now argument test (Ok maps.words)
         (Ok (schedule.0.items, schedule.1.items))) result }
 {
-    let (bounds, events) = schedule;
-    match replay(alloc, program, maps, argument, bounds, &events, test) {
+    match replay_with(alloc, program, maps, argument, schedule, test) {
         Ok(replayed) => Ok(print_replay(alloc, replayed.number, &replayed.told, &replayed.maps)?),
-        Err(NoReplay::Refused(refusal)) => Err(AnswerError::Refused(replay_refusal(refusal))),
-        Err(NoReplay::Memory) => Err(AnswerError::Memory),
+        Err(error) => Err(error),
     }
 }
 
@@ -182,7 +201,7 @@ fn translate(
 }
 
 /// A function of an accepted program, whose number is at most the program's `callbacks()`.
-fn function_of(program: &Verified, number: u32) -> Function
+pub(crate) fn function_of(program: &Verified, number: u32) -> Function
     requires { number ≤ length (callback_starts program.now.insns) }
     ensures { result ≡ function_numbered program.now.insns number }
 {
@@ -215,7 +234,7 @@ fn judge(alloc: Global, form: UnitForm, input: &str) -> Result<String, AnswerErr
 
 /// What comes of an input in a mode.
 pub(crate) fn outcome(alloc: Global, mode: &Mode, input: &[u8]) -> Result<String, AnswerError>
-    ensures { SatisfiesUnlessMemory string_bytes (OfInput (Serve mode.now) input.now) result }
+    ensures { SatisfiesUnlessMemory string_bytes (OfInput (InMode mode.now) input.now) result }
 {
     let text = readable(input)?;
     match mode {
@@ -238,7 +257,7 @@ pub(crate) fn run_outcome<R: Threads + Sync, G: Gate, O: Observer>(
     observer: &mut O,
     input: &[u8],
 ) -> Result<String, AnswerError>
-    ensures { SatisfiesUnlessMemory string_bytes (OfInput (Run form argument plan.now) input.now) result }
+    ensures { SatisfiesUnlessMemory string_bytes (OfInput (ByPlan form argument plan.now) input.now) result }
 {
     let input = readable(input)?;
     run_program(rt, alloc, form, argument, plan, gate, observer, input)

@@ -3,14 +3,15 @@
 //! ```text
 //! let mut input = Counted::new(b"maps 1\nmov64 r0, 7\nexit\n".as_slice());
 //! let mut output = Counted::new(Vec::new(alloc));
-//! let mode = Mode::Verify { form: UnitForm::Assembler };
-//! let served = serve(alloc, &mode, &mut input, &mut output);      // Served::Done
+//! let job = Job::Serve(Mode::Verify { form: UnitForm::Assembler });
+//! let served = serve(&rt, alloc, &job, &NoGate, &mut Unobserved, &mut input, &mut output);    // Served::Done
 //! output.into_inner()                                             // "accepted\nfunction 0 at 0 count 2\n"
 //! ```
 #![tactic(auto)]
 
 mod answer_error;
 mod answering;
+mod facts;
 mod program;
 mod program_end;
 mod reading;
@@ -19,7 +20,7 @@ mod serving;
 mod stats_text;
 
 pub use bpfspec_command_line::{
-    Job, LineFault, Mode, Plan, Request, Test, UnitForm, read_command_line, read_words,
+    Ask, Job, LineFault, Mode, Plan, Request, Test, UnitForm, read_command_line, read_words,
 };
 pub use bpfspec_streams::{
     Counted, DeviceFault, ReadAllError, Sink, Source, read_all, read_outcome, write_all,
@@ -30,5 +31,5 @@ pub use program::run;
 pub use program_end::{ProgramEnd, exit_status};
 pub use reading::MAX_READ;
 pub use sections::{Parted, part};
-pub use serving::{Answer, Served, answer_input, serve, serve_run, write};
+pub use serving::{Answer, Served, answer_facts, answer_input, serve, write};
 pub use spec_run::{Observer, Stats, Unobserved};

@@ -1,47 +1,23 @@
 //! The program, from the words of its command line to its exit status.
 
 ghost use Rattle.std.specs.Prelude.{◌≡◌, ◌+◌, ◌-◌, ◌^◌, ◌<◌};
+ghost use Rattle.bpfspec_serve.specs.Answering.{memory_text};
 ghost use Rattle.bpfspec_serve.specs.ExitStatus.{exit_status};
 ghost use Rattle.bpfspec_serve.specs.HowRan.{HowRan};
 ghost use Rattle.bpfspec_serve.specs.HowServed.{AnswersReader, HowServed};
 
 use crate::program_end::{ProgramEnd, exit_status};
-use crate::serving::{Served, serve, serve_run, write};
+use crate::serving::{Served, serve, write};
 use crate::stats_text::print_stats;
-use bpfspec_command_line::{Job, LineFault, Request, read_command_line};
+use bpfspec_command_line::{LineFault, Request, read_command_line};
 use bpfspec_output::MEMORY_LINE;
 use bpfspec_streams::{Sink, Source, write_all};
 use loop_core_split::NoGate;
-use spec_run::{Observer, Stats, Unobserved};
+use spec_run::{Stats, Unobserved};
 use std::alloc::Global;
 use std::env::Env;
 use std::thread::Threads;
 use std::time::Clock;
-
-/// Serves an input as a job asks, and notifies an observer of a run.
-fn serve_job<R: AllocGlobal + Threads + Sync, O: Observer, S: Source, W: Sink>(
-    rt: &R,
-    job: &Job,
-    observer: &mut O,
-    input: &mut S,
-    output: &mut W,
-) -> Served
-    requires reads { S.failed input.old < 2 ^ 64 - 1 }
-    requires writes { W.failed output.old < 2 ^ 64 - 1 }
-    ensures { HowServed (AnswersReader job.now (S.left input.old) (S.left input.new)) result
-        (λ n. S.failed input.new ≡ S.failed input.old + n) (λ n. W.failed output.new ≡ W.failed output.old + n)
-        (W.taken output.old) (W.taken output.new) }
-{
-    let alloc = rt.alloc();
-    match job {
-        Job::Serve(mode) => serve(alloc, mode, input, output),
-        Job::Run { form, arg, plan } => {
-            serve_run(
-                rt, alloc, *form, *arg, plan, &NoGate, observer, input, output,
-            )
-        }
-    }
-}
 
 /// Writes to `messages` how the loops of a run went. Where there is no memory for it, nothing is written.
 fn tell_stats<C: Clock, M: Sink>(alloc: Global, stats: &Stats<'_, C>, messages: &mut M)
@@ -64,17 +40,27 @@ fn serve_request<R: AllocGlobal + Threads + Sync + Clock, S: Source, W: Sink, M:
     requires reads { S.failed input.old < 2 ^ 64 - 1 }
     requires writes { W.failed output.old < 2 ^ 64 - 1 }
     requires tells { M.failed messages.old < 2 ^ 64 - 1 }
-    ensures { HowServed (AnswersReader request.now.job (S.left input.old) (S.left input.new)) result
+    ensures { HowServed (AnswersReader request.now.job (S.left input.old) (S.left input.new))
+        (memory_text request.now.job) result
         (λ n. S.failed input.new ≡ S.failed input.old + n) (λ n. W.failed output.new ≡ W.failed output.old + n)
         (W.taken output.old) (W.taken output.new) }
 {
+    let alloc = rt.alloc();
     if !request.stats {
-        return serve_job(rt, &request.job, &mut Unobserved, input, output);
+        return serve(
+            rt,
+            alloc,
+            &request.job,
+            &NoGate,
+            &mut Unobserved,
+            input,
+            output,
+        );
     }
-    let mut stats = Stats::new(rt.alloc(), rt);
-    let served = serve_job(rt, &request.job, &mut stats, input, output);
+    let mut stats = Stats::new(alloc, rt);
+    let served = serve(rt, alloc, &request.job, &NoGate, &mut stats, input, output);
     if served == Served::Done {
-        tell_stats(rt.alloc(), &stats, messages);
+        tell_stats(alloc, &stats, messages);
     }
     served
 }

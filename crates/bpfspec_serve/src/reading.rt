@@ -6,7 +6,7 @@ ghost use Rattle.bpf_text.specs.EventsText.{events_text};
 ghost use Rattle.bpfspec_output.specs.declared.refusal.Refusal.TheVariants.{Text};
 ghost use Rattle.bpfspec_serve.specs.declared.answer_error.AnswerError.TheVariants.{Refused};
 ghost use Rattle.bpfspec_serve.specs.Output.{text_error, codec_error, readable, unit_program, fitting};
-ghost use Rattle.bpfspec_serve.specs.Output.{maps_start_words, in_section, SatisfiesUnlessMemory, accepted};
+ghost use Rattle.bpfspec_serve.specs.Output.{maps_start_words, in_section, SatisfiesUnlessMemory, accepted, judged};
 
 use crate::answer_error::AnswerError;
 use array_maps::{Maps, MapsError};
@@ -105,12 +105,10 @@ pub(crate) fn read_unit(alloc: Global, form: UnitForm, section: &str) -> Result<
     }
 }
 
-/// The accepted program of a section.
-pub(crate) fn accept(alloc: Global, form: UnitForm, section: &str) -> Result<Verified, AnswerError>
-    ensures { SatisfiesUnlessMemory (λ program. program) (λ outcome. outcome ≡ accepted (unit_program form section.now))
-        result }
+/// The accepted program of a unit.
+pub(crate) fn accept_unit(alloc: Global, unit: Unit) -> Result<Verified, AnswerError>
+    ensures { SatisfiesUnlessMemory (λ program. program) (λ outcome. outcome ≡ judged unit) result }
 {
-    let unit = read_unit(alloc, form, section)?;
     match verify(alloc, unit) {
         Ok(program) => Ok(program),
         Err(VerifyError::Refused { rule, slot }) => {
@@ -118,6 +116,14 @@ pub(crate) fn accept(alloc: Global, form: UnitForm, section: &str) -> Result<Ver
         }
         Err(VerifyError::Memory) => Err(AnswerError::Memory),
     }
+}
+
+/// The accepted program of a section.
+pub(crate) fn accept(alloc: Global, form: UnitForm, section: &str) -> Result<Verified, AnswerError>
+    ensures { SatisfiesUnlessMemory (λ program. program) (λ outcome. outcome ≡ accepted (unit_program form section.now))
+        result }
+{
+    accept_unit(alloc, read_unit(alloc, form, section)?)
 }
 
 /// Maps of a program that are all zero.

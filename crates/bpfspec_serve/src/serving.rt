@@ -2,16 +2,19 @@
 
 ghost use Rattle.std.specs.Prelude.{◌≡◌, ◌+◌, ◌-◌, ◌^◌, ◌<◌, IfOk};
 ghost use Rattle.std.specs.String.{string_bytes};
-ghost use Rattle.bpfspec_command_line.specs.declared.job.Job.TheVariants.{Serve, Run};
+ghost use Rattle.bpfspec_command_line.specs.declared.job.Job.TheVariants.{Serve, Facts as AsksForFacts};
+ghost use Rattle.bpfspec_serve.specs.Answering.{Answers, answer_of, memory_text, Gives};
 ghost use Rattle.bpfspec_serve.specs.HowServed.{AnswersReader, HowWritten, HowServed};
-ghost use Rattle.bpfspec_serve.specs.Output.{refused_as, AnswerTells, Answers};
+ghost use Rattle.bpfspec_serve.specs.Output.{refused_as, AnswerTells};
 ghost use Rattle.bpfspec_streams.specs.Streams.{ConsumesAtMost};
 
 use crate::answer_error::AnswerError;
 use crate::answering::{outcome, run_outcome};
+use crate::facts::facts_of;
 use crate::reading::MAX_READ;
-use bpfspec_command_line::{Mode, Plan, UnitForm};
+use bpfspec_command_line::{Ask, Job, Mode};
 use bpfspec_output::{MEMORY_LINE, Refusal, print_refusal};
+use bpfspec_records::print_records;
 use bpfspec_streams::{ReadAllError, Sink, Source, read_all, write_all};
 use loop_core_split::Gate;
 use spec_run::Observer;
@@ -43,7 +46,7 @@ pub struct Answer {
 }
 
 /// How a refusal is served.
-fn refused_as(refusal: Refusal) -> Served
+pub(crate) fn refused_as(refusal: Refusal) -> Served
     ensures { result ≡ refused_as refusal }
 {
     match refusal {
@@ -54,10 +57,7 @@ fn refused_as(refusal: Refusal) -> Served
 
 /// The answer that says what came of an input.
 fn answer_to(alloc: Global, outcome: Result<String, AnswerError>) -> Result<Answer, AllocError>
-    ensures { IfOk result (λ answer. AnswerTells string_bytes outcome (record {
-      served = answer.served;
-      text = string_bytes answer.text;
-    })) }
+    ensures { IfOk result (λ answer. AnswerTells string_bytes outcome (answer_of answer)) }
 {
     match outcome {
         Ok(text) => Ok(Answer {
@@ -74,12 +74,54 @@ fn answer_to(alloc: Global, outcome: Result<String, AnswerError>) -> Result<Answ
 
 /// The answer to an input in a mode. Memory may run out.
 pub fn answer_input(alloc: Global, mode: &Mode, input: &[u8]) -> Result<Answer, AllocError>
-    ensures { IfOk result (λ answer. Answers (Serve mode.now) input.now (record {
-      served = answer.served;
-      text = string_bytes answer.text;
-    })) }
+    ensures { IfOk result (λ answer. Answers (Serve mode.now) input.now (answer_of answer)) }
 {
     answer_to(alloc, outcome(alloc, mode, input))
+}
+
+/// The answer to an input that is asked for its facts: a line for each. Memory may run out.
+pub fn answer_facts(alloc: Global, ask: &Ask, input: &[u8]) -> Result<Answer, AllocError>
+    ensures { IfOk result (λ answer. Answers (AsksForFacts ask.now) input.now (answer_of answer)) }
+{
+    let facts = facts_of(alloc, ask, input)?;
+    Ok(Answer {
+        served: facts.served,
+        text: print_records(alloc, &facts.records)?,
+    })
+}
+
+/// The answer to an input, as a job asks. Memory may run out.
+fn answer_job<T: Threads + Sync, G: Gate, O: Observer>(
+    rt: &T,
+    alloc: Global,
+    job: &Job,
+    gate: &G,
+    observer: &mut O,
+    input: &[u8],
+) -> Result<Answer, AllocError>
+    ensures { IfOk result (λ answer. Answers job.now input.now (answer_of answer)) }
+{
+    match job {
+        Job::Serve(mode) => answer_input(alloc, mode, input),
+        Job::Run { form, arg, plan } => {
+            let ran = run_outcome(rt, alloc, *form, *arg, plan, gate, observer, input);
+            answer_to(alloc, ran)
+        }
+        Job::Facts(ask) => answer_facts(alloc, ask, input),
+    }
+}
+
+/// The record where memory ran out.
+const MEMORY_RECORD: &[u8] = b"{\"record\":\"end\",\"status\":4}\n";
+
+/// What is written where there is no memory for a job.
+fn memory_text(job: &Job) -> &'static [u8]
+    ensures { result.now ≡ memory_text job.now }
+{
+    match job {
+        Job::Serve(_) | Job::Run { .. } => MEMORY_LINE,
+        Job::Facts(_) => MEMORY_RECORD,
+    }
 }
 
 /// Writes a text, and returns how it was served: as wanted, unless a write failed.
@@ -94,51 +136,31 @@ pub fn write<W: Sink>(sink: &mut W, text: &[u8], wanted: Served) -> Served
     }
 }
 
-/// Writes what came of an input, or that memory ran out.
-fn tell<W: Sink>(alloc: Global, outcome: Result<String, AnswerError>, sink: &mut W) -> Served
+/// Writes an answer, or where there is none this text, that memory ran out.
+fn write_answer<W: Sink>(given: Result<Answer, AllocError>, memory: &[u8], sink: &mut W) -> Served
     requires { W.failed sink.old < 2 ^ 64 - 1 }
-    ensures { HowServed (AnswerTells string_bytes outcome) result (λ n. n ≡ 0) (λ n. W.failed sink.new
+    ensures { HowServed (Gives given) memory.now result (λ n. n ≡ 0) (λ n. W.failed sink.new
         ≡ W.failed sink.old + n)
         (W.taken sink.old) (W.taken sink.new) }
 {
-    match answer_to(alloc, outcome) {
+    match given {
         Ok(answer) => write(sink, answer.text.as_bytes(), answer.served),
-        Err(_) => write(sink, MEMORY_LINE, Served::Memory),
+        Err(_) => write(sink, memory, Served::Memory),
     }
 }
 
-/// Reads an input to its end, at most 3,145,729 bytes, answers it, and writes the answer. The answer
-/// is whole before its first byte is written.
+/// Reads an input to its end, at most 3,145,729 bytes, answers it as a job asks, and writes the answer. The answer is
+/// whole before its first byte is written.
+///
+/// The workers of a run pass the gate, and run in threads that it waits for. Whatever they do when, the answer is the
+/// report of the program in order, with the verdicts of the plan's test; or a refusal, P2 where the plan isn't within
+/// its limits. The observer is notified of the program and its loop calls, and changes nothing.
 ///
 /// The source's and the sink's `failures` have to be below 2^64 - 1.
-pub fn serve<R: Source, W: Sink>(alloc: Global, mode: &Mode, source: &mut R, sink: &mut W) -> Served
-    requires reads { R.failed source.old < 2 ^ 64 - 1 }
-    requires writes { W.failed sink.old < 2 ^ 64 - 1 }
-    ensures taken { ConsumesAtMost (R.left source.old) (R.left source.new) 3145729 }
-    ensures answer { HowServed (AnswersReader (Serve mode.now) (R.left source.old) (R.left source.new)) result
-        (λ n. R.failed source.new ≡ R.failed source.old + n) (λ n. W.failed sink.new ≡ W.failed sink.old + n)
-        (W.taken sink.old) (W.taken sink.new) }
-{
-    match read_all(alloc, source, MAX_READ) {
-        Ok(input) => tell(alloc, outcome(alloc, mode, &input), sink),
-        Err(ReadAllError::Device) => Served::Device,
-        Err(ReadAllError::Memory) => write(sink, MEMORY_LINE, Served::Memory),
-    }
-}
-
-/// Does the same for an input whose unit is of this form and runs with this argument, its loops by this
-/// plan: its workers pass the gate, and run in threads that it waits for. Whatever they do when, the answer
-/// is the report of the program in order, with the verdicts of the plan's test; or a refusal, P2 where the
-/// plan isn't within its limits. The observer is notified of the program and its loop calls, and changes
-/// nothing.
-///
-/// The source's and the sink's `failures` have to be below 2^64 - 1.
-pub fn serve_run<T: Threads + Sync, G: Gate, O: Observer, R: Source, W: Sink>(
+pub fn serve<T: Threads + Sync, G: Gate, O: Observer, R: Source, W: Sink>(
     rt: &T,
     alloc: Global,
-    form: UnitForm,
-    arg: u64,
-    plan: &Plan,
+    job: &Job,
     gate: &G,
     observer: &mut O,
     source: &mut R,
@@ -147,17 +169,16 @@ pub fn serve_run<T: Threads + Sync, G: Gate, O: Observer, R: Source, W: Sink>(
     requires reads { R.failed source.old < 2 ^ 64 - 1 }
     requires writes { W.failed sink.old < 2 ^ 64 - 1 }
     ensures taken { ConsumesAtMost (R.left source.old) (R.left source.new) 3145729 }
-    ensures answer { HowServed (AnswersReader (Run form arg plan.now) (R.left source.old) (R.left source.new)) result
-        (λ n. R.failed source.new ≡ R.failed source.old + n) (λ n. W.failed sink.new ≡ W.failed sink.old + n)
-        (W.taken sink.old) (W.taken sink.new) }
+    ensures answer { HowServed (AnswersReader job.now (R.left source.old) (R.left source.new)) (memory_text job.now)
+        result (λ n. R.failed source.new ≡ R.failed source.old + n)
+        (λ n. W.failed sink.new ≡ W.failed sink.old + n) (W.taken sink.old) (W.taken sink.new) }
 {
     match read_all(alloc, source, MAX_READ) {
-        Ok(input) => tell(
-            alloc,
-            run_outcome(rt, alloc, form, arg, plan, gate, observer, &input),
-            sink,
-        ),
+        Ok(input) => {
+            let answer = answer_job(rt, alloc, job, gate, observer, &input);
+            write_answer(answer, memory_text(job), sink)
+        }
         Err(ReadAllError::Device) => Served::Device,
-        Err(ReadAllError::Memory) => write(sink, MEMORY_LINE, Served::Memory),
+        Err(ReadAllError::Memory) => write(sink, memory_text(job), Served::Memory),
     }
 }

@@ -38,7 +38,8 @@ abbrev pub indices : List Row → List ℕ
 indices rows = map (λ (row : Row). row.index) rows
 
 -- a grid of two spans of a loop call's iterations on these words, around a focus: its columns are the elements that are
--- shown of those that the iterations access, its rows are the iterations, and each row has its iteration's cells
+-- shown of those that the iterations access, its rows are the iterations, and each row has its iteration's cells; and
+-- these are its spans
 pub record ShowsSpans (program : Program) (call : LoopCall) (words : List ℕ) (lower upper : Span)
     (focus : Option Focus) (grid : Grid) : Type 0 where
   pub accessed : List ℕ
@@ -46,6 +47,8 @@ pub record ShowsSpans (program : Program) (call : LoopCall) (words : List ℕ) (
   pub columns : grid.elements.items ≡ shown_elements focus accessed
   pub iterations : indices grid.rows.items ≡ indices_of lower ++ indices_of upper
   pub rows : AreRows program call words grid.elements.items grid.rows.items
+  pub lower_is : grid.lower ≡ lower
+  pub upper_is : grid.upper ≡ upper
 
 -- so is a grid of the first `count` iterations, or of all, of which at most 64 are shown
 abbrev pub IsGrid : Program → LoopCall → List ℕ → (count : ℕ) → Option Focus → Grid → Type 0

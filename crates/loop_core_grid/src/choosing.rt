@@ -10,11 +10,13 @@ use std::alloc::{AllocError, Global};
 /// The most rows, and the most columns.
 const MOST: u32 = 64;
 
-/// Iterations that follow on one another, from an index up to another.
+/// Iterations that follow on one another.
 #[derive(Clone, Copy, Debug)]
-pub(crate) struct Span {
-    pub(crate) from: u32,
-    pub(crate) past: u32,
+pub struct Span {
+    /// The index of the first.
+    pub from: u32,
+    /// The index after that of the last.
+    pub past: u32,
 }
 
 /// `most` of `count` iterations, or all, with an index in their middle where that can be.

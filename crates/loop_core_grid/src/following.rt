@@ -92,7 +92,12 @@ fn grid_of_spans(
     let columns = elements.as_slice();
     add_rows(&mut rows, alloc, program, call, start, lower, columns)?;
     add_rows(&mut rows, alloc, program, call, start, upper, columns)?;
-    Ok(Grid { elements, rows })
+    Ok(Grid {
+        elements,
+        rows,
+        lower,
+        upper,
+    })
 }
 
 /// What the first `count` iterations of a loop call that main of this program made do, each run on the start maps:

@@ -1,5 +1,6 @@
 //! What iterations do at elements, in rows and columns.
 
+use crate::choosing::Span;
 use loop_core_trace::Slots;
 
 /// What an iteration does at an element.
@@ -27,4 +28,8 @@ pub struct Grid {
     pub elements: Vec<u32>,
     /// The iterations, rising, at most 64.
     pub rows: Vec<Row>,
+    /// The first of them, up to those that aren't shown.
+    pub lower: Span,
+    /// The others; where there are none, from the end of the first ones.
+    pub upper: Span,
 }

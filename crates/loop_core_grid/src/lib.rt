@@ -14,6 +14,7 @@ mod following;
 mod grid;
 mod touching;
 
+pub use choosing::Span;
 pub use focus::Focus;
 pub use following::grid_of_loop;
 pub use grid::{Cell, Grid, Row};

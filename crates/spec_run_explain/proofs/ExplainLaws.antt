@@ -1,5 +1,6 @@
 -- Loop calls that are explained.
 use Rattle.std.proofs.Common.{◌≡◌, ℕ, pos, List, [], ◌∷◌, ◌++◌, length, Some, refl, sym, ap, subst, ◌∙◌}
+use Rattle.std.specs.Prelude.{Bool}
 use Rattle.std.specs.List.{AllByRecursion}
 use Rattle.array_maps.specs.MapList.{MapList}
 use Rattle.bpf_insn_types.specs.Program.{Program}
@@ -60,9 +61,9 @@ ran_call test {program} {call} {start} {left} {answer} {told} one_loop sound ran
 }
 
 -- on maps that are the same
-pub explained_on : {test : Test} {program : Program} {call : LoopCall} {most answer : ℕ} {told : LoopExplained}
-    (start now : MapList) → start ≡ now →
-    IsExplained test program call start.words most answer told → IsExplained test program call now.words most answer
-    told
-explained_on {test} {program} {call} {most} {answer} {told} start now same is =
-    subst (λ (maps : MapList). IsExplained test program call maps.words most answer told) same is
+pub explained_on : {test : Test} {program : Program} {call : LoopCall} {most answer : ℕ} {wants : Bool}
+    {told : LoopExplained} (start now : MapList) → start ≡ now →
+    IsExplained test program call start.words most wants answer told
+    → IsExplained test program call now.words most wants answer told
+explained_on {test} {program} {call} {most} {answer} {wants} {told} start now same is =
+    subst (λ (maps : MapList). IsExplained test program call maps.words most wants answer told) same is

@@ -1,5 +1,6 @@
 -- Which way loops go, and why they conflict.
-use Rattle.std.specs.Prelude.{◌≡◌, ℕ, pos, true, List, [], ◌∷◌, Option, Some, None, map, length, take}
+use Rattle.std.specs.Prelude.{◌≡◌, ℕ, pos, Bool, true, false, ◌&&◌, List, [], ◌∷◌, Option, Some, None}
+use Rattle.std.specs.Prelude.{map, length, take}
 use Rattle.std.specs.List.{AllByRecursion}
 use Rattle.array_maps.specs.Accesses.{Access}
 use Rattle.bpf_insn_types.specs.Program.{Program}
@@ -8,6 +9,7 @@ use Rattle.bpf_step_model.specs.Run.{BoundedResult, Ended}
 use Rattle.bpf_step_model.specs.ProgramInOrder.{LoopMade, Finished}
 use Rattle.bpf_verify_sound.specs.Soundness.{OverApproximatesCall}
 use Rattle.bpf_step.specs.Turns.{IsFilled}
+use Rattle.loop_core_grid.specs.declared.grid.Grid.{Grid}
 use Rattle.loop_core_model.specs.declared.loop_test.Test.{Test}
 use Rattle.loop_core_model.specs.declared.verdict.LoopReport.{LoopReport}
 use Rattle.loop_core_model.specs.declared.verdict.Verdict.TheVariants.{Refused}
@@ -24,6 +26,7 @@ use Rattle.spec_run_plan.specs.declared.plan.Plan.{Plan}
 use Rattle.spec_run_plan.specs.declared.plan.Policy.TheVariants.{Pays}
 use Rattle.spec_run_explain.specs.declared.explained.Cause.{Cause}
 use Rattle.spec_run_explain.specs.declared.explained.LoopExplained.{LoopExplained}
+use Rattle.spec_run_explain.specs.Showing.{is_conflict, Shows}
 
 -- the plan of a run that isn't given workers and blocks: at most 2 and 4 of them, each loop going the way that pays
 abbrev pub default_plan : Test → Plan
@@ -68,38 +71,55 @@ pub record AreLeast (test : Test) (program : Program) (call : LoopCall) (words :
   pub least : elements ≡ take most (conflicting test runs (length words))
 
 -- so a loop call on these words is explained that answers this in order: its causes are those of the least elements
--- that conflict; and which way it goes is reported
-pub record IsExplained (test : Test) (program : Program) (call : LoopCall) (words : List ℕ) (most answer : ℕ)
-    (told : LoopExplained) : Type 0 where
+-- that conflict; which way it goes is reported; and a grid is shown, if it conflicts and one is wanted
+pub record IsExplained (test : Test) (program : Program) (call : LoopCall) (words : List ℕ) (most : ℕ)
+    (wants_grid : Bool) (answer : ℕ) (told : LoopExplained) : Type 0 where
   pub slot : told.line.slot ≡ call.slot
   pub answer_is : told.line.answer ≡ pos answer
   pub verdict_is : verdict test program 4096 call words ≡ Ended told.line.verdict
+  pub iterations : told.iterations ≡ Some call.n
   pub broke : IsBreak program call words told.broke
   pub course : TellsCourse test program call words told.course
   pub elements : AreLeast test program call words most (cause_elements told.causes.items)
   pub causes : AreCauses test program call words told.causes.items
+  pub grid : Shows program call words told.causes.items (wants_grid && is_conflict told.line.verdict) told.grid
 
 -- so a loop call that main made is explained: a refused one has its line alone; another one is explained on the words
 -- at the call, with bytes in place of what is unwritten in its frame
-pub data IsCallExplained (test : Test) (program : Program) (most : ℕ) (made : LoopMade) (told : LoopExplained)
-    : Type 0 where
+pub data IsCallExplained (test : Test) (program : Program) (most : ℕ) (wants_grid : Bool) (made : LoopMade)
+    (told : LoopExplained) : Type 0 where
   WasRefused : made.call ≡ None → told.line ≡ record { slot = made.slot; answer = made.answer; verdict = Refused }
-      → told.broke ≡ None → told.course ≡ None → told.causes.items ≡ [] → IsCallExplained test program most made told
+      → told.iterations ≡ None → told.broke ≡ None → told.course ≡ None → told.causes.items ≡ [] → told.grid ≡ None
+      → IsCallExplained test program most wants_grid made told
   WasMade : (call filled : LoopCall) (answer : ℕ) → made.call ≡ Some call → made.answer ≡ pos answer
       → IsFilled program call filled → OverApproximatesCall program filled
-      → IsExplained test program filled made.words most answer told → IsCallExplained test program most made told
+      → IsExplained test program filled made.words most wants_grid answer told
+      → IsCallExplained test program most wants_grid made told
 
--- so loop calls are explained, one by one
-abbrev pub AreExplained : Test → Program → (most : ℕ) → List LoopMade → List LoopExplained → Type 0
-AreExplained test program most [] [] = Unit {0}
-AreExplained test program most (made ∷ calls) (told ∷ loops) =
-    IsCallExplained test program most made told × AreExplained test program most calls loops
-AreExplained test program most _ _ = ⊥
+-- whether a grid is wanted after a loop call of which this one is shown, or none
+abbrev pub still_wants : (wants_grid : Bool) → Option Grid → Bool
+still_wants wants_grid None = wants_grid
+still_wants wants_grid (Some grid) = false
+
+-- and after several
+abbrev pub wants_after : Bool → List LoopExplained → Bool
+wants_after wants_grid [] = wants_grid
+wants_after wants_grid (told ∷ loops) = wants_after (still_wants wants_grid told.grid) loops
+
+-- so loop calls are explained, one by one; a grid is wanted up to the first of which it is shown
+abbrev pub AreExplained : Test → Program → (most : ℕ) → (wants_grid : Bool) → List LoopMade → List LoopExplained
+    → Type 0
+AreExplained test program most wants_grid [] [] = Unit {0}
+AreExplained test program most wants_grid (made ∷ calls) (told ∷ loops) =
+    IsCallExplained test program most wants_grid made told
+    × AreExplained test program most (still_wants wants_grid told.grid) calls loops
+AreExplained test program most wants_grid _ _ = ⊥
 
 -- and so are those that main makes in a program that ends
-abbrev pub IsEachExplained : Test → Program → (most : ℕ) → BoundedResult Finished → List LoopExplained → Type 0
-IsEachExplained test program most (Ended f) loops = AreExplained test program most f.loops loops
-IsEachExplained test program most _ loops = ⊥
+abbrev pub IsEachExplained : Test → Program → (most : ℕ) → (wants_grid : Bool) → BoundedResult Finished
+    → List LoopExplained → Type 0
+IsEachExplained test program most wants_grid (Ended f) loops = AreExplained test program most wants_grid f.loops loops
+IsEachExplained test program most wants_grid _ loops = ⊥
 
 -- the lines of loop calls
 abbrev pub report_lines : List LoopExplained → List LoopReport

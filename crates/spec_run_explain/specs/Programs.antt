@@ -37,17 +37,18 @@ AreArgumentsIfRefused program argument words true told = AreArguments program (m
 -- the report is that of a run whose loops may run in parallel, from the old maps to the new ones; its lines are those
 -- of the loops that are explained, and these are, one by one, the loop calls that main makes where the program runs in
 -- order; and where one is refused, its arguments are reported
-pub record IsProgramExplained (test : Test) (program : Program) (most argument : ℕ) (old new : MapList)
-    (told : Explained) : Type 0 where
+pub record IsProgramExplained (test : Test) (program : Program) (most : ℕ) (wants_grid : Bool) (argument : ℕ)
+    (old new : MapList) (told : Explained) : Type 0 where
   pub report : IsReportByTest test program argument old new told.report
   pub lines : report_lines told.loops.items ≡ told.report.loops.items
-  pub explained : IsEachExplained test program most (program_in_order program 4096 argument old.words) told.loops.items
+  pub explained : IsEachExplained test program most wants_grid (program_in_order program 4096 argument old.words)
+      told.loops.items
   pub arguments : AreArgumentsIfRefused program argument old.words (list_any is_refused told.report.loops.items)
       told.arguments.items
 
 -- so these loop calls are reported so far: they are explained, one by one, and have these lines
-pub record AreToldSoFar (test : Test) (program : Program) (most : ℕ) (calls : List LoopMade) (lines : List LoopReport)
-    (loops : List LoopExplained) : Type 0 where
+pub record AreToldSoFar (test : Test) (program : Program) (most : ℕ) (wants_grid : Bool) (calls : List LoopMade)
+    (lines : List LoopReport) (loops : List LoopExplained) : Type 0 where
   pub reported : AreLines (loop_report test program 4096) calls lines
   pub lines_are : report_lines loops ≡ lines
-  pub explained : AreExplained test program most calls loops
+  pub explained : AreExplained test program most wants_grid calls loops

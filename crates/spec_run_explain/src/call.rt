@@ -11,6 +11,7 @@ ghost use Rattle.spec_run_explain.specs.Causes.{AreCauses, FailsAt, IsExplained,
 ghost use Rattle.spec_run_loop.specs.Courses.{IsCourseOf};
 
 use crate::explained::{Cause, LoopExplained};
+use crate::showing::{grid_if, is_shown};
 use array_maps::Maps;
 use bpf_step::LoopCall;
 use bpf_verify::Verified;
@@ -109,7 +110,7 @@ fn default_course(
 }
 
 /// Explains a loop call that main of this program made: from these maps, which are of the program's sizes, and where it
-/// answers this in order.
+/// answers this in order. If a grid is wanted, it is made of a loop that conflicts.
 pub(crate) fn explain_call(
     alloc: Global,
     program: &Verified,
@@ -117,11 +118,12 @@ pub(crate) fn explain_call(
     start: &Maps,
     test: Test,
     most: u32,
+    wants_grid: bool,
     answer: u32,
 ) -> Result<LoopExplained, AllocError>
     requires known { OverApproximatesCall program.now call.now }
     requires sizes { start.now.sizes ≡ program.now.sizes }
-    ensures { IfOk result (IsExplained test program.now call.now start.now.words most answer) }
+    ensures { IfOk result (IsExplained test program.now call.now start.now.words most wants_grid answer) }
 {
     let conflicts = find_conflicts(alloc, program, call, start, test, most)?;
     let broke = find_break(alloc, program, call, start, conflicts.broke)?;
@@ -136,6 +138,8 @@ pub(crate) fn explain_call(
         broke,
         &survey,
     )?;
+    let shown = is_shown(wants_grid, conflicts.verdict);
+    let grid = grid_if(shown, alloc, program, call, start, broke, causes.as_slice())?;
     let course = default_course(alloc, program, call, start, test)?;
     let line = LoopReport {
         slot: call.slot(),
@@ -144,8 +148,10 @@ pub(crate) fn explain_call(
     };
     Ok(LoopExplained {
         line,
+        iterations: Some(call.n()),
         broke,
         course: Some(course),
         causes,
+        grid,
     })
 }

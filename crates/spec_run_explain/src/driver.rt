@@ -2,6 +2,7 @@
 
 ghost use Rattle.std.specs.Prelude.{◌≡◌, [], None, IfOk};
 ghost use Rattle.loop_core_model.specs.declared.verdict.Verdict.TheVariants.{Refused as WasRefused};
+ghost use Rattle.spec_run_explain.specs.Causes.{still_wants};
 ghost use Rattle.spec_run_explain.specs.Programs.{IsProgramExplained};
 
 use crate::call::explain_call;
@@ -19,9 +20,11 @@ use std::alloc::{AllocError, Global};
 /// The explanation of a call that was refused.
 fn refused(alloc: Global, slot: u32, answer: i64) -> LoopExplained
     ensures line { result.line ≡ record { slot = slot; answer = answer; verdict = WasRefused } }
+    ensures iterations { result.iterations ≡ None }
     ensures broke { result.broke ≡ None }
     ensures course { result.course ≡ None }
     ensures causes { result.causes.items ≡ [] }
+    ensures grid { result.grid ≡ None }
 {
     LoopExplained {
         line: LoopReport {
@@ -29,29 +32,46 @@ fn refused(alloc: Global, slot: u32, answer: i64) -> LoopExplained
             answer,
             verdict: Verdict::Refused,
         },
+        iterations: None,
         broke: None,
         course: None,
         causes: Vec::new(alloc),
+        grid: None,
     }
 }
 
-/// Runs each loop call in order, and explains it by a test: at most `most` elements of each.
+/// Whether a grid is wanted after a loop call that is explained so.
+fn still_wants(wants_grid: bool, told: &LoopExplained) -> bool
+    ensures { result ≡ still_wants wants_grid told.now.grid }
+{
+    match &told.grid {
+        Some(_) => false,
+        None => wants_grid,
+    }
+}
+
+/// Runs each loop call in order, and explains it by a test: at most `most` elements of each. A grid is made of the
+/// first that conflicts, if one is wanted.
 #[derive(Drop)]
 struct Explainer {
     alloc: Global,
     test: Test,
     most: u32,
+    /// Whether a grid is still wanted.
+    wants_grid: bool,
     lines: Vec<LoopReport>,
     loops: Vec<LoopExplained>,
 }
 
 impl LoopRunner for Explainer {
+    ghost use Rattle.spec_run_explain.specs.Causes.{wants_after};
     ghost use Rattle.spec_run_explain.specs.Programs.{AreToldSoFar};
 
     type Stop = AllocError;
 
     ghost tells = { λ program first calls now. (now.test ≡ first.test) × (now.most ≡ first.most)
-        × AreToldSoFar now.test program now.most calls now.lines.items now.loops.items };
+        × (now.wants_grid ≡ wants_after first.wants_grid now.loops.items)
+        × AreToldSoFar now.test program now.most first.wants_grid calls now.lines.items now.loops.items };
 
     ghost room = { λ _. 4096 };
 
@@ -64,8 +84,16 @@ impl LoopRunner for Explainer {
         let start = maps.try_copy(self.alloc)?;
         let answer = in_order(program, call, maps);
         let told = explain_call(
-            self.alloc, program, call, &start, self.test, self.most, answer,
+            self.alloc,
+            program,
+            call,
+            &start,
+            self.test,
+            self.most,
+            self.wants_grid,
+            answer,
         )?;
+        self.wants_grid = still_wants(self.wants_grid, &told);
         self.lines.push(told.line)?;
         self.loops.push(told)?;
         Ok(answer)
@@ -80,8 +108,8 @@ impl LoopRunner for Explainer {
 }
 
 /// Runs the program in order on the maps, its argument in R1, and explains each loop call by a test: at most `most`
-/// elements of each, and of one that is refused its arguments. The maps are of the program's sizes, and are left as the
-/// program leaves them.
+/// elements of each, and of one that is refused its arguments. If a grid is wanted, it is made of the first that
+/// conflicts. The maps are of the program's sizes, and are left as the program leaves them.
 pub fn explain_loops(
     alloc: Global,
     program: &Verified,
@@ -89,15 +117,17 @@ pub fn explain_loops(
     argument: u64,
     test: Test,
     most: u32,
+    wants_grid: bool,
 ) -> Result<Explained, AllocError>
     requires sizes { maps.old.sizes ≡ program.now.sizes }
-    ensures { IfOk result (IsProgramExplained test program.now most argument maps.old maps.new) }
+    ensures { IfOk result (IsProgramExplained test program.now most wants_grid argument maps.old maps.new) }
 {
     let start = maps.try_copy(alloc)?;
     let mut explainer = Explainer {
         alloc,
         test,
         most,
+        wants_grid,
         lines: Vec::new(alloc),
         loops: Vec::new(alloc),
     };

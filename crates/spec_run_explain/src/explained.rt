@@ -1,5 +1,6 @@
 //! Explanations of a program's loops.
 
+use loop_core_grid::Grid;
 use loop_core_model::LoopReport;
 use loop_core_witness::{Place, Witness};
 use spec_run::Report;
@@ -23,12 +24,16 @@ pub struct Cause {
 pub struct LoopExplained {
     /// Its line in the report.
     pub line: LoopReport,
+    /// How many iterations it asks for; `None` of a call that is refused.
+    pub iterations: Option<u32>,
     /// The iteration that breaks it, each run on the words as they were at the call.
     pub broke: Option<Place>,
     /// Which way `run` takes it, where it isn't given workers and blocks; `None` of a call that is refused.
     pub course: Option<Course>,
     /// The least elements that conflict, rising, each with its cause.
     pub causes: Vec<Cause>,
+    /// Its iterations around the first cause, of the first call that conflicts, if a grid is asked for.
+    pub grid: Option<Grid>,
 }
 
 /// The explanation of a program's loops.

@@ -2,7 +2,7 @@
 //! `run` takes it, and why it conflicts or is refused.
 //!
 //! ```text
-//! let explained = explain_loops(alloc, &program, &mut maps, 0, Test::Flow, 64)?;
+//! let explained = explain_loops(alloc, &program, &mut maps, 0, Test::Flow, 64, false)?;
 //! // explained.report is the report of the program, and explained.loops[0].causes[0].witness.writer.index an iteration
 //! // that writes the least element that conflicts
 //! ```
@@ -12,6 +12,7 @@ mod call;
 mod driver;
 mod explained;
 mod refused;
+mod showing;
 
 pub use driver::explain_loops;
 pub use explained::{Cause, Explained, LoopExplained};

@@ -1,170 +1,128 @@
-"""What is told of a unit, compared with the unit itself: its lines, what its instructions read and break, its edges."""
+"""The facts of a unit, compared with the unit itself: what its instructions read and break, its edges and joins."""
 
 from __future__ import annotations
 
-import re
 from collections.abc import Iterator
 
-from .explained import (
-    DIFFERENT,
-    NOT_WRITTEN,
-    Anew,
-    Compared,
-    Entered,
-    Explanation,
-    Link,
-    Made,
-    Meeting,
-    Started,
-    Told,
-    told_registers,
-    told_value,
-)
-from .instructions import Insn, Unit
+from .facts import UNWRITTEN, Facts, Known, Registers, Source
+from .instructions import Unit
 from .machine import FRAME_BYTES, Kind
-from .paths import leads, unwritten_at
-from .rules import BYTE, UNWRITTEN, least_broken, reads_frame
-
-ELEMENTS = re.compile(r"map (\d+) has (\d+) elements?, (\d+) bytes")
-BYTES = re.compile(r"(\d+) bytes at ([+-]\d+) from there")
-SIZE = re.compile(r"have to be at a multiple of (\d+)|has 8 bytes or 4, not (\d+)")
-MISSING = re.compile(r"  the byte at (main's )?r10-(\d+) isn't")
+from .paths import callback_of, targets, unwritten_at
+from .rules import BYTE, RULES_OF_VALUES, least_broken, reads_frame
 
 
-def wrong_of(unit: Unit, lines: list[str], told: Explanation) -> Iterator[str]:
-    """What is wrong with what is told of a unit."""
-    insn, values = unit.insns.get(told.slot), told.states.get(told.slot)
-    states = [*_wrong_states(unit, told)]
-    if states or insn is None or values is None:
-        yield from states or [f"no path leads to slot {told.slot}"]
+def wrong_of(unit: Unit, facts: Facts) -> Iterator[str]:
+    """What is wrong with the facts of a unit."""
+    slots = [slot for slot in unit.insns if facts.slot is None or slot <= facts.slot]
+    if [*facts.insns] != slots:
+        yield f"the slots are {[*facts.insns]}, not {slots}"
         return
-    number = _line_numbers(lines)[[*unit.insns].index(told.slot)]
-    if told.line != f"  line {number}: {lines[number - 1]}":
-        yield f"{told.line.strip()} isn't that of slot {told.slot}"
-    if told.start is not None and told.start not in insn.reads:
-        yield f"r{told.start} isn't read at slot {told.slot}"
-    yield from _wrong_rules(unit, told)
-    yield from _wrong_words(unit, insn, values, told)
-    yield from _wrong_chain(told)
-    for link in [*told.chain, *([told.clash] if told.clash else [])]:
-        yield from _wrong_link(unit, told, link)
+    for slot in slots:
+        if facts.insns[slot].text != unit.insns[slot].text:
+            yield f"slot {slot} is {unit.insns[slot].text}, not {facts.insns[slot].text}"
+        yield from _wrong_edges(unit, facts, slot)
+        if not facts.insns[slot].reached:
+            continue
+        if facts.reads.get(slot, {}).keys() != unit.insns[slot].reads:
+            yield f"slot {slot} reads {sorted(unit.insns[slot].reads)}, not {[*facts.reads.get(slot, {})]}"
+        for register, source in facts.reads.get(slot, {}).items():
+            if not _may_come_from(unit, facts, slot, register, source):
+                yield f"r{register} of slot {slot} can't come from {source}"
+        yield from _wrong_rule(unit, facts, slot)
+        yield from _wrong_inflow(unit, facts, slot)
+    yield from _wrong_unwritten(unit, facts)
 
 
-def _line_numbers(lines: list[str]) -> list[int]:
-    """The numbers of the lines of instructions."""
-    return [number for number, line in enumerate(lines, 1) if number > 1 and not line.endswith(":")]
+def _wrong_edges(unit: Unit, facts: Facts, slot: int) -> Iterator[str]:
+    """Edges that aren't the instruction's; or edges from the fault, or from where no path leads."""
+    insn, known = unit.insns[slot], facts.insns[slot]
+    may_lead = {*targets(insn), callback_of(insn, facts.registers(slot))}
+    if not may_lead.issuperset(known.targets):
+        yield f"slot {slot} leads to {may_lead}, not to {known.targets}"
+    if known.targets and (slot == facts.slot or not known.reached):
+        yield f"slot {slot} leads nowhere, and not to {known.targets}"
 
 
-def _wrong_states(unit: Unit, told: Explanation) -> Iterator[str]:
-    """Of each instruction up to the fault it is told what the registers are that it reads, and of no others."""
-    slots = [slot for slot in unit.insns if slot <= told.slot]
-    if [*told.states] != slots:
-        yield f"the states of {[*told.states]} are told, not of {slots}"
+def _may_come_from(unit: Unit, facts: Facts, slot: int, register: int, source: Source) -> bool:
+    """Whether a source is an instruction that writes the register, a join, or a call whose callback the slot may be in."""
+    at = source.at
+    if at is None or at > slot:
+        return source.kind == "start"
+    if source.kind == "written":
+        return at < slot and register in unit.insns[at].writes
+    if source.kind == "join":
+        return len(facts.inflow(at)) > 1
+    callback = callback_of(unit.insns[at], facts.registers(at))
+    return source.kind == "entered" and callback is not None and callback <= slot
+
+
+def _wrong_rule(unit: Unit, facts: Facts, slot: int) -> Iterator[str]:
+    """By what the registers are, the rule of the refusal is the least that is broken at its slot, and none is before."""
+    insn, registers = unit.insns[slot], facts.registers(slot)
+    read = {register: registers[register] for register in insn.reads}
+    rule = least_broken(unit, insn, read)
+    if slot != facts.slot:
+        if rule is not None:
+            yield f"by its values slot {slot} breaks V{rule}"
+    elif facts.rule == BYTE:
+        if not reads_frame(insn, read) or rule is not None and rule < BYTE:
+            yield f"by its values slot {slot} breaks V{rule}, and not V{BYTE}"
+    elif facts.rule in RULES_OF_VALUES and rule != facts.rule:
+        yield f"by its values slot {slot} breaks V{rule}, and not V{facts.rule}"
+
+
+def _wrong_inflow(unit: Unit, facts: Facts, slot: int) -> Iterator[str]:
+    """Registers that aren't known after the instructions before, or that are and weren't left or written by them; and where
+    edges join a register that isn't the join of all."""
+    inflow, registers = facts.inflow(slot), facts.registers(slot)
+    shown = {before for before, to in facts.edges if to == slot}
+    if shown and (len(inflow) < 2 or not shown.issubset(inflow)):
+        yield f"edges lead to slot {slot} from {inflow}, not from {shown}"
+    if not inflow and facts.values.get(slot, {}).keys() != {1}:
+        yield f"main starts with r1, not with {[*facts.values.get(slot, {})]}"
+    for before in inflow:
+        known = facts.values if len(inflow) < 2 else facts.edges
+        found = known.get(slot if len(inflow) < 2 else (before, slot), {})
+        if found.keys() != _known_after(unit, facts, before, slot):
+            yield f"from slot {before} to {slot} {[*found]} are known"
+    edges: list[Registers] = [facts.edges.get((before, slot), {}) for before in inflow]
+    for register in range(10) if len(inflow) > 1 else ():
+        joined = _joined([edge.get(register, UNWRITTEN) for edge in edges])
+        if joined != registers[register]:
+            yield f"r{register} of slot {slot} is {registers[register]}, and of its edges {joined}"
+
+
+def _known_after(unit: Unit, facts: Facts, before: int, slot: int) -> set[int]:
+    """The registers that are known on an edge, by those before its instruction and what that writes."""
+    insn = unit.insns[before]
+    if insn.name == "call" and slot != before + 1:
+        return {1, 2}
+    written = {0} if insn.name == "call" else insn.writes
+    return {*facts.values.get(before, {})} - insn.writes | written
+
+
+def _wrong_unwritten(unit: Unit, facts: Facts) -> Iterator[str]:
+    """Bytes that the access of the fault doesn't read, or that each path writes; and V20 without any."""
+    if (facts.rule == BYTE) != bool(facts.unwritten):
+        yield f"{len(facts.unwritten)} bytes are unwritten"
+    if not facts.unwritten or facts.slot is None:
         return
-    for slot, values in told.states.items():
-        if values is not None and values.keys() != unit.insns[slot].reads:
-            yield f"the registers {[*values]} are told of slot {slot}, not {sorted(unit.insns[slot].reads)}"
+    insn, unwritten = unit.insns[facts.slot], unwritten_at(unit, facts, facts.slot)
+    base = facts.registers(facts.slot)[insn.base or 0]
+    for byte in facts.unwritten:
+        bits = unwritten.callers if byte.kind is Kind.CTX else unwritten.own
+        if byte.kind is not base.kind or not 0 <= byte.at - base.least - insn.offset < insn.size:
+            yield f"slot {facts.slot} doesn't read byte {byte.at - FRAME_BYTES}"
+        elif not bits >> byte.at & 1:
+            yield f"byte {byte.at - FRAME_BYTES} is written on each path to slot {facts.slot}"
 
 
-def _wrong_rules(unit: Unit, told: Explanation) -> Iterator[str]:
-    """By what the registers are, the rule that is told is the least that is broken at its slot, and none is before."""
-    for slot, values in told.states.items():
-        insn = unit.insns[slot]
-        rule = None if values is None else least_broken(unit, insn, values)
-        if slot < told.slot and rule is not None:
-            yield f"by what is told of slot {slot} it breaks V{rule}"
-        if slot == told.slot and told.rule == BYTE:
-            if not reads_frame(insn, values or {}) or rule is not None and rule < BYTE:
-                yield f"by what is told of slot {slot} it breaks V{rule}, and not V{BYTE}"
-        elif slot == told.slot and rule != told.rule:
-            yield f"by what is told of slot {slot} it breaks V{rule}, and not V{told.rule}"
-
-
-def _wrong_words(unit: Unit, insn: Insn, values: dict[int, Told], told: Explanation) -> Iterator[str]:
-    """Words of the reasons that aren't so."""
-    for line in told.reasons:
-        for register, value in told_registers(line):
-            if values.get(register) != value:
-                yield f"{line.strip()}: at slot {told.slot} r{register} is {values.get(register)}"
-        for elements in ELEMENTS.finditer(line):
-            number, count, size = map(int, elements.groups())
-            if unit.sizes[number : number + 1] != (count,) or size != 8 * count:
-                yield f"{line.strip()}: of sizes {unit.sizes}"
-        for access in BYTES.finditer(line):
-            if (int(access[1]), int(access[2])) != (insn.size, insn.offset):
-                yield f"{line.strip()}: {insn.size} bytes are accessed, at {insn.offset:+}"
-        for size in SIZE.findall(line):
-            if insn.size != int("".join(size)):
-                yield f"{line.strip()}: {insn.size} bytes are accessed"
-    yield from _wrong_unwritten(unit, insn, values, told)
-
-
-def _wrong_unwritten(unit: Unit, insn: Insn, values: dict[int, Told], told: Explanation) -> Iterator[str]:
-    """What is told not to be written, and is on each path; of bytes one that is read."""
-    unwritten = unwritten_at(unit, told)
-    if told.clash and values.get(told.clash.register) != told.clash.value:
-        yield f"{told.clash.line.strip()}: at slot {told.slot} it is {values.get(told.clash.register)}"
-    if told.rule == UNWRITTEN and told.clash is None and told.start not in unwritten.registers:
-        yield f"r{told.start} is written on each path to slot {told.slot}"
-    if told.rule != BYTE:
-        return
-    missing = next((found for line in told.reasons if (found := MISSING.fullmatch(line))), None)
-    base = values[insn.base or 0]
-    if missing is None or (missing[1] is not None) != (base.kind is Kind.CTX):
-        yield "no byte is told that isn't written"
-        return
-    position = FRAME_BYTES - int(missing[2])
-    if not 0 <= position - base.least - insn.offset < insn.size:
-        yield f"{missing[0].strip()}: slot {told.slot} doesn't read it"
-    elif not (unwritten.callers if missing[1] else unwritten.own) >> position & 1:
-        yield f"{missing[0].strip()}: it is written on each path to slot {told.slot}"
-
-
-def _wrong_chain(told: Explanation) -> Iterator[str]:
-    """The chain has one end, unless it isn't shown."""
-    ends = [isinstance(link, (Anew, Entered, Started)) for link in told.chain]
-    if True in ends[:-1] or told.start is not None and not told.is_cut and not (ends and ends[-1]):
-        yield "the chain doesn't end where it ends"
-
-
-def _wrong_link(unit: Unit, told: Explanation, link: Link) -> Iterator[str]:
-    """A value that isn't what is told of the same slot, or an edge that there isn't."""
-    values = told.states.get(link.slot)
-    if isinstance(link, Meeting):
-        yield from _wrong_meeting(unit, told, link)
-    elif values is None and not isinstance(link, Started):
-        yield f"{link.line.strip()}: no path leads to slot {link.slot}"
-    elif isinstance(link, Made) and (values or {}).get(link.of) != link.before:
-        yield f"{link.line.strip()}: at slot {link.slot} r{link.of} is {(values or {}).get(link.of)}"
-    elif isinstance(link, Compared) and (values or {}).get(link.register) != link.before:
-        yield f"{link.line.strip()}: at slot {link.slot} r{link.register} is {(values or {}).get(link.register)}"
-    elif isinstance(link, Entered) and link.argument and link.argument not in (values or {}).values():
-        yield f"{link.line.strip()}: at slot {link.slot} it is something else"
-
-
-def _wrong_meeting(unit: Unit, told: Explanation, meeting: Meeting) -> Iterator[str]:
-    """Edges that there aren't, or that aren't shown; and a value that isn't that of all of them."""
-    for slot, values in told.states.items():
-        is_edge = values is not None and slot < told.slot and leads(unit.insns[slot], values, meeting.slot)
-        if slot in meeting.edges and not is_edge:
-            yield f"{meeting.line.strip()}: no edge leads there from slot {slot}"
-        if is_edge and slot not in meeting.edges and not unit.insns[slot].is_jump and not meeting.is_cut:
-            yield f"{meeting.line.strip()}: one more leads there from slot {slot}"
-    if len(meeting.edges) < 2:
-        yield f"{meeting.line.strip()}: {len(meeting.edges)} edges are shown"
-    elif not meeting.is_cut and _joined([*meeting.edges.values()]) != meeting.value:
-        yield f"{meeting.line.strip()}: of all edges it is {_joined([*meeting.edges.values()])}"
-
-
-def _joined(edges: list[Told]) -> Told:
-    """What a register is where paths meet."""
-    kinds = {(told.kind, told.map) for told in edges}
-    least, greatest = min(told.least for told in edges), max(told.greatest for told in edges)
-    is_one = least == greatest
+def _joined(edges: list[Known]) -> Known:
+    """What a register is where edges join."""
+    kinds = {(known.kind, known.map) for known in edges}
+    least, greatest = min(known.least for known in edges), max(known.greatest for known in edges)
     may_differ = edges[0].kind in (None, Kind.AREA)
-    if told_value(NOT_WRITTEN) in edges:
-        return told_value(NOT_WRITTEN)
-    if len(kinds) > 1 or not all(told.is_written for told in edges) or not may_differ and not is_one:
-        return told_value(DIFFERENT)
-    step = 1 if is_one else min(told.multiple for told in edges)
-    return Told(edges[0].kind, least, greatest, step, edges[0].map, any(told.or_null for told in edges))
+    if len(kinds) > 1 or not all(known.is_written for known in edges) or not may_differ and least != greatest:
+        return UNWRITTEN
+    step = min(known.step for known in edges)
+    return Known(edges[0].kind, least, greatest, step, edges[0].map, any(known.or_null for known in edges))

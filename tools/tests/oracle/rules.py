@@ -3,27 +3,28 @@
 from __future__ import annotations
 
 from .arithmetic import OPERATORS, computed
-from .explained import RULES_OF_VALUES, Told
+from .facts import Known
 from .instructions import LOOKUP, Insn, Unit
 from .machine import FRAME_BYTES, MOST_OFFSET, WORD, Kind
 
 UNWRITTEN, ARITHMETIC, COMPARISON, STORED, BASE, SIZE, ALIGNMENT, BOUNDS, BYTE, CTX_WRITE, ARGUMENT = range(12, 23)
 CALLBACK_RESULT, MAIN_RESULT = 24, 25
+RULES_OF_VALUES = {*range(UNWRITTEN, MAIN_RESULT + 1)} - {23}
 MEMORY = Kind.FRAME, Kind.CTX, Kind.AREA
 LAST_KEY = FRAME_BYTES - 4
 
 
-def least_broken(unit: Unit, insn: Insn, values: dict[int, Told]) -> int | None:
+def least_broken(unit: Unit, insn: Insn, values: dict[int, Known]) -> int | None:
     """The least rule that an instruction breaks; V20 isn't looked at, of which its registers say nothing."""
     return next((rule for rule in sorted(RULES_OF_VALUES) if rule != BYTE and _breaks(unit, rule, insn, values)), None)
 
 
-def reads_frame(insn: Insn, values: dict[int, Told]) -> bool:
+def reads_frame(insn: Insn, values: dict[int, Known]) -> bool:
     """Whether it reads bytes of a frame."""
     return insn.base is not None and insn.name not in ("st", "stx") and values[insn.base].kind in (Kind.FRAME, Kind.CTX)
 
 
-def _breaks(unit: Unit, rule: int, insn: Insn, values: dict[int, Told]) -> bool:
+def _breaks(unit: Unit, rule: int, insn: Insn, values: dict[int, Known]) -> bool:
     """Whether an instruction breaks a rule, if it breaks none before it."""
     if rule == UNWRITTEN:
         return any(not value.is_written for value in values.values())
@@ -42,13 +43,13 @@ def _breaks(unit: Unit, rule: int, insn: Insn, values: dict[int, Told]) -> bool:
     return insn.base is not None and insn.name != "call" and _breaks_access(unit, rule, insn, values[insn.base])
 
 
-def _second(insn: Insn, values: dict[int, Told]) -> Told:
+def _second(insn: Insn, values: dict[int, Known]) -> Known:
     """The second operand."""
     number = insn.imm & WORD
-    return Told(None, number, number) if insn.src is None else values[insn.src]
+    return Known(None, number, number) if insn.src is None else values[insn.src]
 
 
-def _computes(insn: Insn, values: dict[int, Told]) -> bool:
+def _computes(insn: Insn, values: dict[int, Known]) -> bool:
     """Whether an instruction is no arithmetic, or takes its operands."""
     if insn.name in ("neg", "le", "be", "swap"):
         return values[insn.dst].is_number
@@ -66,14 +67,14 @@ def _computes(insn: Insn, values: dict[int, Told]) -> bool:
     return is_known and computed(insn.name, 64, first.least, second.least) <= FRAME_BYTES
 
 
-def _compares(insn: Insn, values: dict[int, Told]) -> bool:
+def _compares(insn: Insn, values: dict[int, Known]) -> bool:
     """Whether a comparison is one of numbers, or of a lookup's answer with 0."""
     if values[insn.dst].or_null:
         return insn.bits == 64 and insn.src is None and insn.imm == 0 and insn.name in ("jeq", "jne")
     return values[insn.dst].is_number and _second(insn, values).is_number
 
 
-def _takes(insn: Insn, values: dict[int, Told]) -> bool:
+def _takes(insn: Insn, values: dict[int, Known]) -> bool:
     """Whether a helper takes its arguments."""
     if insn.imm == LOOKUP:
         is_key = values[2].kind in (Kind.FRAME, Kind.CTX) and values[2].least % 4 == 0 and values[2].least <= LAST_KEY
@@ -82,12 +83,12 @@ def _takes(insn: Insn, values: dict[int, Told]) -> bool:
     return values[1].is_number and values[2].kind is Kind.CODE and is_ctx and values[4].is_number
 
 
-def _ends(rule: int, result: Told) -> bool:
+def _ends(rule: int, result: Known) -> bool:
     """Whether a function may end with this: main with a number, a callback with 0 or 1."""
     return result.is_number and (rule == MAIN_RESULT or result.greatest <= 1)
 
 
-def _breaks_access(unit: Unit, rule: int, insn: Insn, base: Told) -> bool:
+def _breaks_access(unit: Unit, rule: int, insn: Insn, base: Known) -> bool:
     """Whether an access breaks a rule by what its base is."""
     is_area, size = base.kind is Kind.AREA, insn.size
     if rule == BASE:

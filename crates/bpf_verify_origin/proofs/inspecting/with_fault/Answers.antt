@@ -10,13 +10,13 @@ use Rattle.bpf_verify_origin.proofs.inspecting.with_fault.Goals as goal
 pub invariant_of-result : goal.invariant_of-result
 invariant_of-result c =
     inspection-outside c.args.unit c.args.fault c.in_ok-by_slot.by_slot.items c.new.result.items
-    c.new-in_default.result.items
+    c.new-in_default.result.items c.new-in_default-2.result.items
     (subst (λ (insns : List Insn). FieldsFit insns)
     (c.as_slice.ensures.value ∙ ap (λ (p : Program). p.insns) c.unit.view_is) c.insns_fit.ensures)
     (subst (λ (insns : List Insn). AreInsns insns c.in_ok-by_slot.by_slot.items)
     (c.deref.ensures.value ∙ ap (λ (p : Program). p.insns) c.unit.view_is) c.in_ok-by_slot.ensures)
     c.requires
-    c.in_default.ensures.none c.new.ensures.items c.new-in_default.ensures.items
+    c.in_default.ensures.none c.new.ensures.items c.new-in_default.ensures.items c.new-in_default-2.ensures.items
 
 pub states_before-requires-clause-fine : goal.states_before-requires-clause-fine
 states_before-requires-clause-fine c =

@@ -2,7 +2,7 @@ use Rattle.std.proofs.Common.{List, ap, ◌∙◌}
 use Rattle.loop_core_model.specs.declared.verdict.LoopReport.{LoopReport}
 use Rattle.loop_core_model.specs.Report.{Reported}
 use Rattle.bpfspec_output.specs.ReportText.{report_text}
-use Rattle.bpfspec_serve.proofs.OutputLaws.{printed}
+use Rattle.bpfspec_serve.proofs.OutputLaws.{report_printed}
 use Rattle.bpfspec_serve.proofs.answering.run_on.Goals as goal
 
 pub returns-in-Ok : goal.returns-in-Ok
@@ -19,6 +19,7 @@ returns-in-Ok g c =
       loops = loops;
       words = c.run_observed.new.maps.words;
     })) c.deref.ensures.value in (
-      (λ within. printed c.args.program.now _ told c.run_observed.new.maps.sizes _ ran.told (ran.kept ∙ ran.sizes) is),
+      (λ within. report_printed c.args.program.now _ told c.run_observed.new.maps.sizes _ ran.told
+          (ran.kept ∙ ran.sizes) is),
       (λ outside. absurd cc (c.in-Ok.ensures.plan.1 (c.requires, outside))),
     )

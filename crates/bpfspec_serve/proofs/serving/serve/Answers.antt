@@ -1,17 +1,13 @@
-use Rattle.std.proofs.Common.{subst, arith}
-use Rattle.std.specs.String.{string_bytes}
-use Rattle.bpfspec_command_line.specs.declared.job.Job.TheVariants.{Serve}
-use Rattle.bpfspec_serve.specs.Output.{Answers}
-use Rattle.bpfspec_serve.proofs.OutputLaws.{answers_reader, served_as, told_answers}
+use Rattle.std.proofs.Common.{arith}
+use Rattle.bpfspec_serve.proofs.OutputLaws.{answers_reader, given_answers, served_as}
 use Rattle.bpfspec_serve.proofs.serving.serve.Goals as goal
 
 pub returns-in-Ok-clause-answer : goal.returns-in-Ok-clause-answer
 returns-in-Ok-clause-answer g c =
-    let job = Serve c.args.mode.now in
-    served_as
-    (λ answer told.
-    answers_reader job (g.R.Source.left c.args.source.now) _ c.in-Ok.input.items answer c.in-Ok.ensures.bytes
-    c.in-Ok.ensures.whole
-    (subst (λ bytes. Answers job bytes answer) c.deref.ensures.value (told_answers string_bytes job _ c.outcome.result
-    answer c.outcome.ensures told)))
-    (omega (arith, c.in-Ok.ensures.ok)) c.tell.ensures
+    served_as _ _ c.memory_text.ensures
+    (λ answer given.
+    answers_reader c.args.job.now (g.R.Source.left c.args.source.now) _ c.in-Ok.input.items answer
+    c.in-Ok.ensures.bytes c.in-Ok.ensures.whole
+    (given_answers c.args.job.now _ _ c.answer_job-answer.result answer c.deref.ensures.value
+    c.answer_job-answer.ensures given))
+    (omega (arith, c.in-Ok.ensures.ok)) c.write_answer.ensures

@@ -1,4 +1,4 @@
-use Rattle.std.proofs.Common.{ℕ, List, ◌++◌, ap, subst, ◌∙◌}
+use Rattle.std.proofs.Common.{ℕ, List, ◌++◌, refl, ap, subst, ◌∙◌}
 use Rattle.loop_core_grid.specs.declared.grid.Row.{Row}
 use Rattle.loop_core_grid.specs.Choosing.{indices_of, shown_elements}
 use Rattle.loop_core_grid.specs.Grids.{AreRows, indices}
@@ -14,4 +14,6 @@ returns c = record {
       ∙ ap (λ (rows : List Row). indices rows ++ indices_of c.args.lower) c.new-rows.ensures.items);
   rows = subst (λ (elements : List ℕ). AreRows c.args.program.now c.args.call.now c.args.start.now.words elements
       c.add_rows-2.new.rows.items) c.as_slice-columns.ensures.value c.in_ok-add_rows-2.ensures.rows;
+  lower_is = refl;
+  upper_is = refl;
 }

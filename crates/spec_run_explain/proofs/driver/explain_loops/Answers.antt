@@ -13,15 +13,16 @@ returns c =
     let ran = c.in_ok-ret.ensures in
     let program = c.args.program.now in
     let left = c.run_main.new.runner in
-    let by_test = subst (λ test. AreToldSoFar test program left.most ran.calls left.lines.items left.loops.items)
-    ran.tells.0 ran.tells.2 in
-    let told = subst (λ most. AreToldSoFar c.args.test program most ran.calls left.lines.items left.loops.items)
+    let wants = c.args.wants_grid in
+    let by_test = subst (λ test. AreToldSoFar test program left.most wants ran.calls left.lines.items left.loops.items)
+    ran.tells.0 ran.tells.3 in
+    let told = subst (λ most. AreToldSoFar c.args.test program most wants ran.calls left.lines.items left.loops.items)
     ran.tells.1 by_test in
     record {
       report = report_of (loop_report c.args.test program 4096) (record { ret = c.in_ok-ret.ret; loops = left.lines })
           ran told.reported refl c.requires.sizes;
       lines = told.lines_are;
-      explained = subst (λ e. IsEachExplained c.args.test program c.args.most e left.loops.items) (sym ran.gives)
+      explained = subst (λ e. IsEachExplained c.args.test program c.args.most wants e left.loops.items) (sym ran.gives)
           told.explained;
       arguments = subst (λ (maps : MapList). AreArgumentsIfRefused program c.args.argument maps.words
           (list_any is_refused left.lines.items) c.in_ok-arguments.arguments.items) c.in_ok-start.ensures

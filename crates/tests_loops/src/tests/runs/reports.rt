@@ -4,7 +4,7 @@ ghost use Rattle.bpf_verify_sound.specs.Soundness.{OverApproximatesCall};
 
 use crate::rows::{FirstLoop, Row, spelled_out};
 use bpfspec_output::{print_replay, print_report};
-use bpfspec_serve::{Counted, UnitForm, Unobserved, serve_run};
+use bpfspec_serve::{Counted, Job, UnitForm, Unobserved, serve};
 use loop_core_model::LoopReport;
 use loop_core_split::{Gate, Split};
 use spec_run::{Plan, run};
@@ -67,12 +67,15 @@ pub(crate) fn served<R: Threads + Sync, G: Gate>(
     let input = spelled_out(alloc, row)?;
     let mut source = Counted::new(input.as_bytes());
     let mut sink = Counted::new(Vec::new(alloc));
-    serve_run(
+    let job = Job::Run {
+        form: UnitForm::Assembler,
+        arg: 0,
+        plan: *plan,
+    };
+    serve(
         rt,
         alloc,
-        UnitForm::Assembler,
-        0,
-        plan,
+        &job,
         gate,
         &mut Unobserved,
         &mut source,

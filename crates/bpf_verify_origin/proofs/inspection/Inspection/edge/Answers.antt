@@ -3,7 +3,7 @@ use Rattle.std.specs.Prelude.{None}
 use Rattle.bpf_verify_model.specs.Inflow.{received_all}
 use Rattle.bpf_verify.specs.Passing.{out_of}
 use Rattle.bpf_verify_origin.proofs.FaultLaws.{starts-within}
-use Rattle.bpf_verify_origin.proofs.InflowLaws.{between-none, between-elsewhere, between-some}
+use Rattle.bpf_verify_origin.proofs.InflowLaws.{between-none, between-some}
 use Rattle.bpf_verify_origin.proofs.PassedLaws.{edge-passed}
 use Rattle.bpf_verify_origin.proofs.RunLaws.{holds-between}
 use Rattle.bpf_verify_origin.proofs.inspection.Inspection.edge.Goals as goal
@@ -20,11 +20,6 @@ returns-then-from-gt4096-clause-whole c = λ to.
 pub returns-in_default-clause-whole : goal.returns-in_default-clause-whole
 returns-in_default-clause-whole c = λ to. between-none c.args.self.now c.args.from c.args.to (sym c.insn.ensures
     ∙ c.in_default.is)
-
-pub returns-then-not-may_lead-clause-whole : goal.returns-then-not-may_lead-clause-whole
-returns-then-not-may_lead-clause-whole c = λ to.
-    between-elsewhere c.args.self.now c.args.from c.args.to c.in-Some.insn (sym c.insn.ensures ∙ c.in-Some.is)
-    (sym c.may_lead.ensures ∙ c.if-not-may_lead.true)
 
 pub returns-clause-whole : goal.returns-clause-whole
 returns-clause-whole c = λ to.
@@ -50,11 +45,6 @@ pub returns-in_default-clause-runs : goal.returns-in_default-clause-runs
 returns-in_default-clause-runs c = λ to.
     holds-between c.args.self.now c.args.from c.args.to None c.states_hold.ensures
     (returns-in_default-clause-whole c to)
-
-pub returns-then-not-may_lead-clause-runs : goal.returns-then-not-may_lead-clause-runs
-returns-then-not-may_lead-clause-runs c = λ to.
-    holds-between c.args.self.now c.args.from c.args.to None c.states_hold.ensures
-    (returns-then-not-may_lead-clause-whole c to)
 
 pub returns-clause-runs : goal.returns-clause-runs
 returns-clause-runs c = λ to.

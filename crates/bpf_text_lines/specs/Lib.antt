@@ -1,3 +1,0 @@
-pub mod SlotLines
-pub mod Comments
-pub mod Listed

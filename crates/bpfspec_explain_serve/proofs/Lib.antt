@@ -1,4 +1,0 @@
-pub mod ExplainLaws
-pub mod PicturedLaws
-pub mod ReasonLaws
-pub mod ShowingLaws

@@ -1,3 +1,0 @@
-pub mod PrintLaws
-pub mod PairLaws
-pub mod PictureLaws

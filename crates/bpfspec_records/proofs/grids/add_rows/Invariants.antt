@@ -1,0 +1,8 @@
+use Rattle.std.proofs.Common.{◌≡◌, ◌++◌, drop}
+use Rattle.std.specs.List.{flat_map}
+use Rattle.bpfspec_records.specs.Grids.{row_records}
+use Rattle.bpfspec_records.proofs.grids.add_rows.Given as goal
+
+abbrev pub invariant-loop-row : goal.invariant-loop-row
+invariant-loop-row l = l.records.items ++ flat_map (row_records l.sizes l.number) (drop l.row-index l.rows)
+    ≡ l.initial.records.items ++ flat_map (row_records l.sizes l.number) l.rows

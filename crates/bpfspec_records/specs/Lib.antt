@@ -1,0 +1,11 @@
+pub mod Fields
+pub mod Words
+pub mod Refusals
+pub mod Values
+pub mod LoopsPrinted
+pub mod Printed
+pub mod Operands
+pub mod Units
+pub mod Elements
+pub mod Grids
+pub mod Loops

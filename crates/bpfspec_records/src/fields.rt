@@ -1,0 +1,115 @@
+//! The fields of records, and the object of JSON that a record is.
+
+ghost use Rattle.std.specs.Prelude.{◌≡◌, ◌++◌, OnOk, IfOk};
+ghost use Rattle.std.specs.String.{string_bytes};
+ghost use Rattle.bpf_text_mnemonics.specs.PrintedLines.{insn_spelling};
+ghost use Rattle.bpfspec_records.specs.Fields.{absent, flag, number, object_end, object_start};
+ghost use Rattle.bpfspec_records.specs.Fields.{optional, signed, wide, word};
+
+use bpf_insn_types::Insn;
+use bpf_text_mnemonics::print_insn;
+use std::alloc::{AllocError, Global};
+
+/// Begins a record of this kind.
+#[tactic(auto, unfolding(crate::specs::Fields::object_start))]
+pub(crate) fn begin(out: &mut String, kind: &str) -> Result<(), AllocError>
+    ensures { OnOk result (string_bytes out.new ≡ string_bytes out.old ++ object_start kind.now) }
+{
+    write!(out, "{{\"record\":\"{kind}\"")
+}
+
+/// Ends a record.
+#[tactic(auto, unfolding(crate::specs::Fields::object_end))]
+pub(crate) fn end(out: &mut String) -> Result<(), AllocError>
+    ensures { OnOk result (string_bytes out.new ≡ string_bytes out.old ++ object_end) }
+{
+    out.push_str("}\n")
+}
+
+/// Adds a field that doesn't apply.
+#[tactic(auto, unfolding(crate::specs::Fields::absent))]
+pub(crate) fn add_absent(out: &mut String, name: &str) -> Result<(), AllocError>
+    ensures { OnOk result (string_bytes out.new ≡ string_bytes out.old ++ absent name.now) }
+{
+    write!(out, ",\"{name}\":null")
+}
+
+/// Adds a number.
+#[tactic(auto, unfolding(crate::specs::Fields::number))]
+pub(crate) fn add_number(out: &mut String, name: &str, n: u64) -> Result<(), AllocError>
+    ensures { OnOk result (string_bytes out.new ≡ string_bytes out.old ++ number name.now n) }
+{
+    write!(out, ",\"{name}\":{n}")
+}
+
+/// Adds a number that may be negative.
+#[tactic(auto, unfolding(crate::specs::Fields::signed))]
+pub(crate) fn add_signed(out: &mut String, name: &str, n: i64) -> Result<(), AllocError>
+    ensures { OnOk result (string_bytes out.new ≡ string_bytes out.old ++ signed name.now n) }
+{
+    write!(out, ",\"{name}\":{n}")
+}
+
+/// Adds a number, if there is one.
+#[tactic(auto, unfolding(crate::specs::Fields::optional))]
+pub(crate) fn add_optional(out: &mut String, name: &str, n: Option<u64>) -> Result<(), AllocError>
+    ensures { OnOk result (string_bytes out.new ≡ string_bytes out.old ++ optional name.now n) }
+{
+    match n {
+        None => add_absent(out, name),
+        Some(n) => add_number(out, name, n),
+    }
+}
+
+/// Adds a word of 64 bits, in decimal digits as a string: some readers of JSON round large numbers.
+#[tactic(auto, unfolding(crate::specs::Fields::wide))]
+pub(crate) fn add_wide(out: &mut String, name: &str, n: u64) -> Result<(), AllocError>
+    ensures { OnOk result (string_bytes out.new ≡ string_bytes out.old ++ wide name.now n) }
+{
+    write!(out, ",\"{name}\":\"{n}\"")
+}
+
+/// Adds a fixed word.
+#[tactic(auto, unfolding(crate::specs::Fields::word))]
+pub(crate) fn add_word(out: &mut String, name: &str, text: &str) -> Result<(), AllocError>
+    ensures { OnOk result (string_bytes out.new ≡ string_bytes out.old ++ word name.now text.now) }
+{
+    write!(out, ",\"{name}\":\"{text}\"")
+}
+
+/// Adds whether something holds.
+#[tactic(auto, unfolding(crate::specs::Fields::flag))]
+pub(crate) fn add_flag(out: &mut String, name: &str, holds: bool) -> Result<(), AllocError>
+    ensures { OnOk result (string_bytes out.new ≡ string_bytes out.old ++ flag name.now holds) }
+{
+    if holds {
+        write!(out, ",\"{name}\":true")
+    } else {
+        write!(out, ",\"{name}\":false")
+    }
+}
+
+/// An instruction as text.
+fn insn_text(alloc: Global, insn: &Insn) -> Result<String, AllocError>
+    ensures { IfOk result (λ text. string_bytes text ≡ insn_spelling insn.now) }
+{
+    let mut line = String::new(alloc);
+    print_insn(&mut line, insn)?;
+    match line.as_str().strip_suffix('\n') {
+        Some(text) => String::from_str(alloc, text),
+        None => Ok(line),
+    }
+}
+
+/// Adds an instruction.
+pub(crate) fn add_insn(
+    out: &mut String,
+    alloc: Global,
+    name: &str,
+    insn: &Insn,
+) -> Result<(), AllocError>
+    ensures { OnOk result (string_bytes out.new ≡ string_bytes out.old ++ word name.now (insn_spelling insn.now)) }
+{
+    let text = insn_text(alloc, insn)?;
+    add_word(out, name, text.as_str())
+}

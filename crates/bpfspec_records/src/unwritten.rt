@@ -1,0 +1,177 @@
+//! The bytes that an instruction reads and that aren't written.
+
+ghost use Rattle.std.specs.Prelude.{◌≡◌, ◌<◌, ◌≤◌, ◌+◌, ◌++◌, OnOk};
+ghost use Rattle.bpfspec_records.specs.Units.{base_records, byte_record, byte_records, caller_bytes, memory_read};
+ghost use Rattle.bpfspec_records.specs.Units.{place_records, unread_records};
+
+use crate::adding::add;
+use crate::records::{FrameOf, Record};
+use bpf_insn_types::{Insn, Reg};
+use bpf_verify_model::{AbstractValue, Helper, State, reg};
+use bpf_verify_values::{atomic_bytes, bytes_of, helper_of};
+use bpf_verify_written::WrittenBytes;
+use std::alloc::AllocError;
+
+/// A read of memory: n bytes at a base register and an offset.
+#[derive(Clone, Copy)]
+pub struct MemoryRead {
+    pub base: Reg,
+    pub offset: i16,
+    pub size: u32,
+}
+
+/// The read of memory that an instruction makes, if it makes one: a lookup reads a key of 4 bytes at r2.
+fn memory_read(insn: &Insn) -> Option<MemoryRead>
+    ensures { result ≡ memory_read insn.now }
+{
+    match *insn {
+        Insn::Load {
+            size,
+            src,
+            offset,
+            ..
+        }
+        | Insn::LoadSx {
+            size,
+            src,
+            offset,
+            ..
+        } => Some(MemoryRead {
+            base: src,
+            offset,
+            size: bytes_of(size),
+        }),
+        Insn::Atomic {
+            width,
+            dst,
+            offset,
+            ..
+        } => Some(MemoryRead {
+            base: dst,
+            offset,
+            size: atomic_bytes(width),
+        }),
+        Insn::Call { callee, imm } => match helper_of(callee, imm) {
+            Some(Helper::Lookup) => Some(MemoryRead {
+                base: reg(2),
+                offset: 0,
+                size: 4,
+            }),
+            _ => None,
+        },
+        _ => None,
+    }
+}
+
+/// Adds a byte of a frame that the instruction at a slot reads, unless it is written.
+fn add_byte(
+    records: &mut Vec<Record>,
+    slot: u32,
+    frame: FrameOf,
+    written: &WrittenBytes,
+    position: u32,
+) -> Result<(), AllocError>
+    requires { position < 512 }
+    ensures { OnOk result (records.new.items ≡ records.old.items ++ byte_record slot frame written.now position) }
+{
+    if written.all_written(position as usize, 1) {
+        return Ok(());
+    }
+    let offset = i64::from(position) - 512;
+    add(
+        records,
+        Record::Unwritten {
+            slot,
+            frame,
+            offset,
+        },
+    )
+}
+
+/// Adds those of n bytes from a position in a frame on that aren't written.
+fn add_bytes(
+    records: &mut Vec<Record>,
+    slot: u32,
+    frame: FrameOf,
+    written: &WrittenBytes,
+    position: u32,
+    size: u32,
+) -> Result<(), AllocError>
+    requires { position + size ≤ 512 }
+    ensures { OnOk result (records.new.items
+        ≡ records.old.items ++ byte_records slot frame written.now position size) }
+{
+    for at in 0..size {
+        add_byte(records, slot, frame, written, position + at)?;
+    }
+    Ok(())
+}
+
+/// The same from a place on, if all n bytes are in the frame.
+fn add_bytes_at(
+    records: &mut Vec<Record>,
+    slot: u32,
+    frame: FrameOf,
+    written: &WrittenBytes,
+    place: i64,
+    size: u32,
+) -> Result<(), AllocError>
+    ensures { OnOk result (records.new.items ≡ records.old.items ++ place_records slot frame written.now size place) }
+{
+    if place < 0 || place > 512 - i64::from(size) {
+        return Ok(());
+    }
+    add_bytes(records, slot, frame, written, place as u32, size)
+}
+
+/// The written bytes of main's frame, in a callback.
+fn caller_bytes(caller: Option<WrittenBytes>) -> WrittenBytes
+    ensures { result ≡ caller_bytes caller }
+{
+    match caller {
+        None => WrittenBytes::none(),
+        Some(written) => written,
+    }
+}
+
+/// Adds the unwritten bytes that a read at this base has.
+fn add_base(
+    records: &mut Vec<Record>,
+    slot: u32,
+    state: &State,
+    read: MemoryRead,
+    base: &AbstractValue,
+) -> Result<(), AllocError>
+    ensures { OnOk result (records.new.items
+        ≡ records.old.items ++ base_records slot state.now read.offset read.size base.now) }
+{
+    let offset = i64::from(read.offset);
+    match *base {
+        AbstractValue::Frame(position) => {
+            let place = i64::from(position) + offset;
+            add_bytes_at(records, slot, FrameOf::Own, &state.own, place, read.size)
+        }
+        AbstractValue::Ctx(position) => {
+            let place = i64::from(position) + offset;
+            let written = caller_bytes(state.caller);
+            add_bytes_at(records, slot, FrameOf::Main, &written, place, read.size)
+        }
+        _ => Ok(()),
+    }
+}
+
+/// Adds the bytes that the instruction at a slot reads and that aren't written.
+pub(crate) fn add_unwritten_bytes(
+    records: &mut Vec<Record>,
+    slot: u32,
+    insn: &Insn,
+    state: &State,
+) -> Result<(), AllocError>
+    ensures { OnOk result (records.new.items
+        ≡ records.old.items ++ unread_records slot state.now (memory_read insn.now)) }
+{
+    match memory_read(insn) {
+        None => Ok(()),
+        Some(read) => add_base(records, slot, state, read, &state.register(read.base)),
+    }
+}

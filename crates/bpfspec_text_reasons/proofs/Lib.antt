@@ -1,9 +1,0 @@
-pub mod MisfitLaws
-pub mod PartLaws
-pub mod HintLaws
-pub mod OrLaws
-pub mod LineLaws
-pub mod TableLaws
-pub mod ForeignLaws
-pub mod SlipLaws
-pub mod ByteLaws

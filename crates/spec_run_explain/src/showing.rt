@@ -1,0 +1,83 @@
+//! What is shown of a loop call that conflicts.
+
+ghost use Rattle.std.specs.Prelude.{◌≡◌, ◌<◌, ◌&&◌, Some, IfOk};
+ghost use Rattle.bpf_verify_sound.specs.Soundness.{OverApproximatesCall};
+ghost use Rattle.loop_core_model.specs.LeastBreak.{count_to};
+ghost use Rattle.loop_core_witness.specs.declared.place.Place.{Place as At};
+ghost use Rattle.loop_core_witness.specs.Breaks.{IsBreak, index_of};
+ghost use Rattle.spec_run_explain.specs.Showing.{first_pair, is_conflict, Shows};
+
+use crate::explained::Cause;
+use array_maps::Maps;
+use bpf_step::LoopCall;
+use bpf_verify::Verified;
+use loop_core_grid::{Focus, Grid, grid_of_loop};
+use loop_core_model::Verdict;
+use loop_core_witness::Place;
+use std::alloc::{AllocError, Global};
+
+/// Whether a loop conflicts.
+fn is_conflict(verdict: Verdict) -> bool
+    ensures { result ≡ is_conflict verdict }
+{
+    match verdict {
+        Verdict::Conflict { .. } => true,
+        Verdict::Parallel | Verdict::Refused | Verdict::InOrder => false,
+    }
+}
+
+/// Whether a grid is shown of a loop, if one is wanted.
+pub(crate) fn is_shown(wanted: bool, verdict: Verdict) -> bool
+    ensures { result ≡ (wanted && is_conflict verdict) }
+{
+    wanted && is_conflict(verdict)
+}
+
+/// How many iterations count: up to the break, or all.
+fn counted_by(call: &LoopCall, broke: Option<Place>) -> u32
+    requires within { (place : At) → broke ≡ Some place → place.index < call.now.n }
+    ensures { result ≡ count_to call.now.n (index_of broke) }
+{
+    let n = call.n();
+    match broke {
+        Some(place) => place.index + 1,
+        None => n,
+    }
+}
+
+/// The pair of the first of some causes.
+fn first_pair(causes: &[Cause]) -> Option<Focus>
+    ensures { result ≡ first_pair causes.now }
+{
+    match causes.first().copied() {
+        Some(cause) => Some(Focus {
+            element: cause.element,
+            first: cause.witness.writer.index,
+            second: cause.witness.reader.index,
+        }),
+        None => None,
+    }
+}
+
+/// The grid of a loop call's counted iterations around the pair of its first cause, if it is wanted.
+pub(crate) fn grid_if(
+    wanted: bool,
+    alloc: Global,
+    program: &Verified,
+    call: &LoopCall,
+    start: &Maps,
+    broke: Option<Place>,
+    causes: &[Cause],
+) -> Result<Option<Grid>, AllocError>
+    requires known { OverApproximatesCall program.now call.now }
+    requires sizes { start.now.sizes ≡ program.now.sizes }
+    requires broke { IsBreak program.now call.now start.now.words broke }
+    ensures { IfOk result (Shows program.now call.now start.now.words causes.now wanted) }
+{
+    if !wanted {
+        return Ok(None);
+    }
+    let count = counted_by(call, broke);
+    let grid = grid_of_loop(alloc, program, call, start, count, first_pair(causes))?;
+    Ok(Some(grid))
+}
