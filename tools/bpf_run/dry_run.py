@@ -26,7 +26,7 @@ def lines_of(options: Options, clock: Clock) -> Iterator[str]:
     yield f"{_line(_unit_words(options, files.target if way else options.file))} > {UNIT}"
     yield f"{_line((*found.bpfspec, 'verify'))} < {UNIT}"
     if options.command == "explain":
-        yield f"{_line((*found.explain, *options.explain_words(options.arguments[0])))} < {UNIT}"
+        yield f"{_line((*found.explain, *options.facts_words(options.arguments[0])))} < {UNIT}"
     if options.command == "run":
         yield from _runs(options, found.bpfspec)
     yield f"rm -r {FOLDER}"

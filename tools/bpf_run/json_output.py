@@ -96,7 +96,7 @@ def _conflict(report: Report, conflict: ConflictReport) -> Json:
 
 
 def _refusal(report: Report, refusal: Refusal) -> Json:
-    helps = [line[len(HELP) :] for line in report.refused_lines if line.startswith(HELP)]
+    helps = [line[len(HELP) :] for line in report.reasons if line.startswith(HELP)]
     line = None if refusal.slot is None else report.program.line_at(refusal.slot)
     return {"rule": refusal.rule, "slot": refusal.slot, "line": _line(line), "helps": helps[0] if helps else None}
 

@@ -2,18 +2,17 @@
 
 from __future__ import annotations
 
-import re
 from dataclasses import dataclass
+
+from explain.records import Facts, Value
 
 from .reports import Function
 from .unit_text import UnitText
 
 MOST_ITERATIONS = 8_388_608
 WORD = 1 << 32
-UNREACHED = "no path leads here"
+ITERATIONS, CALLBACK = 1, 2  # the registers of bpf_loop's first two arguments
 NO_VALUES = "%%\nnone\n"  # values that are refused, so that the program is judged and not run
-ITERATIONS = re.compile(r"\br1 is (\d+)(?: to (\d+))?(?=,|$| in steps)")
-CALLBACK = re.compile(r"\br2 is the callback at slot (\d+)")
 
 
 @dataclass(frozen=True)
@@ -33,9 +32,10 @@ class Most:
     loops: list[LoopBound]
 
 
-def most_of(unit: UnitText, functions: list[Function], states: dict[int, str]) -> Most:
-    """The most, by what `explain --states` printed at the slots of the unit."""
-    loops = [_bound(slot, states.get(slot, "")) for slot in unit.loop_slots if states.get(slot) != UNREACHED]
+def most_of(unit: UnitText, functions: list[Function], facts: Facts | None) -> Most:
+    """The most, by the abstract values before the loop calls; a unit without any needs none."""
+    slots = [slot for slot in unit.loop_slots if facts is not None and facts.insns[slot].reached]
+    loops = [_bound(slot, facts.values.get(slot, {})) for slot in slots] if facts is not None else []
     counts = {function.slot: function.count for function in functions}
     greatest = max((count for slot, count in counts.items() if slot), default=0)
     most = counts.get(0, 0)
@@ -44,16 +44,16 @@ def most_of(unit: UnitText, functions: list[Function], states: dict[int, str]) -
     return Most(most, loops)
 
 
-def _bound(slot: int, state: str) -> LoopBound:
-    callback = CALLBACK.search(state)
-    return LoopBound(slot, _iterations(ITERATIONS.search(state)), int(callback[1]) if callback else None)
+def _bound(slot: int, registers: dict[int, Value]) -> LoopBound:
+    asked, callback = registers.get(ITERATIONS), registers.get(CALLBACK)
+    return LoopBound(slot, _iterations(asked), callback.start if callback is not None else None)
 
 
-def _iterations(known: re.Match[str] | None) -> int:
+def _iterations(asked: Value | None) -> int:
     """The most that the helper starts: it reads the low 32 bits, and starts none where they ask for too many."""
-    if known is None:
+    if asked is None or asked.low is None or asked.high is None:
         return MOST_ITERATIONS
-    if known[2] is None:
-        asked = int(known[1]) % WORD
-        return asked if asked <= MOST_ITERATIONS else 0
-    return min(int(known[2]), MOST_ITERATIONS)
+    if asked.low == asked.high:
+        count = asked.low % WORD
+        return count if count <= MOST_ITERATIONS else 0
+    return min(asked.high, MOST_ITERATIONS)

@@ -49,8 +49,8 @@ class Options:
             words += [f"--{name}", str(value)] if value is not None else []
         return words
 
-    def explain_words(self, argument: int) -> list[str]:
-        """The words of `bpfspec explain` for the same run."""
+    def facts_words(self, argument: int) -> list[str]:
+        """The words of `bpfspec facts` and `explain` for the same run."""
         words = _argument_words(argument)
         return words + (["--test", self.test] if self.test is not None else [])
 

@@ -9,10 +9,11 @@ from html import escape
 from pathlib import Path
 
 from .c_values import lines_of
+from .explained import loop_line
 from .page_parts import SCRIPT, STYLE
 from .report import LoopReport, Program, Report, RunReport, place
 from .session import Session
-from .text_output import explained_lines, loop_line, most_line, refusal_line
+from .text_output import most_line, refusal_line
 
 SOURCE_LIMIT = 1 << 20  # bytes
 PICTURES = 4  # runs whose first conflict is drawn
@@ -58,8 +59,8 @@ def _page(report: Report, pictures: dict[int, str]) -> Iterator[str]:
 def _verdict(report: Report) -> Iterator[str]:
     if report.refusal:
         yield f'<p class="bad">{escape(refusal_line(report))}</p>'
-        lines = "\n".join(explained_lines(report, report.refused_lines[1:]))
-        yield f"<pre>{escape(lines)}</pre>"
+        reasons = "\n".join(report.reasons)
+        yield f"<pre>{escape(reasons)}</pre>"
         return
     functions = "; ".join(f"{f.name} {f.count}" for f in report.functions)
     yield f'<p><span class="good">accepted</span>, {escape(most_line(report))} of a run <span class="faint">'

@@ -49,13 +49,11 @@ class Programs:
 
 
 def find_programs() -> Programs:
-    """Those of $BPFSPEC and $BPFSPEC_EXPLAIN, else of this repository or installation, else `bpfspec` on the path."""
-    launcher = _launcher()
-    bpfspec = _named("BPFSPEC") or launcher
-    explain = _named("BPFSPEC_EXPLAIN") or (*launcher, "explain")
-    if not bpfspec or explain == ("explain",):
-        raise Refused("there is no program bpfspec: $BPFSPEC and $BPFSPEC_EXPLAIN name it")
-    return Programs(bpfspec, explain)
+    """The program of $BPFSPEC, else of this repository or installation, else `bpfspec` on the path; and tools/explain."""
+    bpfspec = _named("BPFSPEC") or _launcher()
+    if not bpfspec:
+        raise Refused("there is no program bpfspec: $BPFSPEC names it")
+    return Programs(bpfspec, (sys.executable, str(TOOLS / "explain")))
 
 
 def _named(variable: str) -> tuple[str, ...]:

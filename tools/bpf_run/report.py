@@ -160,13 +160,11 @@ class Report:
     functions: list[FunctionReport] = field(default_factory=list)
     most: Optional[Most] = None
     refusal: Optional[Refusal] = None
-    refused_lines: list[str] = field(default_factory=list)
+    reasons: list[str] = field(default_factory=list)  # why it is refused, or what its loops do, in words
     above_limit: Optional[int] = None
     runs: list[RunReport] = field(default_factory=list)
-    explained: list[str] = field(default_factory=list)
     loops: list[LoopReport] = field(default_factory=list)
     states: dict[int, str] = field(default_factory=dict)
-    pictures: list[str] = field(default_factory=list)
 
 
 def make_program(file: str, main: str | None, loaded: Loaded) -> Program:

@@ -1,9 +1,9 @@
-"""What the programs print, read: the answer and the loops of a run, a refusal, and the explanation of a conflict."""
+"""What the program prints, read: the answer and the loops of a run, functions, and a refusal."""
 
 from __future__ import annotations
 
 import re
-from dataclasses import dataclass, field
+from dataclasses import dataclass
 from typing import Optional
 
 from bpf_object.refusal import Refused
@@ -15,13 +15,6 @@ CONFLICT = re.compile(r"conflict (\d+) least (\d+)")
 MAP = re.compile(r"map \d+: ([\d ]+)")
 FUNCTION = re.compile(r"function (\d+) at (\d+) count (\d+)")
 REFUSAL = re.compile(r"refused (\S+)(?: at (?:slot|unit line) (\d+))?")
-
-ELEMENT = re.compile(r"  element (\d+) \(map \d+ at \d+\)(?:: .*)?")
-ITERATION = re.compile(r"( +)iteration +(\d+) (\w[\w, ]*?) +line (\d+): (.*)")
-ACCESS_INDENT = "    "  # of an iteration that accesses an element, where one that breaks the loop has less
-REFUSED_CALL = re.compile(r"  (it asks for \d+ iterations|its flags are \d+) \(r[14]\), (and .*)")
-STATE_LINE = re.compile(r"  line (\d+): (.*)")
-STATE = re.compile(r"    slot (\d+): (.*)")
 
 
 @dataclass(frozen=True)
@@ -62,34 +55,6 @@ class Refusal:
     text: str
 
 
-@dataclass(frozen=True)
-class Access:
-    """What an iteration does with an element, and at which line of the unit."""
-
-    iteration: int
-    action: str
-    line: int
-
-
-@dataclass(frozen=True)
-class Conflict:
-    """An element that conflicts, and the accesses that show it."""
-
-    element: int
-    accesses: list[Access]
-
-
-@dataclass
-class Explanation:
-    """What is explained: by the loops' numbers, their conflicts and why they are refused; and all lines as printed."""
-
-    lines: list[str]
-    loops: list[Loop] = field(default_factory=list)
-    conflicts: dict[int, list[Conflict]] = field(default_factory=dict)
-    refused: dict[int, str] = field(default_factory=dict)
-    states: dict[int, str] = field(default_factory=dict)  # by slots
-
-
 def read_run(output: str) -> Run | Refusal:
     """The output of `run` or `order`."""
     if refusal := read_refusal(output):
@@ -121,25 +86,6 @@ def read_refusal(output: str) -> Refusal | None:
     line = output.partition("\n")[0]
     match = REFUSAL.match(line)
     return Refusal(match[1], int(match[2]) if match[2] else None, line) if match else None
-
-
-def read_explanation(output: str) -> Explanation:
-    """The output of `explain`."""
-    explanation = Explanation(output.splitlines())
-    conflicts: list[Conflict] = []
-    for line in explanation.lines:
-        if match := LOOP.fullmatch(line):
-            explanation.loops.append(_loop(match))
-            conflicts = explanation.conflicts.setdefault(int(match[1]), [])
-        elif match := ELEMENT.fullmatch(line):
-            conflicts.append(Conflict(int(match[1]), []))
-        elif (match := ITERATION.fullmatch(line)) and conflicts and match[1] == ACCESS_INDENT:
-            conflicts[-1].accesses.append(Access(int(match[2]), match[3].removesuffix(" it"), int(match[4])))
-        elif (match := REFUSED_CALL.fullmatch(line)) and explanation.loops:
-            explanation.refused[explanation.loops[-1].number] = f"{match[1]}, {match[2]}"
-        elif match := STATE.fullmatch(line):
-            explanation.states[int(match[1])] = match[2]
-    return explanation
 
 
 def _loop(match: re.Match[str]) -> Loop:

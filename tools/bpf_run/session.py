@@ -5,21 +5,23 @@ from __future__ import annotations
 import struct
 import sys
 from collections.abc import Iterator
-from itertools import takewhile
 
 from bpf_object.loaded import Loaded, refuse_long_values
 from bpf_object.program import Fault
 from bpf_object.refusal import Refused
 
+from explain.records import Facts, RecordsError
+from explain.records import read as read_facts
+
 from . import programs, state
+from .explained import loop_lines, loop_reports, reason_lines, states_of
 from .library import Machine, find_library
 from .loading import load_file
 from .most import NO_VALUES, most_of
 from .options import Options
 from .programs import Answer, Clock
-from .report import AccessReport, ConflictReport, FunctionReport, LoopReport, Report, RunReport, make_program
-from .reports import LOOP, Conflict, Explanation, Function, Loop, Refusal, Run
-from .reports import read_explanation, read_run, read_verify
+from .report import FunctionReport, LoopReport, Report, RunReport, make_program
+from .reports import Function, Loop, Refusal, Run, read_run, read_verify
 from .unit_text import SHORT, VALUES, split, with_values
 
 EXPLAIN_SECONDS = 60.0  # that a run's conflicts may take to be explained
@@ -53,10 +55,9 @@ class Session:
         found = self._verdict(self.program.unit.text)
         if isinstance(found, Refusal):
             self.report.refusal = found
-            words = ["--states"] if self.options.states else []
-            self.report.refused_lines = self._explain(words, self.program.unit.text + NO_VALUES).lines
-            if self.options.page is not None:
-                self.report.states = self._states()
+            facts = self._facts(["--states"] if self.options.states else [], self._judged)
+            self.report.reasons = reason_lines(self.program, facts)
+            self.report.states = states_of(self.program, facts) if self.options.page is not None else {}
             return False
         self.report.functions = [
             FunctionReport(self._name(f.slot, k), self.program.line_at(f.slot), f.slot, f.count)
@@ -66,10 +67,12 @@ class Session:
 
     def find_most(self) -> bool:
         """Finds the most instructions of a run; whether they are within the limit."""
+        facts = None
         if self.program.unit.loop_slots or self.options.page is not None:
-            self.report.states = self._states()
+            facts = self._facts(["--states"], self._judged)
+            self.report.states = states_of(self.program, facts)
         counts = [Function(function.slot, function.count) for function in self.report.functions]
-        self.report.most = most = most_of(self.program.unit, counts, self.report.states)
+        self.report.most = most = most_of(self.program.unit, counts, facts)
         limit = self.options.limit
         if limit is not None and most.instructions > limit:
             self.report.above_limit = limit
@@ -94,17 +97,17 @@ class Session:
     def explain(self) -> bool:
         """Has all loops explained, as they are for the first argument; False if that run is a trap, with no loops."""
         argument, values = self.options.arguments[0], self._values()
-        words = [*self.options.explain_words(argument), *(["--all"] if self.options.all else [])]
-        explained = self._explain([*words, *(["--states"] if self.options.states else [])], values)
+        words = [*self.options.facts_words(argument), *(["--all"] if self.options.all else [])]
+        facts = self._facts([*words, *(["--states"] if self.options.states else [])], values)
+        self.report.reasons = reason_lines(self.program, facts)
         if self._is_trap(argument, values):
-            self.report.explained = [*takewhile(lambda line: not LOOP.fullmatch(line), explained.lines)]
             return False
-        self.report.explained = explained.lines
-        self.report.loops = [self._loop(loop, explained) for loop in explained.loops]
+        self.report.reasons += loop_lines(self.program, facts)
+        self.report.loops = [*loop_reports(self.program, [], facts)]
         return True
 
     def _is_trap(self, argument: int, values: str) -> bool:
-        """Whether the run is a trap, which `bpfspec explain` doesn't know; the report then has that run."""
+        """Whether the run is a trap, which facts don't say; the report then has that run."""
         if self.program.loaded.trap_element is None:
             return False
         found = self._run(argument, values)
@@ -116,8 +119,8 @@ class Session:
     def picture(self, argument: int, words: list[int]) -> str | None:
         """The picture of the first loop that conflicts."""
         text = with_values(self.program.unit.text, split(words, self.program.loaded.sizes))
-        asked = [*self._programs.explain, *self.options.explain_words(argument), "--picture"]
-        answer = programs.run(tuple(asked), text, self._clock, EXPLAIN_SECONDS)
+        asked = (*self._programs.explain, *self.options.facts_words(argument), "--picture")
+        answer = programs.run(asked, text, self._clock, EXPLAIN_SECONDS)
         return answer.output if answer and answer.output.startswith("<svg") else None
 
     def _load(self) -> Loaded:
@@ -166,15 +169,17 @@ class Session:
             raise Failed(status if 0 < status < 128 else programs.NO_STREAM, told)
         return answer
 
-    def _explain(self, words: list[str], text: str) -> Explanation:
-        answer = programs.run((*self._programs.explain, *words), text, self._clock)
-        if answer is None or not answer.output:
-            raise Failed(programs.NO_STREAM, "bpfspec explain printed nothing")
-        return read_explanation(answer.output)
+    def _facts(self, words: list[str], text: str) -> Facts:
+        answer = self._ask(self._programs.bpfspec, "facts", words, text)
+        try:
+            return read_facts(answer.output)
+        except RecordsError as reason:
+            raise Failed(programs.NO_STREAM, str(reason)) from None
 
-    def _states(self) -> dict[int, str]:
-        """What the verifier knows at each slot."""
-        return self._explain(["--states"], self.program.unit.text + NO_VALUES).states
+    @property
+    def _judged(self) -> str:
+        """The unit with values that are refused, so that it is judged and not run."""
+        return self.program.unit.text + NO_VALUES
 
     def _values(self) -> str:
         """The unit with the values that the run begins with."""
@@ -188,29 +193,14 @@ class Session:
         return self.program.unit.label_at(slot) or f"function {number}"
 
     def _loops(self, loops: list[Loop], argument: int, values: str) -> Iterator[LoopReport]:
-        explained = Explanation([])
+        """The loops of a run, with the accesses that show why they conflict, unless it takes too long to find them."""
+        facts = None
         if any(loop.conflicts or loop.answer < 0 for loop in loops):
-            words = (*self._programs.explain, *self.options.explain_words(argument))
+            words = (*self._programs.bpfspec, "facts", *self.options.facts_words(argument))
             answer = programs.run(words, values, self._clock, EXPLAIN_SECONDS)
-            explained = read_explanation(answer.output if answer else "")
             if answer is None:
                 told = f"bpfrun: a loop takes more than {EXPLAIN_SECONDS:.0f} s to explain: see bpfrun explain"
                 print(told, file=sys.stderr)
-        for loop in loops:
-            yield self._loop(loop, explained)
-
-    def _loop(self, loop: Loop, explained: Explanation) -> LoopReport:
-        shown = [self._conflict(conflict) for conflict in explained.conflicts.get(loop.number, [])]
-        if loop.least is not None and not shown:
-            shown = [ConflictReport(self.program.name_of(loop.least), loop.least, [])]
-        place = self.program.place_at(loop.slot)
-        refused = explained.refused.get(loop.number, "")
-        return LoopReport(place, loop.slot, loop.answer, loop.verdict, loop.conflicts, shown, refused)
-
-    def _conflict(self, conflict: Conflict) -> ConflictReport:
-        slots = self.program.unit.slot_of_line
-        accesses = [
-            AccessReport(a.iteration, a.action, self.program.place_at(slots.get(a.line, 0)), slots.get(a.line, 0))
-            for a in conflict.accesses
-        ]
-        return ConflictReport(self.program.name_of(conflict.element), conflict.element, accesses)
+            else:
+                facts = read_facts(answer.output)
+        return loop_reports(self.program, loops, facts)

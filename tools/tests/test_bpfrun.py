@@ -3,7 +3,7 @@
 
     python3 tools/tests/test_bpfrun.py
 
-The program is that of $BPFSPEC and $BPFSPEC_EXPLAIN, else ./bpfspec.
+The program is that of $BPFSPEC, else ./bpfspec.
 """
 
 from __future__ import annotations
@@ -483,13 +483,12 @@ class Installed(InFolder):
         room = self.folder / "room"
         of_cpu = room / "x86-64-v2"
         of_cpu.mkdir(parents=True)
-        for name in "bpfspec", "bpfspec_explain":
-            program = of_cpu / name
-            program.write_text(f'#!/bin/sh\nexec {os.environ.get(name.upper(), f"{TOP}/bpfspec")} "$@"\n')
-            program.chmod(0o755)
+        program = of_cpu / "bpfspec"
+        program.write_text(f'#!/bin/sh\nexec {os.environ.get("BPFSPEC", f"{TOP}/bpfspec")} "$@"\n')
+        program.chmod(0o755)
         (room / "how").write_text("built for a test\n")
         prefix = self.folder / "prefix"
-        words = [TOP / "tools" / "install", room, room, self.folder / "no_library", of_cpu.name, prefix]
+        words = [TOP / "tools" / "install", room, self.folder / "no_library", of_cpu.name, prefix]
         subprocess.run(words, check=True, stdout=subprocess.DEVNULL)
         (self.folder / "link").symlink_to(prefix / "bin" / "bpfrun")
         environment = {k: v for k, v in ENVIRONMENT.items() if not k.startswith("BPFSPEC")}
