@@ -57,7 +57,7 @@ move_extends low high each slot (Next next) words = mapped_extends (with_first_s
 move_extends low high each slot (Asks element request next) words = access_extends low high each element request next
     words (slice_get words element)
 move_extends low high each slot (Loops call next) words = inr refl
-move_extends low high each slot (Refuses answer next) words = inr refl
+move_extends low high each slot (Refuses call next) words = inr refl
 move_extends low high each slot (Exits ret) words = inr refl
 
 pub run_extends : (program : Program) (low high : ℕ) → low ≤ high → (m : Machine) (words : List ℕ)
@@ -118,7 +118,7 @@ module _ (program : Program) (low high : ℕ) (h : low ≤ high) (short long : M
       (after_loop_extends call next words)
       (loop_in_order program low call words) (loop_in_order program high call words) (loop_extends program low high h
       call words)
-  after_turn_extends (Refused slot answer next) words = mapped_extends (with_loop _) (each next words)
+  after_turn_extends (Refused slot call next) words = mapped_extends (with_loop _) (each next words)
 
   after_stretch_extends : (s : RunSegment) → Extends (after_segment program low short s)
       (after_segment program high long s)

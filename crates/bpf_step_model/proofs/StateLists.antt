@@ -79,10 +79,10 @@ module _ (program : Program) where
       let ends : EndsBy m.slot (step program m) (Loop call next) =
       subst (λ (move : StepOutcome). EndsBy m.slot move (Loop call next)) (sym moves) refl in
       subst (IsListed (suc bound) m words) (ended_same _ s h) (ended_listed bound m words (Loop call next) ends)
-  by_move bound lists m words s (Refuses answer next) moves h =
-      let ends : EndsBy m.slot (step program m) (Refused m.slot answer next) =
-      subst (λ (move : StepOutcome). EndsBy m.slot move (Refused m.slot answer next)) (sym moves) refl in
-      subst (IsListed (suc bound) m words) (ended_same _ s h) (ended_listed bound m words (Refused m.slot answer next)
+  by_move bound lists m words s (Refuses call next) moves h =
+      let ends : EndsBy m.slot (step program m) (Refused m.slot call next) =
+      subst (λ (move : StepOutcome). EndsBy m.slot move (Refused m.slot call next)) (sym moves) refl in
+      subst (IsListed (suc bound) m words) (ended_same _ s h) (ended_listed bound m words (Refused m.slot call next)
       ends)
   by_move bound lists m words s (Exits ret) moves h =
       let ends : EndsBy m.slot (step program m) (Exit ret) =
@@ -101,7 +101,7 @@ module _ (program : Program) where
   run_ends go_on slot (Next next) words turn h = absurd h
   run_ends go_on slot (Asks element request next) words turn h = absurd h
   run_ends go_on slot (Loops call next) words turn h = ap (λ t. ended_by t words) (sym h)
-  run_ends go_on slot (Refuses answer next) words turn h = ap (λ t. ended_by t words) (sym h)
+  run_ends go_on slot (Refuses call next) words turn h = ap (λ t. ended_by t words) (sym h)
   run_ends go_on slot (Exits ret) words turn h = ap (λ t. ended_by t words) (sym h)
 
   run_goes : (go_on : Machine → List ℕ → BoundedResult RunSegment) (slot : ℕ) (move : StepOutcome)
@@ -125,7 +125,7 @@ module _ (program : Program) where
       (subst (λ (o : Option ℕ). after_access go_on element request m words o ≡ Ended (with_first_step (access ∷ []) s))
       (sym goes.1) (ap (mapped (with_first_step (access ∷ []))) same))
   run_goes go_on slot (Loops call m) words between first next s goes h = absurd goes
-  run_goes go_on slot (Refuses answer m) words between first next s goes h = absurd goes
+  run_goes go_on slot (Refuses call m) words between first next s goes h = absurd goes
   run_goes go_on slot (Exits ret) words between first next s goes h = absurd goes
 
   -- the stretch of a list of states

@@ -71,7 +71,7 @@ module _ (program : Program) where
   by_move bound leads m words (Asks element request next) moves h = by_access bound leads m next element request moves
       words (slice_get words element) refl h
   by_move bound leads m words (Loops call next) moves h = absurd (cc)
-  by_move bound leads m words (Refuses answer next) moves h = absurd (cc)
+  by_move bound leads m words (Refuses call next) moves h = absurd (cc)
   by_move bound leads m words (Exits ret) moves h = absurd (cc)
 
   pub leads_to_no_step : (bound : ℕ) → Leads bound
@@ -85,7 +85,7 @@ module _ (program : Program) where
   move_stuck go_on slot (Asks element request next) words h = ap (after_access go_on element request next words) h
   move_stuck go_on slot (Next next) words h = absurd h
   move_stuck go_on slot (Loops call next) words h = absurd h
-  move_stuck go_on slot (Refuses answer next) words h = absurd h
+  move_stuck go_on slot (Refuses call next) words h = absurd h
   move_stuck go_on slot (Exits ret) words h = absurd h
 
   move_goes : (go_on : Machine → List ℕ → BoundedResult RunSegment) (slot : ℕ) (move : StepOutcome)
@@ -103,7 +103,7 @@ module _ (program : Program) where
       subst (λ (o : Option ℕ). after_access go_on element request m words o ≡ Stuck) (sym goes.1)
       (ap (mapped (with_first_step (access ∷ []))) stuck)
   move_goes go_on slot (Loops call m) words between first next goes h = absurd goes
-  move_goes go_on slot (Refuses answer m) words between first next goes h = absurd goes
+  move_goes go_on slot (Refuses call m) words between first next goes h = absurd goes
   move_goes go_on slot (Exits ret) words between first next goes h = absurd goes
 
   pub stuck_from : (count bound : ℕ) → count < bound → (m : Machine) (words : List ℕ) (accesses : List Access)

@@ -16,7 +16,7 @@ use Rattle.bpf_insn_types.specs.Program.{Program}
 use Rattle.bpf_step_model.specs.State.{LoopCall, Bytes, fresh_frame}
 use Rattle.bpf_step_model.specs.Memory.{written_at}
 use Rattle.bpf_step_model.specs.Run.{Ended, Stuck}
-use Rattle.bpf_step_model.specs.ProgramInOrder.{LoopMade, Finished, program_in_order}
+use Rattle.bpf_step_model.specs.ProgramInOrder.{LoopMade, Finished, program_in_order, valid_call, refused_call}
 use Rattle.bpf_step_model.specs.Lines.{mov, alu_imm, alu_reg, map_value, end, element_address, loop_with, loop_of}
 
 -- jne64 r, n, +distance
@@ -81,17 +81,17 @@ LoopComputes sizes n callback before answer after =
     program_in_order (looping sizes n callback) 20 0 before
     ≡ Ended (record {
       ret = answer;
-      loops = record { slot = 5; answer = pos answer; words = before; call = Some (worked_call n) } ∷ [];
+      loops = valid_call (worked_call n) answer before ∷ [];
       words = after;
     })
 
--- a loop call with these flags is refused with this answer and this return value
+-- a loop call by these arguments is refused with this answer and this return value
 abbrev pub CallIsRefused : (n flags : ℕ) → ℤ → ℕ → Type 0
 CallIsRefused n flags answer ret =
     program_in_order (record { sizes = 1 ∷ []; insns = loop_with n flags end }) 20 0 (0 ∷ [])
     ≡ Ended (record {
       ret = ret;
-      loops = record { slot = 5; answer = answer; words = 0 ∷ []; call = None } ∷ [];
+      loops = refused_call 5 (record { iterations = n; flags = flags; answer = answer }) (0 ∷ []) ∷ [];
       words = 0 ∷ [];
     })
 
@@ -118,18 +118,7 @@ pub record RefusedCallRows : Type 0 where
 -- a valid call of main, where the words stood so
 abbrev pub made : (slot callback n : ℕ) → Option ℕ → Bytes → List ℕ → LoopMade
 made slot callback n ctx frame words =
-    record {
-      slot = slot;
-      answer = pos n;
-      words = words;
-      call = Some (record {
-        slot = slot;
-        callback = callback;
-        n = n;
-        ctx = ctx;
-        frame = frame;
-      });
-    }
+    valid_call (record { slot = slot; callback = callback; n = n; ctx = ctx; frame = frame }) n words
 
 -- calls whose first or fourth argument is a number of more than 32 bits, at slot 6, or whose third is 1
 abbrev pub arguments : Insn → Insn → Insn → ℤ → List Insn
@@ -150,8 +139,7 @@ pub record ArgumentRows : Type 0 where
   pub wide_flags : Finishes (arguments (mov 1 4) (mov 3 0) (wide_number 4 0 1) (pos 6))
       (record {
         ret = 18446744073709551594;
-        loops = record { slot = 6; answer = negsuc 21; words = 0 ∷ []; call = None }
-            ∷ [];
+        loops = refused_call 6 (record { iterations = 4; flags = 4294967296; answer = negsuc 21 }) (0 ∷ []) ∷ [];
         words = 0 ∷ [];
       })
   pub ctx_of_one : program_in_order (record { sizes = 1 ∷ []; insns = arguments (mov 1 4) (mov 3 1) (mov 4 0) (pos 5) })

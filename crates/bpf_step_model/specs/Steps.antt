@@ -20,14 +20,14 @@ GoesOn (Asks element request m) words accesses next after =
     × (after ≡ words_after (access_of element request word) words)
 GoesOn NoStep words accesses next after = ⊥
 GoesOn (Loops call m) words accesses next after = ⊥
-GoesOn (Refuses answer m) words accesses next after = ⊥
+GoesOn (Refuses call m) words accesses next after = ⊥
 GoesOn (Exits ret) words accesses next after = ⊥
 
 -- an instruction at this slot ends the run
 abbrev pub EndsBy : ℕ → StepOutcome → StopReason → Type 0
 EndsBy slot (Exits ret) turn = turn ≡ Exit ret
 EndsBy slot (Loops call next) turn = turn ≡ Loop call next
-EndsBy slot (Refuses answer next) turn = turn ≡ Refused slot answer next
+EndsBy slot (Refuses call next) turn = turn ≡ Refused slot call next
 EndsBy slot NoStep turn = ⊥
 EndsBy slot (Next next) turn = ⊥
 EndsBy slot (Asks element request next) turn = ⊥
@@ -59,7 +59,7 @@ HasNoStep NoStep words = Unit {0}
 HasNoStep (Asks element request next) words = slice_get words element ≡ None
 HasNoStep (Next next) words = ⊥
 HasNoStep (Loops call next) words = ⊥
-HasNoStep (Refuses answer next) words = ⊥
+HasNoStep (Refuses call next) words = ⊥
 HasNoStep (Exits ret) words = ⊥
 
 -- steps lead to a state that has no step

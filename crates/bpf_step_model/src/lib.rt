@@ -1,5 +1,5 @@
 //! The machine: what a program means, step by step, and its loops in order. These are definitions and
-//! laws alone: nothing runs here.
+//! laws, and what a refused loop call asked for: nothing runs here.
 #![tactic(auto)]
 
 ghost use Rattle.bpf_step_model.specs.Atomics.{AtomicsAgree};
@@ -9,6 +9,10 @@ ghost use Rattle.bpf_step_model.specs.MapRows.{MapRows};
 ghost use Rattle.bpf_step_model.specs.ProgramRows.{ProgramRows};
 ghost use Rattle.bpf_step_model.specs.StepRows.{StepRows};
 ghost use Rattle.bpf_step_model.specs.Steps.{RunIsListOfStates, RunIsStuck};
+
+mod refused_call;
+
+pub use refused_call::RefusedCall;
 
 /// The definitions give what programs without loops return: arithmetic at its corners, lookups, and
 /// reads of what is unwritten, which are stuck.

@@ -49,7 +49,7 @@ module _ (op : Op) (ops : List PlainOp) (from past : ℕ) (add_up : AddUp op ops
   step_reduces bound runs slot (Wants element request next) words leads = access_reduces bound runs element request next
       words leads (slice_get words element)
   step_reduces bound runs slot (CallsLoop callback n ctx next) words leads = tt
-  step_reduces bound runs slot (RefusesLoop answer next) words leads = tt
+  step_reduces bound runs slot (RefusesLoop call next) words leads = tt
   step_reduces bound runs slot (Ends ret) words leads = tt
 
   runs_reduce : (bound : ℕ) → RunsReduce bound

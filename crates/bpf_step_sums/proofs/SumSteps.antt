@@ -10,7 +10,7 @@ use Rattle.array_maps.specs.declared.access.Op.{Op}
 use Rattle.loop_core_model.specs.Actions.{reduces_by}
 use Rattle.loop_core_model.proofs.OneElement.{and_true_left, and_true_right}
 use Rattle.bpf_step_model.specs.AtomicRegisters.{told_register}
-use Rattle.bpf_step_model.specs.LoopCalls.{Validity, RefusedBy, Valid, call_validity}
+use Rattle.bpf_step_model.specs.LoopCalls.{Validity, RefusedAs, Valid, call_validity}
 use Rattle.bpf_step_model.specs.Run.{action_of}
 use Rattle.bpf_step_model.specs.Step.{extended, atomic_left}
 use Rattle.bpf_step_ir.specs.declared.plain_op.PlainOp.{PlainOp}
@@ -38,7 +38,7 @@ module _ (op : Op) (from past : ℕ) where
   LeadsReducing (Wants element request next) = (word : ℕ) → (reduces_by op (action_of request word) ≡ true)
       × IsAt from past (plain_after_request request word next)
   LeadsReducing (CallsLoop callback n ctx next) = Unit {0}
-  LeadsReducing (RefusesLoop answer next) = Unit {0}
+  LeadsReducing (RefusesLoop call next) = Unit {0}
   LeadsReducing (Ends ret) = Unit {0}
 
   -- behind a slot, and at a target
@@ -73,7 +73,7 @@ module _ (op : Op) (from past : ℕ) where
 
   calls : (p : Plain) (callback : ℕ) (ctx : Option ℕ) (validity : Validity)
       → LeadsReducing (plain_loop_call_step p callback ctx validity)
-  calls p callback ctx (RefusedBy answer) = tt
+  calls p callback ctx (RefusedAs call) = tt
   calls p callback ctx (Valid n) = tt
 
   pub op_leads : (at : PlainOp) (p : Plain) → from ≤ p.slot → keeps_to op at ≡ true

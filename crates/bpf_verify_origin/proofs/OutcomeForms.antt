@@ -25,7 +25,7 @@ use Rattle.bpf_step_model.specs.State.{Value, Unwritten, Word, Frame, Map, Code,
 use Rattle.bpf_step_model.specs.State.{at_slot, with_register, with_frame, after_call}
 use Rattle.bpf_step_model.specs.Memory.{Place, InFrame, InCaller, InMap, number_at, written_at, place}
 use Rattle.bpf_step_model.specs.Values.{operand_value, on_word, result_of, comparison_of}
-use Rattle.bpf_step_model.specs.LoopCalls.{Validity, RefusedBy, Valid, call_validity}
+use Rattle.bpf_step_model.specs.LoopCalls.{Validity, RefusedAs, Valid, call_validity}
 use Rattle.bpf_step_model.specs.Step.{StepOutcome, NoStep, Next, Asks, Loops, Refuses, Exits, Load, sets, jumps}
 use Rattle.bpf_step_model.specs.Step.{branches, loads, store_of, stores_at, stores, tells, changes_frame, request_of}
 use Rattle.bpf_step_model.specs.Step.{extended, loaded, caller_number, atomic_left, update_of, changes_at}
@@ -43,7 +43,7 @@ Outcome E P NoStep = Unit {0}
 Outcome E P (Next next) = P next
 Outcome E P (Asks element request next) = (word : ℕ) → P (after_request request word next)
 Outcome E P (Loops call next) = E × ((answer : ℕ) → P (resumed next answer))
-Outcome E P (Refuses answer next) = P next
+Outcome E P (Refuses call next) = P next
 Outcome E P (Exits ret) = Unit {0}
 
 pub outcome-goes : (E : Type 0) (P : Machine → Type 0) (move : StepOutcome) (m : Machine) → Outcome E P move
@@ -52,7 +52,7 @@ outcome-goes E P NoStep m o g = absurd g
 outcome-goes E P (Next next) m o g = subst P (sym g) o
 outcome-goes E P (Asks element request next) m o g = subst P (sym g.2) (o g.0)
 outcome-goes E P (Loops call next) m o g = subst P (sym g.2) (o.1 g.0)
-outcome-goes E P (Refuses answer next) m o g = subst P (sym g) o
+outcome-goes E P (Refuses call next) m o g = subst P (sym g) o
 outcome-goes E P (Exits ret) m o g = absurd g
 
 pub outcome-enters : (E : Type 0) (P : Machine → Type 0) (move : StepOutcome) (m : Machine) → Outcome E P move
@@ -74,8 +74,8 @@ within-goes program slot (Asks element request next) m g =
     chosen-goes (leads_to program.insns slot next.slot) (Asks element request next) m g
 within-goes program slot (Loops call next) m g =
     chosen-goes (leads_to program.insns slot next.slot) (Loops call next) m g
-within-goes program slot (Refuses answer next) m g =
-    chosen-goes (leads_to program.insns slot next.slot) (Refuses answer next) m g
+within-goes program slot (Refuses call next) m g =
+    chosen-goes (leads_to program.insns slot next.slot) (Refuses call next) m g
 within-goes program slot (Exits ret) m g = g
 
 chosen-enters : (test : Bool) (move : StepOutcome) (m : Machine) → Enters (if test then move else NoStep) m
@@ -91,8 +91,8 @@ within-enters program slot (Asks element request next) m g =
     chosen-enters (leads_to program.insns slot next.slot) (Asks element request next) m g
 within-enters program slot (Loops call next) m g =
     chosen-enters (leads_to program.insns slot next.slot) (Loops call next) m g
-within-enters program slot (Refuses answer next) m g =
-    chosen-enters (leads_to program.insns slot next.slot) (Refuses answer next) m g
+within-enters program slot (Refuses call next) m g =
+    chosen-enters (leads_to program.insns slot next.slot) (Refuses call next) m g
 within-enters program slot (Exits ret) m g = g
 
 -- ---- by what an instruction is made of
@@ -188,7 +188,7 @@ module _ (E : Type 0) (P : Machine → Type 0) where
 
   call-do : (m : Machine) (start : ℕ) (ctx : Option ℕ) (validity : Validity) → E
       → ((v : Value) → P (after_call v (advanced 1 m))) → Outcome E P (loop_call_step m start ctx validity)
-  call-do m start ctx (RefusedBy answer) e p = p (Word (word_of answer))
+  call-do m start ctx (RefusedAs call) e p = p (Word (word_of call.answer))
   call-do m start ctx (Valid n) e p = (e, λ answer. p (Word answer))
 
   ctx-do : (m : Machine) (count start flags : ℕ) (ctx : Value) → E → ((v : Value) → P (after_call v (advanced 1 m)))

@@ -169,7 +169,7 @@ goes-by program slot out NoStep m f g = absurd g
 goes-by program slot out (Next next) m f g = subst (GoesBy program slot out) (sym g) f
 goes-by program slot out (Asks element request next) m f g = subst (GoesBy program slot out) (sym g.2) (f.1 g.0 g.1)
 goes-by program slot out (Loops call next) m f g = subst (GoesBy program slot out) (sym g.2) (f.1 g.0 g.1)
-goes-by program slot out (Refuses answer next) m f g = subst (GoesBy program slot out) (sym g) f
+goes-by program slot out (Refuses call next) m f g = subst (GoesBy program slot out) (sym g) f
 goes-by program slot out (Exits ret) m f g = absurd g
 
 enters-by : (program : Program) (slot : ℕ) (out : Outflow) (move : StepOutcome) (m : Machine)
@@ -183,7 +183,7 @@ sound-goes program NoStep m s g = absurd g
 sound-goes program (Next next) m s g = subst (SoundMachine program) (sym g) s
 sound-goes program (Asks element request next) m s g = subst (SoundMachine program) (sym g.2) (s g.0 g.1).0
 sound-goes program (Loops call next) m s g = subst (SoundMachine program) (sym g.2) (s.1 g.0 g.1)
-sound-goes program (Refuses answer next) m s g = subst (SoundMachine program) (sym g) s
+sound-goes program (Refuses call next) m s g = subst (SoundMachine program) (sym g) s
 sound-goes program (Exits ret) m s g = absurd g
 
 pub sound-enters : (program : Program) (move : StepOutcome) (m : Machine) → StepSound program move → Enters move m

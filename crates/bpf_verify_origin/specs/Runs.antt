@@ -18,7 +18,7 @@ abbrev pub GoesOnTo : StepOutcome → Machine → Type 0
 GoesOnTo (Next next) m = m ≡ next
 GoesOnTo (Asks element request next) m = (word : ℕ) × (word < 2 ^ 64) × (m ≡ after_request request word next)
 GoesOnTo (Loops call next) m = (answer : ℕ) × (answer < 2 ^ 64) × (m ≡ resumed next answer)
-GoesOnTo (Refuses answer next) m = m ≡ next
+GoesOnTo (Refuses call next) m = m ≡ next
 GoesOnTo NoStep m = ⊥
 GoesOnTo (Exits ret) m = ⊥
 

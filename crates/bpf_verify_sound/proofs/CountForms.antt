@@ -26,7 +26,7 @@ use Rattle.bpf_step_model.specs.State.{Value, Word, Frame, Map, Code, Bytes, Mac
 use Rattle.bpf_step_model.specs.State.{advanced, with_register, with_frame}
 use Rattle.bpf_step_model.specs.Memory.{Place, InFrame, InCaller, InMap, number_at, written_at, place}
 use Rattle.bpf_step_model.specs.Values.{operand_value, on_word, result_of, comparison_of}
-use Rattle.bpf_step_model.specs.LoopCalls.{Validity, RefusedBy, Valid, call_validity}
+use Rattle.bpf_step_model.specs.LoopCalls.{Validity, RefusedAs, Valid, call_validity}
 use Rattle.bpf_step_model.specs.Step.{Load, StepOutcome, NoStep, Next, Asks, Loops, Refuses, Exits, sets, jumps}
 use Rattle.bpf_step_model.specs.Step.{branches, loaded, caller_number, loads, stores_at, stores, tells, atomic_left}
 use Rattle.bpf_step_model.specs.Step.{changes_frame, changes_at, compared_value, may_tell, changes, wide_value, key_at}
@@ -68,7 +68,7 @@ GoesTo k caller NoStep = Unit {0}
 GoesTo k caller (Next next) = IsAt k caller next
 GoesTo k caller (Asks element request next) = IsAt k caller next
 GoesTo k caller (Loops call next) = (caller ≡ None) × IsAt k caller next
-GoesTo k caller (Refuses answer next) = (caller ≡ None) × IsAt k caller next
+GoesTo k caller (Refuses call next) = (caller ≡ None) × IsAt k caller next
 GoesTo k caller (Exits ret) = ⊥
 
 go-if : (k : ℕ) (caller : Option Bytes) (test : Bool) (a b : StepOutcome) → GoesTo k caller a → GoesTo k caller b
@@ -140,7 +140,7 @@ looks-to program m v key = tt
 
 move-to : (m : Machine) (start : ℕ) (ctx : Option ℕ) (validity : Validity) → m.caller ≡ None
     → GoesTo (m.slot + 1) m.caller (loop_call_step m start ctx validity)
-move-to m start ctx (RefusedBy answer) main = (main, (refl, refl))
+move-to m start ctx (RefusedAs call) main = (main, (refl, refl))
 move-to m start ctx (Valid n) main = (main, (refl, refl))
 
 loop-to : (m : Machine) (count start flags : ℕ) (ctx : Option ℕ) → m.caller ≡ None
@@ -188,7 +188,7 @@ MoveNext slot insn caller NoStep = Unit {0}
 MoveNext slot insn caller (Next next) = IsNextSlot slot insn next.slot × (next.caller ≡ caller)
 MoveNext slot insn caller (Asks element request next) = IsNextSlot slot insn next.slot × (next.caller ≡ caller)
 MoveNext slot insn caller (Loops call next) = IsNextSlot slot insn next.slot × (caller ≡ None)
-MoveNext slot insn caller (Refuses answer next) = IsNextSlot slot insn next.slot × (caller ≡ None)
+MoveNext slot insn caller (Refuses call next) = IsNextSlot slot insn next.slot × (caller ≡ None)
 MoveNext slot insn caller (Exits ret) = IsReturn caller ret
 
 next-to : (slot : ℕ) (insn : Insn) (caller : Option Bytes) (move : StepOutcome) → goes_on insn ≡ true
@@ -197,7 +197,7 @@ next-to slot insn caller NoStep goes i = tt
 next-to slot insn caller (Next next) goes i = (inl (goes, i.0), i.1)
 next-to slot insn caller (Asks element request next) goes i = (inl (goes, i.0), i.1)
 next-to slot insn caller (Loops call next) goes i = (inl (goes, i.1.0), i.0)
-next-to slot insn caller (Refuses answer next) goes i = (inl (goes, i.1.0), i.0)
+next-to slot insn caller (Refuses call next) goes i = (inl (goes, i.1.0), i.0)
 next-to slot insn caller (Exits ret) goes i = absurd i
 
 jump-next : (m : Machine) (insn : Insn) (target : Option ℕ) → jump_target m.slot (jump_distance insn) ≡ target

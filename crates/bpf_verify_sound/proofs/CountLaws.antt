@@ -52,7 +52,7 @@ StepShorter program slot caller (Asks element request next) =
     (suc (most_from program next.slot) ≤ most_from program slot) × (next.caller ≡ caller)
 StepShorter program slot caller (Loops call next) = (suc (most_from program next.slot) ≤ most_from program slot)
     × (caller ≡ None)
-StepShorter program slot caller (Refuses answer next) = (suc (most_from program next.slot) ≤ most_from program slot)
+StepShorter program slot caller (Refuses call next) = (suc (most_from program next.slot) ≤ most_from program slot)
     × (caller ≡ None)
 StepShorter program slot caller (Exits ret) = (1 ≤ most_from program slot) × IsReturn caller ret
 
@@ -73,7 +73,7 @@ move-shorter program sound slot insn caller (Asks element request next) here i =
     (next-shorter program sound slot insn next.slot here i.0, i.1)
 move-shorter program sound slot insn caller (Loops call next) here i =
     (next-shorter program sound slot insn next.slot here i.0, i.1)
-move-shorter program sound slot insn caller (Refuses answer next) here i =
+move-shorter program sound slot insn caller (Refuses call next) here i =
     (next-shorter program sound slot insn next.slot here i.0, i.1)
 move-shorter program sound slot insn caller (Exits ret) here i = (
   subst (λ (n : ℕ). 1 ≤ n) (sym (most-through program sound slot insn here)) (through-some (most_from program) slot
@@ -95,8 +95,8 @@ within_function-shorter program slot caller (Asks element request next) i =
     shorter-if program slot caller (leads_to program.insns slot next.slot) (Asks element request next) i
 within_function-shorter program slot caller (Loops call next) i =
     shorter-if program slot caller (leads_to program.insns slot next.slot) (Loops call next) i
-within_function-shorter program slot caller (Refuses answer next) i =
-    shorter-if program slot caller (leads_to program.insns slot next.slot) (Refuses answer next) i
+within_function-shorter program slot caller (Refuses call next) i =
+    shorter-if program slot caller (leads_to program.insns slot next.slot) (Refuses call next) i
 within_function-shorter program slot caller (Exits ret) i = i
 
 insn-shorter : (program : Program) → IsSoundProgram program → (m : Machine) (o : Option Insn)
@@ -192,7 +192,7 @@ module _ (program : Program) where
   within-move bound go slot caller (Loops call next) words few fit goes less =
       let less' : suc (most_from program next.slot) ≤ most_from program slot = less.0 in
       (omega arith, omega arith)
-  within-move bound go slot caller (Refuses answer next) words few fit goes less =
+  within-move bound go slot caller (Refuses call next) words few fit goes less =
       let less' : suc (most_from program next.slot) ≤ most_from program slot = less.0 in
       (omega arith, omega arith)
   within-move bound go slot caller (Exits ret) words few fit goes less =
@@ -230,7 +230,7 @@ module _ (program : Program) where
       refl
   exit-move bound go slot caller (Loops call next) words inner fit goes less =
       absurd (let e = sym (ap is_some less.1) ∙ inner in cc)
-  exit-move bound go slot caller (Refuses answer next) words inner fit goes less =
+  exit-move bound go slot caller (Refuses call next) words inner fit goes less =
       absurd (let e = sym (ap is_some less.1) ∙ inner in cc)
   exit-move bound go slot caller (Exits ret) words inner fit goes less = returns-bit caller ret inner less.1
 

@@ -24,10 +24,11 @@ use Rattle.bpf_verify_model.specs.Values.{is_number_value}
 use Rattle.bpf_verify_model.specs.Rules.{is_code, is_ctx_argument, has_wrong_loop_arguments, helper_fault}
 use Rattle.bpf_verify_model.specs.Flow.{known_after_call, most_iterations, known_index, known_ctx}
 use Rattle.bpf_verify_model.specs.Flow.{known_callback_entry, enters, edge_to}
+use Rattle.bpf_step_model.specs.declared.refused_call.RefusedCall.{RefusedCall}
 use Rattle.bpf_step_model.specs.State.{Value, Unwritten, Word, Frame, Code, Bytes, Machine, register, advanced}
 use Rattle.bpf_step_model.specs.State.{after_call, ctx_value, fresh_frame, callback_entry}
 use Rattle.bpf_step_model.specs.SoundMachine.{SoundValue, SoundMachine}
-use Rattle.bpf_step_model.specs.LoopCalls.{RefusedBy, Valid, count_validity}
+use Rattle.bpf_step_model.specs.LoopCalls.{RefusedAs, Valid, count_validity}
 use Rattle.bpf_step_model.specs.Step.{NoStep, Refuses, loop_call_step, calls_loop, takes_ctx}
 use Rattle.bpf_step_model.specs.Step.{takes_flags, takes_arguments, loops}
 use Rattle.bpf_verify_sound.specs.Containment.{ContainsValue, AreWritten, Contained}
@@ -107,22 +108,24 @@ loop_out slot state y = record {
   aside = enters state y;
 }
 
-refused-goes : (program : Program) (m : Machine) (state : State) (y : AbstractValue) (answer : ℤ)
-    → leads_to program.insns m.slot (m.slot + 1) ≡ true → Contained state m → word_of answer < 2 ^ 64 →
+refused-goes : (program : Program) (m : Machine) (state : State) (y : AbstractValue) (call : RefusedCall)
+    → leads_to program.insns m.slot (m.slot + 1) ≡ true → Contained state m → word_of call.answer < 2 ^ 64 →
     StepFlows program m.slot (loop_out m.slot state y)
-    (Refuses answer (after_call (Word (word_of answer)) (advanced 1 m)))
-refused-goes program m state y answer leads c h =
-    call-goes program m state (enters state y) (known.Number (top W64)) (Word (word_of answer)) leads c
-    (top-contains W64 (word_of answer) h)
+    (Refuses call (after_call (Word (word_of call.answer)) (advanced 1 m)))
+refused-goes program m state y call leads c h =
+    call-goes program m state (enters state y) (known.Number (top W64)) (Word (word_of call.answer)) leads c
+    (top-contains W64 (word_of call.answer) h)
 
 counts-flow : ResultsFit → (program : Program) (m : Machine) (state : State) (start count : ℕ) (ctx : Option ℕ)
     → leads_to program.insns m.slot (m.slot + 1) ≡ true → Contained state m → IsWellFormedState state →
     BehindMain program m.slot start → register m 1 ≡ Word count → is_number_value (known_register state 1) ≡ true
     → IsCtxOf (known_register state 3) ctx → (many : Bool) → nat_lt 8388608 (count % 2 ^ 32) ≡ many →
     StepFlows program m.slot (loop_out m.slot state (known.Code start))
-    (loop_call_step m start ctx (if many then RefusedBy (negsuc 6) else Valid (count % 2 ^ 32)))
+    (loop_call_step m start ctx (if many
+    then RefusedAs (record { iterations = count % 2 ^ 32; flags = 0; answer = negsuc 6 }) else Valid (count % 2 ^ 32)))
 counts-flow fit program m state start count ctx leads c spans later at some is true e =
-    refused-goes program m state (known.Code start) (negsuc 6) leads c (omega arith)
+    refused-goes program m state (known.Code start)
+    (record { iterations = count % 2 ^ 32; flags = 0; answer = negsuc 6 }) leads c (omega arith)
 counts-flow fit program m state start count ctx leads c spans later at some is false e =
     let few : count % 2 ^ 32 ≤ 8388608 = grind (arith, nat_tests) in (
       λ index h. record {
@@ -139,12 +142,14 @@ flags-flow : ResultsFit → (program : Program) (m : Machine) (state : State) (s
     BehindMain program m.slot start → register m 1 ≡ Word count → is_number_value (known_register state 1) ≡ true
     → IsCtxOf (known_register state 3) ctx → (none_set : Bool) →
     StepFlows program m.slot (loop_out m.slot state (known.Code start))
-    (loop_call_step m start ctx (if none_set then count_validity (count % 2 ^ 32) else RefusedBy (negsuc 21)))
+    (loop_call_step m start ctx (if none_set then count_validity (count % 2 ^ 32)
+    else RefusedAs (record { iterations = count % 2 ^ 32; flags = flags; answer = negsuc 21 })))
 flags-flow fit program m state start count flags ctx leads c spans later at some is true =
     counts-flow fit program m state start count ctx leads c spans later at some is (nat_lt 8388608 (count % 2 ^ 32))
     refl
 flags-flow fit program m state start count flags ctx leads c spans later at some is false =
-    refused-goes program m state (known.Code start) (negsuc 21) leads c (omega arith)
+    refused-goes program m state (known.Code start)
+    (record { iterations = count % 2 ^ 32; flags = flags; answer = negsuc 21 }) leads c (omega arith)
 
 null-ctx : (program : Program) (m : Machine) (out : Outflow) (start count flags : ℕ) (null : Bool) → null ≡ true
     → StepFlows program m.slot out (calls_loop m count start flags None) →

@@ -120,7 +120,7 @@ within_function-flows program slot out (Asks element request next) f =
 within_function-flows program slot out (Loops call next) f =
     let same : leads_to program.insns slot next.slot ≡ true = (f.1 0 (omega arith)).same in
     subst (StepFlows program slot out) (sym (land (Loops call next) (leads_to program.insns slot next.slot) same)) f
-within_function-flows program slot out (Refuses answer next) f =
-    subst (StepFlows program slot out) (sym (land (Refuses answer next) (leads_to program.insns slot next.slot) f.same))
+within_function-flows program slot out (Refuses call next) f =
+    subst (StepFlows program slot out) (sym (land (Refuses call next) (leads_to program.insns slot next.slot) f.same))
     f
 within_function-flows program slot out (Exits ret) f = f

@@ -34,7 +34,7 @@ exit-ends : (program : Program) (count : ℕ) (turn : StopReason) (s : RunSegmen
     → AreMapWords program s.words → IterationEnds program count (exited_by turn s)
 exit-ends program count (Exit ret) s i h w = (i, h, w)
 exit-ends program count (Loop call next) s i h w = absurd i
-exit-ends program count (Refused slot answer next) s i h w = absurd i
+exit-ends program count (Refused slot call next) s i h w = absurd i
 
 run-ends : (program : Program) (count : ℕ) (e : BoundedResult RunSegment) → RunIsOverApproximated program e
     → EndsWithin program count e → EndsAtExit e → IterationEnds program count (followed exited e)
@@ -141,7 +141,7 @@ module _ (program : Program) where
       count-small program (function_of program.insns call.callback) in
       after-loop-ends bound turns go call next words (loop_in_order program bound call words) k.0 k.1 few w
       (loop-ends fit program sound call k.0 bound (omega arith) words w)
-  turn-ends fit sound bound turns enough go (Refused slot answer next) words k few w =
+  turn-ends fit sound bound turns enough go (Refused slot call next) words k few w =
       mapped-ends program _ (main_from program bound turns next words) (record { words = w; answered = tt })
       (go next k words w few)
 

@@ -35,7 +35,7 @@ goes-known program (Loops call next) c s = (
   },
   λ answer h. record { sound = s.1 answer h; contained = c.1 answer h },
 )
-goes-known program (Refuses answer next) c s = record { sound = s; contained = c }
+goes-known program (Refuses call next) c s = record { sound = s; contained = c }
 goes-known program (Exits ret) c s = s
 
 pub step-known : ResultsFit → (program : Program) → IsSoundProgram program → (m : Machine) → OverApproximates program m
@@ -105,7 +105,7 @@ module _ (program : Program) where
   by_move bound runs slot (Asks element request next) words fit goes = by_word bound runs element request next words fit
       goes.0 goes.1 (slice_get words element) refl
   by_move bound runs slot (Loops call next) words fit goes = (goes, fit)
-  by_move bound runs slot (Refuses answer next) words fit goes = (goes, fit)
+  by_move bound runs slot (Refuses call next) words fit goes = (goes, fit)
   by_move bound runs slot (Exits ret) words fit goes = (goes, fit)
 
 -- at any bound

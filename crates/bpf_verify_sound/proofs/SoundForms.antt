@@ -43,7 +43,7 @@ use Rattle.bpf_step_model.specs.Memory.{Place, InFrame, InCaller, InMap, number_
 use Rattle.bpf_step_model.specs.Memory.{in_frame, in_caller, part_at, in_element, in_map, place}
 use Rattle.bpf_step_model.specs.Values.{area_address, operand_value, on_word, result_of, comparison_of}
 use Rattle.bpf_step_model.specs.SoundMachine.{IsStart, SoundValue, SoundFrame, SoundCaller, SoundCtx, SoundCall}
-use Rattle.bpf_step_model.specs.LoopCalls.{RefusedBy, Valid, count_validity}
+use Rattle.bpf_step_model.specs.LoopCalls.{RefusedAs, Valid, count_validity}
 use Rattle.bpf_step_model.specs.Step.{Load, StepOutcome, NoStep, Next, Asks, Loops, Refuses, Exits, sets, jumps}
 use Rattle.bpf_step_model.specs.Step.{branches, extended, loaded, caller_number, loads, store_of, stores_at, stores}
 use Rattle.bpf_step_model.specs.Step.{map_operator, half_operator, idle_operand, tells, atomic_left, changes_frame}
@@ -77,7 +77,7 @@ MoveSound program f (Asks element request next) =
     × (left_by (action_of request word) word < 2 ^ 64)
 MoveSound program f (Loops call next) = SoundCall program call × ((answer : ℕ) → answer < 2 ^ 64
     → SoundParts program f (resumed next answer))
-MoveSound program f (Refuses answer next) = SoundParts program f next
+MoveSound program f (Refuses call next) = SoundParts program f next
 MoveSound program f (Exits ret) = ret < 2 ^ 64
 
 advance : (program : Program) (f : ℕ) (m : Machine) (count : ℕ) → SoundParts program f m
@@ -403,7 +403,8 @@ looks-sound program f m v key s i = tt
 
 counts-sound : (program : Program) (f : ℕ) (m : Machine) (start n : ℕ) (ctx : Option ℕ) → SoundParts program f m
     → IsStart program start → SoundCtx ctx → (many : Bool) → nat_lt 8388608 n ≡ many →
-    MoveSound program f (loop_call_step m start ctx (if many then RefusedBy (negsuc 6) else Valid n))
+    MoveSound program f (loop_call_step m start ctx (if many
+    then RefusedAs (record { iterations = n; flags = 0; answer = negsuc 6 }) else Valid n))
 counts-sound program f m start n ctx s i c true e = after program f m (Word (word_of (negsuc 6))) s (omega arith)
 counts-sound program f m start n ctx s i c false e = (
   record {
@@ -417,15 +418,15 @@ counts-sound program f m start n ctx s i c false e = (
 
 loop-sound : (program : Program) (f : ℕ) (m : Machine) (count start flags : ℕ) (ctx : Option ℕ) → SoundParts program f m
     → IsStart program start → SoundCtx ctx → MoveSound program f (calls_loop m count start flags ctx)
-loop-sound program f m count start flags ctx s i c = by_test program f m count start ctx s i c (flags == 0)
+loop-sound program f m count start flags ctx s i c = by_test program f m count start flags ctx s i c (flags == 0)
   where
-    by_test : (program : Program) (f : ℕ) (m : Machine) (count start : ℕ) (ctx : Option ℕ) → SoundParts program f m
+    by_test : (program : Program) (f : ℕ) (m : Machine) (count start flags : ℕ) (ctx : Option ℕ) → SoundParts program f m
         → IsStart program start → SoundCtx ctx → (test : Bool) →
         MoveSound program f (loop_call_step m start ctx (if test then count_validity (count % 2 ^ 32)
-        else RefusedBy (negsuc 21)))
-    by_test program f m count start ctx s i c true = counts-sound program f m start (count % 2 ^ 32) ctx s i c
+        else RefusedAs (record { iterations = count % 2 ^ 32; flags = flags; answer = negsuc 21 })))
+    by_test program f m count start flags ctx s i c true = counts-sound program f m start (count % 2 ^ 32) ctx s i c
         (nat_lt 8388608 (count % 2 ^ 32)) refl
-    by_test program f m count start ctx s i c false = after program f m (Word (word_of (negsuc 21))) s (omega arith)
+    by_test program f m count start flags ctx s i c false = after program f m (Word (word_of (negsuc 21))) s (omega arith)
 
 ctx-sound : (program : Program) (f : ℕ) (m : Machine) (count start flags : ℕ) (v : Value) → SoundParts program f m
     → IsStart program start → SoundValue program v → MoveSound program f (takes_ctx m count start flags v)

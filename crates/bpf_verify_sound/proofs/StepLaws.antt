@@ -61,7 +61,7 @@ move-contained program slot (Loops call next) f = (
   λ index h. enters-contained program slot (callback_entry call index) (f.0 index h),
   λ answer h. goes-contained program slot (resumed next answer) (f.1 answer h),
 )
-move-contained program slot (Refuses answer next) f = goes-contained program slot next f
+move-contained program slot (Refuses call next) f = goes-contained program slot next f
 move-contained program slot (Exits ret) f = tt
 
 -- what flows from an instruction that breaks no rule

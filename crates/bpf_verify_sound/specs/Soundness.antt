@@ -55,7 +55,7 @@ StepContained program (Asks element request next) =
 StepContained program (Loops call next) =
     ((index : ℕ) → index < call.n → ContainedBefore program (callback_entry call index))
     × ((answer : ℕ) → answer < 2 ^ 64 → ContainedBefore program (resumed next answer))
-StepContained program (Refuses answer next) = ContainedBefore program next
+StepContained program (Refuses call next) = ContainedBefore program next
 StepContained program (Exits ret) = Unit {0}
 
 -- a step keeps a machine sound, and the words of the maps below 2 ^ 64
@@ -67,7 +67,7 @@ StepSound program (Asks element request next) =
     × (left_by (action_of request word) word < 2 ^ 64)
 StepSound program (Loops call next) = SoundCall program call × ((answer : ℕ) → answer < 2 ^ 64
     → SoundMachine program (resumed next answer))
-StepSound program (Refuses answer next) = SoundMachine program next
+StepSound program (Refuses call next) = SoundMachine program next
 StepSound program (Exits ret) = ret < 2 ^ 64
 
 -- the law of machines of real runs, of an accepted program or not: main and each iteration of a valid loop call start
@@ -90,7 +90,7 @@ StepsOverApproximated program (Asks element request next) =
     × (left_by (action_of request word) word < 2 ^ 64))
 StepsOverApproximated program (Loops call next) = OverApproximatesCall program call
     × OverApproximatesOnceResumed program next
-StepsOverApproximated program (Refuses answer next) = OverApproximates program next
+StepsOverApproximated program (Refuses call next) = OverApproximates program next
 StepsOverApproximated program (Exits ret) = ret < 2 ^ 64
 
 -- the law of one step
@@ -114,7 +114,7 @@ abbrev pub StopIsOverApproximated : Program → StopReason → Type 0
 StopIsOverApproximated program (Exit ret) = ret < 2 ^ 64
 StopIsOverApproximated program (Loop call next) = OverApproximatesCall program call
     × OverApproximatesOnceResumed program next
-StopIsOverApproximated program (Refused slot answer next) = OverApproximates program next
+StopIsOverApproximated program (Refused slot call next) = OverApproximates program next
 
 abbrev pub RunIsOverApproximated : Program → BoundedResult RunSegment → Type 0
 RunIsOverApproximated program Stuck = ⊥
@@ -133,7 +133,7 @@ most_from program slot = longest program.insns (slot_count program.insns) slot
 abbrev pub most_after : Program → StopReason → ℕ
 most_after program (Exit ret) = 0
 most_after program (Loop call next) = most_from program next.slot
-most_after program (Refused slot answer next) = most_from program next.slot
+most_after program (Refused slot call next) = most_from program next.slot
 
 -- a run ends, and what it took with what may still come is at most n instructions
 abbrev pub EndsWithin : Program → ℕ → BoundedResult RunSegment → Type 0
@@ -151,7 +151,7 @@ EachRunEnds = (program : Program) → IsSoundProgram program → (bound : ℕ) (
 abbrev pub IsExit : StopReason → Type 0
 IsExit (Exit ret) = ret ≤ 1
 IsExit (Loop call next) = ⊥
-IsExit (Refused slot answer next) = ⊥
+IsExit (Refused slot call next) = ⊥
 
 abbrev pub EndsAtExit : BoundedResult RunSegment → Type 0
 EndsAtExit Stuck = Unit {0}

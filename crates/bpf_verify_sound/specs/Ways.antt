@@ -48,5 +48,5 @@ StepFlows program slot out (Asks element request next) =
 StepFlows program slot out (Loops call next) =
     ((index : ℕ) → index < call.n → EntersBy program slot out (callback_entry call index))
     × ((answer : ℕ) → answer < 2 ^ 64 → GoesBy program slot out (resumed next answer))
-StepFlows program slot out (Refuses answer next) = GoesBy program slot out next
+StepFlows program slot out (Refuses call next) = GoesBy program slot out next
 StepFlows program slot out (Exits ret) = Unit {0}

@@ -142,8 +142,8 @@ module _ (go_on : Machine → List ℕ → BoundedResult RunSegment) (is_local :
       access_saw element request next words s (slice_get words element) refl h
   move_saw slot (Loops call next) words s h = subst (λ (t : RunSegment). Saws t.accesses words)
       (ended_same (at_once (Loop call next) words) s h) (λ e inside. tt)
-  move_saw slot (Refuses answer next) words s h =
-      subst (λ (t : RunSegment). Saws t.accesses words) (ended_same (at_once (Refused slot answer next) words) s h)
+  move_saw slot (Refuses call next) words s h =
+      subst (λ (t : RunSegment). Saws t.accesses words) (ended_same (at_once (Refused slot call next) words) s h)
       (λ e inside. tt)
   move_saw slot (Exits ret) words s h = subst (λ (t : RunSegment). Saws t.accesses words)
       (ended_same (at_once (Exit ret) words) s h) (λ e inside. tt)
@@ -169,9 +169,9 @@ module _ (go_on : Machine → List ℕ → BoundedResult RunSegment) (is_local :
       access_left element request next words s (slice_get words element) h
   move_left slot (Loops call next) words s h = subst (λ (t : RunSegment). t.words ≡ words_after_all t.accesses words)
       (ended_same (at_once (Loop call next) words) s h) refl
-  move_left slot (Refuses answer next) words s h =
+  move_left slot (Refuses call next) words s h =
       subst (λ (t : RunSegment). t.words ≡ words_after_all t.accesses words)
-      (ended_same (at_once (Refused slot answer next) words) s h) refl
+      (ended_same (at_once (Refused slot call next) words) s h) refl
   move_left slot (Exits ret) words s h = subst (λ (t : RunSegment). t.words ≡ words_after_all t.accesses words)
       (ended_same (at_once (Exit ret) words) s h) refl
 
@@ -229,9 +229,9 @@ module _ (go_on : Machine → List ℕ → BoundedResult RunSegment) (is_local :
   move_again slot (Loops call next) words others s h same saws =
       subst (λ (t : RunSegment). ended_by (Loop call next) others ≡ Ended (over others t))
       (ended_same (at_once (Loop call next) words) s h) refl
-  move_again slot (Refuses answer next) words others s h same saws =
-      subst (λ (t : RunSegment). ended_by (Refused slot answer next) others ≡ Ended (over others t))
-      (ended_same (at_once (Refused slot answer next) words) s h) refl
+  move_again slot (Refuses call next) words others s h same saws =
+      subst (λ (t : RunSegment). ended_by (Refused slot call next) others ≡ Ended (over others t))
+      (ended_same (at_once (Refused slot call next) words) s h) refl
   move_again slot (Exits ret) words others s h same saws =
       subst (λ (t : RunSegment). ended_by (Exit ret) others ≡ Ended (over others t))
       (ended_same (at_once (Exit ret) words) s h) refl
@@ -288,7 +288,7 @@ exited_from s (Exit ret) it same h = exit_same s ret it same (cc)
         subst (λ (i : Iterated). s ≡ stretch_of i) e
         (ap (λ turn. record { turn = turn; steps = s.steps; accesses = s.accesses; words = s.words }) turns)
 exited_from s (Loop call next) it same h = absurd (cc)
-exited_from s (Refused slot answer next) it same h = absurd (cc)
+exited_from s (Refused slot call next) it same h = absurd (cc)
 
 to_exit_from : (e : BoundedResult RunSegment) (it : Iterated) → followed exited e ≡ Ended it → e ≡ Ended (stretch_of it)
 to_exit_from (Ended s) it h = ap Ended (exited_from s s.turn it refl h)

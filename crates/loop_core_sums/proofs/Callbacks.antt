@@ -31,7 +31,7 @@ exits : (op : Op) (s : PlainRunSegment) (turn : PlainStopReason) (it : Iterated)
 unfolding made_in
 exits op s (PlainExit ret) it all h = subst (AllReduce op) (ap made_in h) all
 exits op s (PlainLoop slot callback n ctx next) it all h = absurd (cc)
-exits op s (PlainRefused slot answer next) it all h = absurd (cc)
+exits op s (PlainRefused slot call next) it all h = absurd (cc)
 
 exited_reduces : (op : Op) (e : BoundedResult PlainRunSegment) (it : Iterated) → EndsReducing op e
     → followed plain_exited e ≡ Ended it → AllReduce op it.accesses

@@ -1,5 +1,5 @@
 -- How an iteration goes on, and how it ends.
-use Rattle.std.proofs.Common.{◌≡◌, ℕ, ℤ, zero, suc, ◌+◌, ◌<◌, ◌≤◌, ◌^◌, List, [], ◌∷◌, ◌++◌, length}
+use Rattle.std.proofs.Common.{◌≡◌, ℕ, zero, suc, ◌+◌, ◌<◌, ◌≤◌, ◌^◌, List, [], ◌∷◌, ◌++◌, length}
 use Rattle.std.proofs.Common.{set, Option, Some, None, refl, sym, ap, subst, ◌∙◌, arith}
 use Rattle.std.specs.Prelude.{slice_get, slice_index}
 use Rattle.std.specs.List.{sum}
@@ -8,6 +8,7 @@ use Rattle.std.proofs.lemmas.Option.{slice_get-get_or}
 use Rattle.array_maps.specs.Accesses.{Access, words_after, left_by}
 use Rattle.array_maps.specs.MapList.{MapList, AreWords}
 use Rattle.bpf_insn_types.specs.Program.{Program}
+use Rattle.bpf_step_model.specs.declared.refused_call.RefusedCall.{RefusedCall}
 use Rattle.bpf_step_model.specs.State.{Machine, LoopCall, callback_entry}
 use Rattle.bpf_step_model.specs.Step.{Request, StepOutcome, NoStep, Next, Asks, Loops, Refuses, Exits, step}
 use Rattle.bpf_step_model.specs.Run.{Ended, Exit, action_of, after_request, followed, after_access, after_step, run}
@@ -198,7 +199,7 @@ module _ (steps_law : ProgressAndPreservation) (ops_law : EachOpSimulates) {prog
       absurd agrees
   by_move (Loops made m) (CallsLoop callback n ctx q) touched moves sim known agrees slot registers frame caller after
       did = absurd did
-  by_move (Refuses answer m) (RefusesLoop told q) touched moves sim known agrees slot registers frame caller after did =
+  by_move (Refuses call m) (RefusesLoop told q) touched moves sim known agrees slot registers frame caller after did =
       absurd did
   by_move (Exits ret) (Ends n) touched moves sim known agrees slot registers frame caller after did = absurd did
   by_move move plain_move touched moves sim known agrees slot registers frame caller after did = absurd sim
@@ -256,15 +257,15 @@ module _ (steps_law : ProgressAndPreservation) (ops_law : EachOpSimulates) {prog
   pub refuses_none : (op : PlainOp) → op_of ops p.slot ≡ op → (outcome : Outcome) (registers frame caller : List ℕ)
       (after : MapList) →
       DidStep words_of map_effect p.slot (plain_step op p) maps outcome registers frame caller after
-      → ((answer : ℤ) → outcome ≡ Refusal answer → ⊥)
-  refuses_none op is outcome registers frame caller after did answer same =
+      → ((call : RefusedCall) → outcome ≡ Refusal call → ⊥)
+  refuses_none op is outcome registers frame caller after did call same =
       go (step program under.machine) (plain_step op p) refl (simulated steps_law ops_law sound are under op is)
       (subst (λ (o : Outcome). DidStep words_of map_effect p.slot (plain_step op p) maps o registers frame caller after)
       same did)
     where
       go : (move : StepOutcome) (plain_move : PlainStepOutcome) → step program under.machine ≡ move
           → SimulatesStep program.sizes move plain_move →
-          DidStep words_of map_effect p.slot plain_move maps (Refusal answer) registers frame caller after → ⊥
+          DidStep words_of map_effect p.slot plain_move maps (Refusal call) registers frame caller after → ⊥
       go move (RefusesLoop told q) moves sim refused = never move sim moves
         where
           never : (o : StepOutcome) → SimulatesStep program.sizes o (RefusesLoop told q) → step program under.machine
@@ -335,7 +336,7 @@ module _ (steps_law : ProgressAndPreservation) (ops_law : EachOpSimulates) {prog
       absurd did
   end_by (Loops made m) (CallsLoop callback k ctx q) touched moves sim known agrees n registers frame caller after few
       did = absurd did
-  end_by (Refuses answer m) (RefusesLoop told q) touched moves sim known agrees n registers frame caller after few did =
+  end_by (Refuses call m) (RefusesLoop told q) touched moves sim known agrees n registers frame caller after few did =
       absurd did
   end_by move plain_move touched moves sim known agrees n registers frame caller after few did = absurd sim
 

@@ -11,7 +11,7 @@ use Rattle.bpf_insn_types.specs.Words.{holds}
 use Rattle.array_maps.specs.declared.access.Half.TheVariants.{Low, High}
 use Rattle.array_maps.specs.declared.access.Part.{Part}
 use Rattle.array_maps.specs.declared.access.Part.TheVariants.{Whole, Half as Of}
-use Rattle.bpf_step_model.specs.LoopCalls.{Validity, RefusedBy, Valid, call_validity}
+use Rattle.bpf_step_model.specs.LoopCalls.{Validity, RefusedAs, Valid, call_validity}
 use Rattle.bpf_step_model.specs.Step.{Request, extended, store_of, half_operator, update_of, request_of}
 use Rattle.bpf_step_model.specs.Run.{action_of}
 use Rattle.bpf_step_ir.specs.declared.plain_op.PlainOp.{PlainOp}
@@ -47,7 +47,7 @@ either_way false move other h k = k
 
 called : (p : Plain) (callback : ℕ) (ctx : Option ℕ) (v : Validity) → AsTouched (plain_loop_call_step p callback ctx v)
     None
-called p callback ctx (RefusedBy answer) = tt
+called p callback ctx (RefusedAs call) = tt
 called p callback ctx (Valid n) = tt
 
 -- a store of a half reads the other

@@ -107,7 +107,7 @@ halts_never program sizes NoStep over sim = over
 halts_never program sizes (Next next) over sim = sim
 halts_never program sizes (Asks element request next) over sim = sim
 halts_never program sizes (Loops call next) over sim = sim
-halts_never program sizes (Refuses answer next) over sim = sim
+halts_never program sizes (Refuses call next) over sim = sim
 halts_never program sizes (Exits ret) over sim = sim
 
 can_by : (program : Program) (count : ℕ) → count ≡ sum program.sizes
@@ -118,7 +118,7 @@ can_by program count long (Next next) (Goes p) over sim = tt
 can_by program count long (Asks element request next) (Wants e r p) over sim =
     let inside = over.0 in let same = sim.0 in omega (arith, inside, same, long)
 can_by program count long (Loops call next) (CallsLoop callback n ctx p) over sim = tt
-can_by program count long (Refuses answer next) (RefusesLoop a p) over sim = tt
+can_by program count long (Refuses call next) (RefusesLoop a p) over sim = tt
 can_by program count long (Exits ret) (Ends n) over sim = tt
 can_by program count long move plain_move over sim = absurd sim
 
@@ -133,12 +133,12 @@ touch_within count (Wants element request next) None touch agrees can same = abs
 touch_within count Halts (Some seen) touch agrees can same = absurd agrees
 touch_within count (Goes next) (Some seen) touch agrees can same = absurd agrees
 touch_within count (CallsLoop callback n ctx next) (Some seen) touch agrees can same = absurd agrees
-touch_within count (RefusesLoop answer next) (Some seen) touch agrees can same = absurd agrees
+touch_within count (RefusesLoop call next) (Some seen) touch agrees can same = absurd agrees
 touch_within count (Ends ret) (Some seen) touch agrees can same = absurd agrees
 touch_within count Halts None touch agrees can same = absurd cc
 touch_within count (Goes next) None touch agrees can same = absurd cc
 touch_within count (CallsLoop callback n ctx next) None touch agrees can same = absurd cc
-touch_within count (RefusesLoop answer next) None touch agrees can same = absurd cc
+touch_within count (RefusesLoop call next) None touch agrees can same = absurd cc
 touch_within count (Ends ret) None touch agrees can same = absurd cc
 
 module _ (steps_law : ProgressAndPreservation) (ops_law : EachOpSimulates) {program : Program}

@@ -1,5 +1,5 @@
 -- What loop calls that were run tell of them.
-use Rattle.std.proofs.Common.{◌≡◌, ℕ, pos, Some, Ok, Err, ap, sym, subst, ◌∙◌}
+use Rattle.std.proofs.Common.{◌≡◌, ℕ, Ok, Err, ap, sym, subst, ◌∙◌}
 use Rattle.std.specs.Prelude.{Result, IfOk}
 use denote.Ref.{Bor, MutBor}
 use denote.Param.Members.{Shared}
@@ -8,7 +8,7 @@ use Rattle.bpf_insn_types.specs.Program.{Program}
 use Rattle.bpf_step_model.specs.State.{LoopCall}
 use Rattle.bpf_step_model.specs.Run.{BoundedResult, Ended, Stuck, Unfinished, mapped, followed}
 use Rattle.bpf_step_model.specs.LoopInOrder.{Looped, loop_in_order}
-use Rattle.bpf_step_model.specs.ProgramInOrder.{LoopMade}
+use Rattle.bpf_step_model.specs.ProgramInOrder.{LoopMade, valid_call}
 use Rattle.bpf_step_model.proofs.Endings.{ended_same}
 use Rattle.bpf_verify_sound.specs.Soundness.{IsSoundProgram, OverApproximatesCall}
 use Rattle.loop_core_model.specs.declared.loop_test.Test.{Test}
@@ -51,7 +51,7 @@ call_by_test {test} {program} {call} {start} {left} {answer} {told_verdict} one_
     record {
       ran = record { told = both.ordered; kept = is.sizes };
       told = λ made filled known fit.
-          ap (mapped (line (record { slot = made.slot; answer = pos answer; words = start.words; call = Some made })))
+          ap (mapped (line (valid_call made answer start.words)))
           (sym ((one_loop program sound made call filled known start.words fit).judges test) ∙ both.judged);
     }
 

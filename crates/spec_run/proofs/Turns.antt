@@ -1,12 +1,13 @@
 -- Main's turns, one after another, told line by line. `line_of` tells the line of a loop call that main made, and
 -- `whole` is the report of the whole program.
-use Rattle.std.proofs.Common.{◌≡◌, ℕ, ℤ, pos, ◌≤◌, List, [], ◌∷◌, ◌++◌, length, None, sym, ap, ◌∙◌}
+use Rattle.std.proofs.Common.{◌≡◌, ℕ, ℤ, pos, ◌≤◌, List, [], ◌∷◌, ◌++◌, length, sym, ap, ◌∙◌}
 use Rattle.std.specs.List.{sum}
 use Rattle.array_maps.specs.MapList.{MapList, AreWords}
 use Rattle.bpf_insn_types.specs.Program.{Program}
+use Rattle.bpf_step_model.specs.declared.refused_call.RefusedCall.{RefusedCall}
 use Rattle.bpf_step_model.specs.State.{Machine, LoopCall, main_entry}
 use Rattle.bpf_step_model.specs.Run.{BoundedResult, Ended, mapped}
-use Rattle.bpf_step_model.specs.ProgramInOrder.{LoopMade, Finished, with_loop, resumed, program_in_order}
+use Rattle.bpf_step_model.specs.ProgramInOrder.{LoopMade, Finished, with_loop, resumed, program_in_order, valid_call, refused_call}
 use Rattle.bpf_verify_sound.specs.Soundness.{most_from}
 use Rattle.bpf_step.specs.declared.main_function.Turned.TheVariants as turned
 use Rattle.bpf_step.specs.Mains.{MainOf, MainIsAt, Waits}
@@ -14,7 +15,7 @@ use Rattle.loop_core_model.specs.declared.verdict.LoopReport.{LoopReport}
 use Rattle.loop_core_model.specs.declared.verdict.Verdict.{Verdict}
 use Rattle.loop_core_model.specs.declared.verdict.Verdict.TheVariants as verdicts
 use Rattle.loop_core_model.specs.Report.{Reported, reported_with}
-use Rattle.spec_run_main.specs.Calls.{valid_call, refused_call, IsMadeAs}
+use Rattle.spec_run_main.specs.Calls.{IsMadeAs}
 use Rattle.spec_run_main.proofs.Turns.{NextTurn, words_fit}
 use Rattle.spec_run_main.proofs.Turns as main_turns
 pub use Rattle.spec_run_main.proofs.Turns.{Laws}
@@ -70,20 +71,20 @@ module _ {line_of : LoopMade → BoundedResult LoopReport} {whole : BoundedResul
   }
 
   -- its call was refused, and it goes on
-  pub refuses : {after : MainOf} {new : MapList} {slot : ℕ} {answer told_answer : ℤ} {all : List LoopReport}
-      → after.program ≡ main.program → NextTurn main now (turned.Refused slot answer) after new
-      → ((slot : ℕ) (answer : ℤ) (words : List ℕ) →
-      line_of (record { slot = slot; answer = answer; words = words; call = None })
-      ≡ Ended (record { slot = slot; answer = answer; verdict = verdicts.Refused }))
-      → told_answer ≡ answer → all ≡ lines ++ record { slot = slot; answer = told_answer; verdict = verdicts.Refused }
+  pub refuses : {after : MainOf} {new : MapList} {slot : ℕ} {call : RefusedCall} {told_answer : ℤ} {all : List LoopReport}
+      → after.program ≡ main.program → NextTurn main now (turned.Refused slot call) after new
+      → ((slot : ℕ) (call : RefusedCall) (words : List ℕ) →
+      line_of (refused_call slot call words)
+      ≡ Ended (record { slot = slot; answer = call.answer; verdict = verdicts.Refused }))
+      → told_answer ≡ call.answer → all ≡ lines ++ record { slot = slot; answer = told_answer; verdict = verdicts.Refused }
       ∷ []
       → StillRuns line_of whole program after first new all
-  refuses {after} {new} {slot} {answer} {told_answer} {all} same next refused_line is_answer told =
+  refuses {after} {new} {slot} {call} {told_answer} {all} same next refused_line is_answer told =
       let line : ℤ → LoopReport = λ a. record { slot = slot; answer = a; verdict = verdicts.Refused } in
       record {
         runs = main_turns.refuses still.runs same next (told_behind line_of all) (λ e.
-            one_line line_of lines (refused_call slot answer new.words) (line answer) e
-            (refused_line slot answer new.words)
+            one_line line_of lines (refused_call slot call new.words) (line call.answer) e
+            (refused_line slot call new.words)
             ∙ ap (λ (a : ℤ). told_behind line_of (lines ++ line a ∷ []) e) (sym is_answer)
             ∙ ap (λ (ls : List LoopReport). told_behind line_of ls e) (sym told));
       }

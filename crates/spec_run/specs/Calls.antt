@@ -1,12 +1,12 @@
 -- What running a loop call gives, and what is reported of it.
-use Rattle.std.specs.Prelude.{◌≡◌, ℕ, pos, Some, Result, IfOk}
+use Rattle.std.specs.Prelude.{◌≡◌, ℕ, pos, Result, IfOk}
 use denote.Ref.{Bor, MutBor}
 use denote.Param.Members.{Shared}
 use Rattle.array_maps.specs.MapList.{MapList}
 use Rattle.bpf_insn_types.specs.Program.{Program}
 use Rattle.bpf_step_model.specs.State.{LoopCall}
 use Rattle.bpf_step_model.specs.Run.{BoundedResult, Ended}
-use Rattle.bpf_step_model.specs.ProgramInOrder.{LoopMade}
+use Rattle.bpf_step_model.specs.ProgramInOrder.{LoopMade, valid_call}
 use Rattle.bpf_verify_sound.specs.Soundness.{AreMapWords, OverApproximatesCall}
 use Rattle.bpf_step.specs.Turns.{IsFilled}
 use Rattle.loop_core_model.specs.declared.verdict.LoopReport.{LoopReport}
@@ -21,7 +21,7 @@ pub record RanCall (line_of : LoopMade → BoundedResult LoopReport) (program : 
   pub ran : RanLoopInOrder program call start left answer
   pub told : (made : LoopCall) → IsFilled program made call → OverApproximatesCall program call
       → AreMapWords program start.words
-      → line_of (record { slot = made.slot; answer = pos answer; words = start.words; call = Some made })
+      → line_of (valid_call made answer start.words)
       ≡ Ended (record { slot = made.slot; answer = pos answer; verdict = told_verdict })
 
 module _ {F E : Type 0}

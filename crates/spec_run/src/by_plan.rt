@@ -9,6 +9,7 @@ use crate::observing::Observer;
 use crate::report::Report;
 use array_maps::Maps;
 use bpf_step::LoopCall;
+use bpf_step_model::RefusedCall;
 use bpf_verify::Verified;
 use loop_core_model::{LoopReport, Test, Verdict};
 use spec_run_loop::{LoopAnswer, Workspace};
@@ -70,10 +71,10 @@ impl<
         Ok(answered.answer)
     }
 
-    fn note_refusal(&mut self, slot: u32, answer: i64) -> Result<(), AllocError> {
+    fn note_refusal(&mut self, slot: u32, call: RefusedCall) -> Result<(), AllocError> {
         self.lines.push(LoopReport {
             slot,
-            answer,
+            answer: call.answer,
             verdict: Verdict::Refused,
         })?;
         Ok(())

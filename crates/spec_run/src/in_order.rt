@@ -2,6 +2,7 @@
 
 use array_maps::Maps;
 use bpf_step::LoopCall;
+use bpf_step_model::RefusedCall;
 use bpf_verify::Verified;
 use loop_core_model::{LoopReport, Verdict};
 use loop_core_sequential::in_order;
@@ -52,10 +53,10 @@ impl LoopRunner for InOrder {
         Ok(answer)
     }
 
-    fn note_refusal(&mut self, slot: u32, answer: i64) -> Result<(), AllocError> {
+    fn note_refusal(&mut self, slot: u32, call: RefusedCall) -> Result<(), AllocError> {
         self.lines.push(LoopReport {
             slot,
-            answer,
+            answer: call.answer,
             verdict: Verdict::Refused,
         })?;
         Ok(())

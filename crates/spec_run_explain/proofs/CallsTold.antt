@@ -2,15 +2,16 @@
 use Rattle.std.proofs.Common.{◌≡◌, ℕ, ℤ, pos, List, [], ◌∷◌, ◌++◌, None, refl, sym, ap, subst, ◌∙◌}
 use Rattle.std.specs.Prelude.{Bool}
 use Rattle.bpf_insn_types.specs.Program.{Program}
+use Rattle.bpf_step_model.specs.declared.refused_call.RefusedCall.{RefusedCall}
 use Rattle.bpf_step_model.specs.State.{LoopCall}
 use Rattle.bpf_step_model.specs.Run.{Ended, mapped}
-use Rattle.bpf_step_model.specs.ProgramInOrder.{LoopMade}
+use Rattle.bpf_step_model.specs.ProgramInOrder.{LoopMade, valid_call, refused_call}
 use Rattle.bpf_verify_sound.specs.Soundness.{OverApproximatesCall}
 use Rattle.loop_core_model.specs.declared.loop_test.Test.{Test}
 use Rattle.loop_core_model.specs.declared.verdict.LoopReport.{LoopReport}
 use Rattle.loop_core_model.specs.declared.verdict.Verdict.TheVariants as verdicts
 use Rattle.loop_core_model.specs.Report.{line, loop_report}
-use Rattle.spec_run_main.specs.Calls.{valid_call, refused_call, IsMadeAs}
+use Rattle.spec_run_main.specs.Calls.{IsMadeAs}
 use Rattle.spec_run_main.proofs.ReportLines.{one_line}
 use Rattle.spec_run_explain.specs.declared.explained.LoopExplained.{LoopExplained}
 use Rattle.spec_run_explain.specs.Causes.{IsExplained, IsCallExplained, WasRefused, WasMade, AreExplained}
@@ -64,19 +65,19 @@ module _ {test : Test} {program : Program} {most : ℕ} where
         (one_more wants made told calls loops is so_far.explained);
   }
 
-  -- a refused call is told by its line alone
-  pub refusal_told : {slot : ℕ} {answer told_answer : ℤ} (words : List ℕ) {wants : Bool} {calls : List LoopMade}
+  -- a refused call is told by its line and its arguments
+  pub refusal_told : {slot : ℕ} {call : RefusedCall} {told_answer : ℤ} (words : List ℕ) {wants : Bool} {calls : List LoopMade}
       {lines all : List LoopReport} {loops explained : List LoopExplained} (told : LoopExplained)
-      → told.line ≡ record { slot = slot; answer = told_answer; verdict = verdicts.Refused } → told_answer ≡ answer
-      → told.iterations ≡ None → told.broke ≡ None → told.course ≡ None → told.causes.items ≡ [] → told.grid ≡ None
+      → told.line ≡ record { slot = slot; answer = told_answer; verdict = verdicts.Refused } → told_answer ≡ call.answer
+      → told.iterations ≡ call.iterations → told.flags ≡ call.flags → told.broke ≡ None → told.course ≡ None → told.causes.items ≡ [] → told.grid ≡ None
       → all ≡ lines ++ told.line ∷ [] → explained ≡ loops ++ told ∷ []
       → AreToldSoFar test program most wants calls lines loops
-      → AreToldSoFar test program most wants (calls ++ refused_call slot answer words ∷ []) all explained
-  refusal_told {slot} {answer} words told line is_answer iterations broke course causes grid pushed added so_far =
-      let its_line : told.line ≡ record { slot = slot; answer = answer; verdict = verdicts.Refused } =
+      → AreToldSoFar test program most wants (calls ++ refused_call slot call words ∷ []) all explained
+  refusal_told {slot} {call} words told line is_answer iterations flags broke course causes grid pushed added so_far =
+      let its_line : told.line ≡ record { slot = slot; answer = call.answer; verdict = verdicts.Refused } =
       line ∙ ap (λ (a : ℤ). record { slot = slot; answer = a; verdict = verdicts.Refused }) is_answer in
-      with_call (refused_call slot answer words) told
-      (WasRefused refl its_line iterations broke course causes grid) (ap Ended (sym its_line)) pushed added so_far
+      with_call (refused_call slot call words) told
+      (WasRefused call refl its_line iterations flags broke course causes grid) (ap Ended (sym its_line)) pushed added so_far
 
   -- another one as the loop that ran
   pub call_told : {call made : LoopCall} {answer : ℕ} {words : List ℕ} {wants now : Bool} {calls : List LoopMade}

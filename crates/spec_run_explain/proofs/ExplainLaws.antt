@@ -1,10 +1,11 @@
 -- Loop calls that are explained.
-use Rattle.std.proofs.Common.{◌≡◌, ℕ, pos, List, [], ◌∷◌, ◌++◌, length, Some, refl, sym, ap, subst, ◌∙◌}
+use Rattle.std.proofs.Common.{◌≡◌, ℕ, List, [], ◌∷◌, ◌++◌, length, refl, sym, ap, subst, ◌∙◌}
 use Rattle.std.specs.Prelude.{Bool}
 use Rattle.std.specs.List.{AllByRecursion}
 use Rattle.array_maps.specs.MapList.{MapList}
 use Rattle.bpf_insn_types.specs.Program.{Program}
 use Rattle.bpf_step_model.specs.State.{LoopCall}
+use Rattle.bpf_step_model.specs.ProgramInOrder.{valid_call}
 use Rattle.bpf_step_model.specs.Run.{Ended, mapped}
 use Rattle.bpf_verify_sound.specs.Soundness.{IsSoundProgram}
 use Rattle.loop_core_model.specs.declared.loop_test.Test.{Test}
@@ -56,7 +57,7 @@ pub ran_call : (test : Test) → {program : Program} {call : LoopCall} {start le
 ran_call test {program} {call} {start} {left} {answer} {told} one_loop sound ran judges = record {
   ran = ran;
   told = λ made filled known fit.
-      ap (mapped (line (record { slot = made.slot; answer = pos answer; words = start.words; call = Some made })))
+      ap (mapped (line (valid_call made answer start.words)))
       (sym ((one_loop program sound made call filled known start.words fit).judges test) ∙ judges);
 }
 

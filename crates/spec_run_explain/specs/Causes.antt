@@ -4,9 +4,10 @@ use Rattle.std.specs.Prelude.{map, length, take}
 use Rattle.std.specs.List.{AllByRecursion}
 use Rattle.array_maps.specs.Accesses.{Access}
 use Rattle.bpf_insn_types.specs.Program.{Program}
+use Rattle.bpf_step_model.specs.declared.refused_call.RefusedCall.{RefusedCall}
 use Rattle.bpf_step_model.specs.State.{LoopCall}
 use Rattle.bpf_step_model.specs.Run.{BoundedResult, Ended}
-use Rattle.bpf_step_model.specs.ProgramInOrder.{LoopMade, Finished}
+use Rattle.bpf_step_model.specs.ProgramInOrder.{LoopMade, refused_call, Finished}
 use Rattle.bpf_verify_sound.specs.Soundness.{OverApproximatesCall}
 use Rattle.bpf_step.specs.Turns.{IsFilled}
 use Rattle.loop_core_grid.specs.declared.grid.Grid.{Grid}
@@ -77,19 +78,21 @@ pub record IsExplained (test : Test) (program : Program) (call : LoopCall) (word
   pub slot : told.line.slot ≡ call.slot
   pub answer_is : told.line.answer ≡ pos answer
   pub verdict_is : verdict test program 4096 call words ≡ Ended told.line.verdict
-  pub iterations : told.iterations ≡ Some call.n
+  pub iterations : told.iterations ≡ call.n
+  pub flags : told.flags ≡ 0
   pub broke : IsBreak program call words told.broke
   pub course : TellsCourse test program call words told.course
   pub elements : AreLeast test program call words most (cause_elements told.causes.items)
   pub causes : AreCauses test program call words told.causes.items
   pub grid : Shows program call words told.causes.items (wants_grid && is_conflict told.line.verdict) told.grid
 
--- so a loop call that main made is explained: a refused one has its line alone; another one is explained on the words
--- at the call, with bytes in place of what is unwritten in its frame
+-- so a loop call that main made is explained: a refused one has its line and its arguments; another one is explained
+-- on the words at the call, with bytes in place of what is unwritten in its frame
 pub data IsCallExplained (test : Test) (program : Program) (most : ℕ) (wants_grid : Bool) (made : LoopMade)
     (told : LoopExplained) : Type 0 where
-  WasRefused : made.call ≡ None → told.line ≡ record { slot = made.slot; answer = made.answer; verdict = Refused }
-      → told.iterations ≡ None → told.broke ≡ None → told.course ≡ None → told.causes.items ≡ [] → told.grid ≡ None
+  WasRefused : (call : RefusedCall) → made ≡ refused_call made.slot call made.words
+      → told.line ≡ record { slot = made.slot; answer = call.answer; verdict = Refused }
+      → told.iterations ≡ call.iterations → told.flags ≡ call.flags → told.broke ≡ None → told.course ≡ None → told.causes.items ≡ [] → told.grid ≡ None
       → IsCallExplained test program most wants_grid made told
   WasMade : (call filled : LoopCall) (answer : ℕ) → made.call ≡ Some call → made.answer ≡ pos answer
       → IsFilled program call filled → OverApproximatesCall program filled

@@ -1,50 +1,26 @@
 -- Explanations of a program's loops.
-use Rattle.std.specs.Prelude.{◌≡◌, ℕ, Bool, true, false, List, [], Option}
-use Rattle.std.specs.List.{list_any}
+use Rattle.std.specs.Prelude.{◌≡◌, ℕ, Bool, List}
 use Rattle.array_maps.specs.MapList.{MapList}
 use Rattle.bpf_insn_types.specs.Program.{Program}
-use Rattle.bpf_step_model.specs.State.{main_entry}
 use Rattle.bpf_step_model.specs.ProgramInOrder.{LoopMade, program_in_order}
 use Rattle.loop_core_model.specs.declared.loop_test.Test.{Test}
 use Rattle.loop_core_model.specs.declared.verdict.LoopReport.{LoopReport}
-use Rattle.loop_core_model.specs.declared.verdict.Verdict.{Verdict}
-use Rattle.loop_core_model.specs.declared.verdict.Verdict.TheVariants.{Parallel, Conflict, Refused, InOrder}
 use Rattle.loop_core_model.specs.Report.{loop_report}
 use Rattle.spec_run.specs.AsInOrder.{IsReportByTest}
 use Rattle.spec_run_main.specs.Lines.{AreLines}
-use Rattle.spec_run_arguments.specs.declared.loop_arguments.LoopArguments.{LoopArguments}
-use Rattle.spec_run_arguments.specs.Arguments.{AreArguments}
 use Rattle.spec_run_explain.specs.declared.explained.Explained.{Explained}
 use Rattle.spec_run_explain.specs.declared.explained.LoopExplained.{LoopExplained}
 use Rattle.spec_run_explain.specs.Causes.{AreExplained, IsEachExplained, report_lines}
 
--- a loop call that came out so was refused
-abbrev pub is_refusal : Verdict → Bool
-is_refusal Refused = true
-is_refusal Parallel = false
-is_refusal (Conflict count least) = false
-is_refusal InOrder = false
-
-abbrev pub is_refused : LoopReport → Bool
-is_refused line = is_refusal line.verdict
-
--- by which arguments the loop calls are refused of a program that starts with these words; nothing, where none is
-abbrev pub AreArgumentsIfRefused : Program → (argument : ℕ) → (words : List ℕ) → (some_refused : Bool)
-    → List (Option LoopArguments) → Type 0
-AreArgumentsIfRefused program argument words false told = told ≡ []
-AreArgumentsIfRefused program argument words true told = AreArguments program (main_entry argument) words told
-
 -- the report is that of a run whose loops may run in parallel, from the old maps to the new ones; its lines are those
 -- of the loops that are explained, and these are, one by one, the loop calls that main makes where the program runs in
--- order; and where one is refused, its arguments are reported
+-- order
 pub record IsProgramExplained (test : Test) (program : Program) (most : ℕ) (wants_grid : Bool) (argument : ℕ)
     (old new : MapList) (told : Explained) : Type 0 where
   pub report : IsReportByTest test program argument old new told.report
   pub lines : report_lines told.loops.items ≡ told.report.loops.items
   pub explained : IsEachExplained test program most wants_grid (program_in_order program 4096 argument old.words)
       told.loops.items
-  pub arguments : AreArgumentsIfRefused program argument old.words (list_any is_refused told.report.loops.items)
-      told.arguments.items
 
 -- so these loop calls are reported so far: they are explained, one by one, and have these lines
 pub record AreToldSoFar (test : Test) (program : Program) (most : ℕ) (wants_grid : Bool) (calls : List LoopMade)

@@ -148,7 +148,8 @@ pub(crate) fn explain_call(
     };
     Ok(LoopExplained {
         line,
-        iterations: Some(call.n()),
+        iterations: call.n(),
+        flags: 0,
         broke,
         course: Some(course),
         causes,

@@ -7,9 +7,9 @@ ghost use Rattle.spec_run_explain.specs.Programs.{IsProgramExplained};
 
 use crate::call::explain_call;
 use crate::explained::{Explained, LoopExplained};
-use crate::refused::arguments_of_refused;
 use array_maps::Maps;
 use bpf_step::LoopCall;
+use bpf_step_model::RefusedCall;
 use bpf_verify::Verified;
 use loop_core_model::{LoopReport, Test, Verdict};
 use loop_core_sequential::in_order;
@@ -18,9 +18,10 @@ use spec_run_main::{LoopRunner, run_main};
 use std::alloc::{AllocError, Global};
 
 /// The explanation of a call that was refused.
-fn refused(alloc: Global, slot: u32, answer: i64) -> LoopExplained
-    ensures line { result.line ≡ record { slot = slot; answer = answer; verdict = WasRefused } }
-    ensures iterations { result.iterations ≡ None }
+fn refused(alloc: Global, slot: u32, call: RefusedCall) -> LoopExplained
+    ensures line { result.line ≡ record { slot = slot; answer = call.answer; verdict = WasRefused } }
+    ensures iterations { result.iterations ≡ call.iterations }
+    ensures flags { result.flags ≡ call.flags }
     ensures broke { result.broke ≡ None }
     ensures course { result.course ≡ None }
     ensures causes { result.causes.items ≡ [] }
@@ -29,10 +30,11 @@ fn refused(alloc: Global, slot: u32, answer: i64) -> LoopExplained
     LoopExplained {
         line: LoopReport {
             slot,
-            answer,
+            answer: call.answer,
             verdict: Verdict::Refused,
         },
-        iterations: None,
+        iterations: call.iterations,
+        flags: call.flags,
         broke: None,
         course: None,
         causes: Vec::new(alloc),
@@ -99,8 +101,8 @@ impl LoopRunner for Explainer {
         Ok(answer)
     }
 
-    fn note_refusal(&mut self, slot: u32, answer: i64) -> Result<(), AllocError> {
-        let told = refused(self.alloc, slot, answer);
+    fn note_refusal(&mut self, slot: u32, call: RefusedCall) -> Result<(), AllocError> {
+        let told = refused(self.alloc, slot, call);
         self.lines.push(told.line)?;
         self.loops.push(told)?;
         Ok(())
@@ -108,8 +110,8 @@ impl LoopRunner for Explainer {
 }
 
 /// Runs the program in order on the maps, its argument in R1, and explains each loop call by a test: at most `most`
-/// elements of each, and of one that is refused its arguments. If a grid is wanted, it is made of the first that
-/// conflicts. The maps are of the program's sizes, and are left as the program leaves them.
+/// elements of each. If a grid is wanted, it is made of the first that conflicts. The maps are of the program's sizes,
+/// and are left as the program leaves them.
 pub fn explain_loops(
     alloc: Global,
     program: &Verified,
@@ -122,7 +124,6 @@ pub fn explain_loops(
     requires sizes { maps.old.sizes ≡ program.now.sizes }
     ensures { IfOk result (IsProgramExplained test program.now most wants_grid argument maps.old maps.new) }
 {
-    let start = maps.try_copy(alloc)?;
     let mut explainer = Explainer {
         alloc,
         test,
@@ -132,13 +133,11 @@ pub fn explain_loops(
         loops: Vec::new(alloc),
     };
     let ret = run_main(program, maps, argument, &mut explainer)?;
-    let arguments = arguments_of_refused(alloc, program, start, argument, &explainer.lines)?;
     Ok(Explained {
         report: Report {
             ret,
             loops: explainer.lines,
         },
         loops: explainer.loops,
-        arguments,
     })
 }

@@ -4,7 +4,6 @@ use loop_core_grid::Grid;
 use loop_core_model::LoopReport;
 use loop_core_witness::{Place, Witness};
 use spec_run::Report;
-use spec_run_arguments::LoopArguments;
 use spec_run_loop::Course;
 
 /// Why an element conflicts.
@@ -24,8 +23,10 @@ pub struct Cause {
 pub struct LoopExplained {
     /// Its line in the report.
     pub line: LoopReport,
-    /// How many iterations it asks for; `None` of a call that is refused.
-    pub iterations: Option<u32>,
+    /// How many iterations it asks for: R1, modulo 2^32.
+    pub iterations: u32,
+    /// Its flags: R4; 0 of a call that isn't refused.
+    pub flags: u64,
     /// The iteration that breaks it, each run on the words as they were at the call.
     pub broke: Option<Place>,
     /// Which way `run` takes it, where it isn't given workers and blocks; `None` of a call that is refused.
@@ -43,6 +44,4 @@ pub struct Explained {
     pub report: Report,
     /// Its loop calls, in order.
     pub loops: Vec<LoopExplained>,
-    /// For each of them, in order, by which arguments it is refused: `None` of one that isn't. Empty where none is.
-    pub arguments: Vec<Option<LoopArguments>>,
 }

@@ -11,7 +11,6 @@
 mod call;
 mod driver;
 mod explained;
-mod refused;
 mod showing;
 
 pub use driver::explain_loops;

@@ -13,6 +13,7 @@ ghost use Rattle.spec_run_in_place.specs.InPlace.{RanInOrder};
 
 use array_maps::Maps;
 use bpf_step::LoopCall;
+use bpf_step_model::RefusedCall;
 use bpf_verify::Verified;
 use loop_core_model::{LoopReport, Verdict};
 use loop_core_sequential::in_order;
@@ -76,10 +77,10 @@ impl LoopRunner for InPlace<'_> {
     }
 
     #[inline]
-    fn note_refusal(&mut self, slot: u32, answer: i64) -> Result<(), Infallible> {
+    fn note_refusal(&mut self, slot: u32, call: RefusedCall) -> Result<(), Infallible> {
         let line = LoopReport {
             slot,
-            answer,
+            answer: call.answer,
             verdict: Verdict::Refused,
         };
         self.calls = tell(self.lines, self.calls, line);

@@ -1,14 +1,14 @@
 -- Reports line by line. `line_of` tells the line of a loop call that main made.
 use Rattle.std.proofs.Common.{◌≡◌, ℕ, ℤ, pos, List, [], ◌∷◌, ◌++◌, map, refl, sym, ap, ◌∙◌}
+use Rattle.bpf_step_model.specs.declared.refused_call.RefusedCall.{RefusedCall}
 use Rattle.bpf_step_model.specs.State.{LoopCall}
 use Rattle.bpf_step_model.specs.Run.{BoundedResult, Ended, Stuck, Unfinished, mapped, followed}
-use Rattle.bpf_step_model.specs.ProgramInOrder.{LoopMade, Finished}
+use Rattle.bpf_step_model.specs.ProgramInOrder.{LoopMade, Finished, valid_call, refused_call}
 use Rattle.loop_core_model.specs.declared.verdict.LoopReport.{LoopReport}
 use Rattle.loop_core_model.specs.declared.verdict.Verdict.{Verdict}
 use Rattle.loop_core_model.specs.declared.verdict.Verdict.TheVariants.{Refused}
 use Rattle.loop_core_model.specs.LeastBreak.{in_front_of, all_ended}
 use Rattle.loop_core_model.specs.Report.{line, with_lines, with_each_line, reported_with}
-use Rattle.spec_run_main.specs.Calls.{valid_call, refused_call}
 use Rattle.spec_run_main.specs.Lines.{AreLines}
 
 -- lines with one more behind
@@ -55,13 +55,13 @@ valid_line line_of made answer words calls {verdict} {slot} {told_answer} {lines
 
 -- a refused one has the line of its slot and its answer
 pub refused_line : (line_of : LoopMade → BoundedResult LoopReport) (words : List ℕ) (calls : List LoopMade) {slot : ℕ}
-    {answer told_answer : ℤ} {lines all : List LoopReport}
-    → line_of (refused_call slot answer words) ≡ Ended (line (refused_call slot answer words) Refused)
-    → told_answer ≡ answer → all ≡ lines ++ record { slot = slot; answer = told_answer; verdict = Refused } ∷ []
-    → AreLines line_of calls lines → AreLines line_of (calls ++ refused_call slot answer words ∷ []) all
-refused_line line_of words calls {slot} {answer} {told_answer} {lines} {all} is answer_is pushed are =
+    {call : RefusedCall} {told_answer : ℤ} {lines all : List LoopReport}
+    → line_of (refused_call slot call words) ≡ Ended (line (refused_call slot call words) Refused)
+    → told_answer ≡ call.answer → all ≡ lines ++ record { slot = slot; answer = told_answer; verdict = Refused } ∷ []
+    → AreLines line_of calls lines → AreLines line_of (calls ++ refused_call slot call words ∷ []) all
+refused_line line_of words calls {slot} {call} {told_answer} {lines} {all} is answer_is pushed are =
     let told : ℤ → LoopReport = λ a. record { slot = slot; answer = a; verdict = Refused } in
-    one_line line_of (refused_call slot answer words) (told told_answer)
+    one_line line_of (refused_call slot call words) (told told_answer)
     (is ∙ ap (λ (a : ℤ). Ended (told a)) (sym answer_is)) calls pushed are
 
 -- a program's report has the lines of its loop calls

@@ -1,16 +1,16 @@
 -- Main's turns, one after another. `whole` is what is told of the whole program, and `told` what is told of it by what
 -- main still does.
-use Rattle.std.proofs.Common.{◌≡◌, ℕ, ℤ, zero, suc, ◌+◌, ◌<◌, ◌≤◌, ◌^◌, List, [], length}
+use Rattle.std.proofs.Common.{◌≡◌, ℕ, zero, suc, ◌+◌, ◌<◌, ◌≤◌, ◌^◌, List, [], length}
 use Rattle.std.proofs.Common.{refl, sym, ap, subst, ◌∙◌, arith}
 use Rattle.std.specs.List.{sum}
 use Rattle.array_maps.specs.MapList.{MapList, AreWords}
 use Rattle.bpf_insn_types.specs.Program.{Program}
+use Rattle.bpf_step_model.specs.declared.refused_call.RefusedCall.{RefusedCall}
 use Rattle.bpf_step_model.specs.State.{Machine, LoopCall, main_entry}
 use Rattle.bpf_step_model.specs.Run.{BoundedResult, Ended, mapped, followed}
 use Rattle.bpf_step_model.specs.Run.{StopReason, Exit, Loop, Refused, RunSegment, run}
 use Rattle.bpf_step_model.specs.LoopInOrder.{Looped, loop_in_order}
-use Rattle.bpf_step_model.specs.ProgramInOrder.{LoopMade, Finished, with_loop, resumed, after_loop, after_stop}
-use Rattle.bpf_step_model.specs.ProgramInOrder.{after_segment, main_from, program_in_order}
+use Rattle.bpf_step_model.specs.ProgramInOrder.{LoopMade, Finished, with_loop, resumed, after_loop, after_stop, after_segment, main_from, program_in_order, valid_call, refused_call}
 use Rattle.bpf_verify_sound.specs.Soundness.{IsSoundProgram, AreMapWords, OverApproximatesCall, EachProgramEnds}
 use Rattle.bpf_verify_sound.specs.Soundness.{LoopEnds, ProgramEnds, EachCountIsSmall, most_from, most_after}
 use Rattle.bpf_step.specs.declared.main_function.Turned.{Turned}
@@ -21,7 +21,7 @@ use Rattle.bpf_step.proofs.Limits.{few_slots, few_steps, few_counts, map_words}
 use Rattle.loop_core_sequential.specs.Loops.{RanLoopInOrder}
 use Rattle.loop_core_sequential.proofs.MapEffects.{map_effect, sizes_kept}
 use Rattle.loop_core_sequential.proofs.SameOutcomes.{filled_calls_are_one_loop}
-use Rattle.spec_run_main.specs.Calls.{valid_call, refused_call, IsMadeAs}
+use Rattle.spec_run_main.specs.Calls.{IsMadeAs}
 
 -- the words of maps
 abbrev pub words_of : MapList → List ℕ
@@ -168,12 +168,12 @@ module _ {R : Type 0} {told : BoundedResult Finished → BoundedResult R} {whole
         rest = came.rest;
       }
   is_call laws same fit call (Exit ret) stops came = absurd stops
-  is_call laws same fit call (Refused at answer m) stops came = absurd stops
+  is_call laws same fit call (Refused at asked m) stops came = absurd stops
 
-  is_refusal : (at : ℕ) (answer : ℤ) (turn : StopReason) → StopsAs main turn (turned.Refused at answer)
+  is_refusal : (at : ℕ) (call : RefusedCall) (turn : StopReason) → StopsAs main turn (turned.Refused at call)
       → Came told whole program slot turn words
-      → AtRefusal told whole program slot main (refused_call at answer words) words
-  is_refusal at answer (Refused its_slot its_answer m) stops came =
+      → AtRefusal told whole program slot main (refused_call at call words) words
+  is_refusal at call (Refused its_slot its_call m) stops came =
       let goes_on = main_from program 4096 came.turns m words in
       record {
         m = m;
@@ -182,11 +182,11 @@ module _ {R : Type 0} {told : BoundedResult Finished → BoundedResult R} {whole
         few = came.few;
         fewer = came.fewer;
         rest = came.rest
-            ∙ ap (λ (s : ℕ). told (mapped (with_loop (refused_call s its_answer words)) goes_on)) (sym stops.0)
-            ∙ ap (λ (a : ℤ). told (mapped (with_loop (refused_call at a words)) goes_on)) (sym stops.1);
+            ∙ ap (λ (s : ℕ). told (mapped (with_loop (refused_call s its_call words)) goes_on)) (sym stops.0)
+            ∙ ap (λ (c : RefusedCall). told (mapped (with_loop (refused_call at c words)) goes_on)) (sym stops.1);
       }
-  is_refusal at answer (Loop made m) stops came = absurd stops
-  is_refusal at answer (Exit ret) stops came = absurd stops
+  is_refusal at call (Loop made m) stops came = absurd stops
+  is_refusal at call (Exit ret) stops came = absurd stops
 
   is_end : (ret : ℕ) (turn : StopReason) → StopsAs main turn (turned.Exit ret)
       → Came told whole program slot turn words
@@ -194,7 +194,7 @@ module _ {R : Type 0} {told : BoundedResult Finished → BoundedResult R} {whole
   is_end ret (Exit its_ret) stops came = came.rest
       ∙ ap (λ (n : ℕ). told (Ended (record { ret = n; loops = []; words = words }))) (sym stops)
   is_end ret (Loop made m) stops came = absurd stops
-  is_end ret (Refused at answer m) stops came = absurd stops
+  is_end ret (Refused at call m) stops came = absurd stops
 
 module _ {R : Type 0} {told : BoundedResult Finished → BoundedResult R} {whole : BoundedResult R} {program : Program}
     {main : MainOf} {first now : MapList} (still : StillRuns told whole program main first now) where
@@ -250,20 +250,20 @@ module _ {R : Type 0} {told : BoundedResult Finished → BoundedResult R} {whole
       let ran = next still.m still.at in
       (is_end after ret ran.stretch.turn ran.turns (came same ran), turn_keeps next)
 
-  at_refusal : {after : MainOf} {new : MapList} {slot : ℕ} {answer : ℤ} → after.program ≡ main.program
-      → NextTurn main now (turned.Refused slot answer) after new
-      → AtRefusal told whole program main.slot after (refused_call slot answer new.words) new.words
-  at_refusal {after} {new} {slot} {answer} same next =
+  at_refusal : {after : MainOf} {new : MapList} {slot : ℕ} {call : RefusedCall} → after.program ≡ main.program
+      → NextTurn main now (turned.Refused slot call) after new
+      → AtRefusal told whole program main.slot after (refused_call slot call new.words) new.words
+  at_refusal {after} {new} {slot} {call} same next =
       let ran = next still.m still.at in
-      is_refusal after slot answer ran.stretch.turn ran.turns (came same ran)
+      is_refusal after slot call ran.stretch.turn ran.turns (came same ran)
 
   -- its call was refused, and it goes on
-  pub refuses : {after : MainOf} {new : MapList} {slot : ℕ} {answer : ℤ} → after.program ≡ main.program
-      → NextTurn main now (turned.Refused slot answer) after new
+  pub refuses : {after : MainOf} {new : MapList} {slot : ℕ} {call : RefusedCall} → after.program ≡ main.program
+      → NextTurn main now (turned.Refused slot call) after new
       → (then_told : BoundedResult Finished → BoundedResult R)
-      → ((e : BoundedResult Finished) → told (mapped (with_loop (refused_call slot answer new.words)) e) ≡ then_told e)
+      → ((e : BoundedResult Finished) → told (mapped (with_loop (refused_call slot call new.words)) e) ≡ then_told e)
       → StillRuns then_told whole program after first new
-  refuses {after} {new} {slot} {answer} same next then_told moves =
+  refuses {after} {new} {slot} {call} same next then_told moves =
       let this = at_refusal same next in
       record {
         laws = still.laws;
@@ -279,10 +279,10 @@ module _ {R : Type 0} {told : BoundedResult Finished → BoundedResult R} {whole
       }
 
   -- with less before it
-  pub refusal_lessens : {after : MainOf} {new : MapList} {slot : ℕ} {answer : ℤ} → after.program ≡ main.program
-      → NextTurn main now (turned.Refused slot answer) after new
+  pub refusal_lessens : {after : MainOf} {new : MapList} {slot : ℕ} {call : RefusedCall} → after.program ≡ main.program
+      → NextTurn main now (turned.Refused slot call) after new
       → most_from program after.slot < most_from program main.slot
-  refusal_lessens {after} {new} {slot} {answer} same next =
+  refusal_lessens {after} {new} {slot} {call} same next =
       let this = at_refusal same next in
       subst (λ (at : ℕ). most_from program at < most_from program main.slot) (sym this.at.stands.slot) this.fewer
 

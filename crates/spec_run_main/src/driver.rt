@@ -39,7 +39,7 @@ pub fn run_main<L: LoopRunner>(
                 let answer = runner.run_call(program, &call, maps)?;
                 main.resume(answer);
             }
-            Turned::Refused { slot, answer } => runner.note_refusal(slot, answer)?,
+            Turned::Refused { slot, call } => runner.note_refusal(slot, call)?,
             Turned::Exit(ret) => return Ok(ret),
         }
     }

@@ -10,6 +10,7 @@ ghost use Rattle.spec_run_main.specs.Calls.{HasTold, TellsValid, TellsRefused};
 
 use array_maps::Maps;
 use bpf_step::LoopCall;
+use bpf_step_model::RefusedCall;
 use bpf_verify::Verified;
 
 /// Runs the loop calls that main of a program makes, and records them. It has room for a number of
@@ -41,10 +42,10 @@ pub trait LoopRunner {
             TellsValid (tells program.now) program.now call.now maps.old.words answer self.old self.new) }
         ensures used { IfOk result (λ _. room self.old ≤ room self.new + 1) };
 
-    /// Notes a loop call at a slot that was refused, with its answer.
-    fn note_refusal(&mut self, slot: u32, answer: i64) -> Result<(), Self::Stop>
+    /// Notes a loop call at a slot that was refused.
+    fn note_refusal(&mut self, slot: u32, call: RefusedCall) -> Result<(), Self::Stop>
         requires { 0 < room self.old }
-        ensures told { IfOk result (λ _. (program : Program) → TellsRefused (tells program) slot answer self.old
+        ensures told { IfOk result (λ _. (program : Program) → TellsRefused (tells program) slot call self.old
             self.new) }
         ensures used { IfOk result (λ _. room self.old ≤ room self.new + 1) };
 }

@@ -1,16 +1,17 @@
 -- Main's turns up to its first valid loop call.
-use Rattle.std.proofs.Common.{◌≡◌, ℕ, ℤ, ◌+◌, ◌≤◌, List, Option, Some, None, refl, sym, ap, subst, ◌∙◌, arith}
+use Rattle.std.proofs.Common.{◌≡◌, ℕ, ◌+◌, ◌≤◌, List, Option, Some, None, refl, sym, ap, subst, ◌∙◌, arith}
 use Rattle.array_maps.specs.MapList.{MapList}
 use Rattle.bpf_insn_types.specs.Program.{Program}
+use Rattle.bpf_step_model.specs.declared.refused_call.RefusedCall.{RefusedCall}
 use Rattle.bpf_step_model.specs.State.{Machine, LoopCall}
 use Rattle.bpf_step_model.specs.Run.{BoundedResult, Ended, Stuck, Unfinished, mapped, followed}
 use Rattle.bpf_step_model.specs.LoopInOrder.{Looped, loop_in_order}
-use Rattle.bpf_step_model.specs.ProgramInOrder.{Finished, with_loop, after_loop, main_from, program_in_order}
+use Rattle.bpf_step_model.specs.ProgramInOrder.{Finished, with_loop, after_loop, main_from, program_in_order, valid_call}
+use Rattle.bpf_step_model.specs.ProgramInOrder.{refused_call}
 use Rattle.bpf_verify_sound.specs.Soundness.{OverApproximatesCall, ProgramEnds, most_from}
 use Rattle.bpf_step.specs.declared.main_function.Turned.TheVariants as turned
 use Rattle.bpf_step.specs.Mains.{MainOf}
 use Rattle.bpf_step.specs.Turns.{IsFilled}
-use Rattle.spec_run_main.specs.Calls.{refused_call}
 use Rattle.spec_run_main.proofs.Turns.{StillRuns, NextTurn, exits, refuses, refusal_lessens, at_call}
 use Rattle.spec_run_main.proofs.Turns.{call_sizes}
 use Rattle.spec_run_replay.specs.FirstLoop.{ValidLoop, first_of, first_loop}
@@ -18,29 +19,29 @@ use Rattle.spec_run_replay.specs.FoundLoop.{CameToLoop}
 use Rattle.spec_run_replay.specs.declared.first_loop.NumberedCall.{NumberedCall}
 
 -- a refused call before is one number more
-one_refused : (number slot : ℕ) (answer : ℤ) (words : List ℕ) (e : BoundedResult Finished)
-    → mapped (first_of number) (mapped (with_loop (refused_call slot answer words)) e)
+one_refused : (number slot : ℕ) (call : RefusedCall) (words : List ℕ) (e : BoundedResult Finished)
+    → mapped (first_of number) (mapped (with_loop (refused_call slot call words)) e)
     ≡ mapped (first_of (number + 1)) e
-one_refused number slot answer words (Ended f) = refl
-one_refused number slot answer words Stuck = refl
-one_refused number slot answer words Unfinished = refl
+one_refused number slot call words (Ended f) = refl
+one_refused number slot call words Stuck = refl
+one_refused number slot call words Unfinished = refl
 
 -- a valid call is the first, where what comes after it ends
-valid_made : (number slot : ℕ) (answer : ℤ) (words : List ℕ) (call : LoopCall) (e : BoundedResult Finished)
+valid_made : (number answer : ℕ) (words : List ℕ) (call : LoopCall) (e : BoundedResult Finished)
     (valid : Option ValidLoop)
     → mapped (first_of number)
-    (mapped (with_loop (record { slot = slot; answer = answer; words = words; call = Some call })) e) ≡ Ended valid
+    (mapped (with_loop (valid_call call answer words)) e) ≡ Ended valid
     → valid ≡ Some (record { number = number; call = call; words = words })
-valid_made number slot answer words call (Ended f) valid told = cc
-valid_made number slot answer words call Stuck valid told = absurd cc
-valid_made number slot answer words call Unfinished valid told = absurd cc
+valid_made number answer words call (Ended f) valid told = cc
+valid_made number answer words call Stuck valid told = absurd cc
+valid_made number answer words call Unfinished valid told = absurd cc
 
 valid_first : (number : ℕ) (go_on : Machine → List ℕ → BoundedResult Finished) (call : LoopCall) (next : Machine)
     (words : List ℕ) (e : BoundedResult Looped) (valid : Option ValidLoop)
     → mapped (first_of number) (followed (after_loop go_on call next words) e) ≡ Ended valid
     → valid ≡ Some (record { number = number; call = call; words = words })
 valid_first number go_on call next words (Ended l) valid told =
-    valid_made number call.slot _ words call (go_on _ l.words) valid told
+    valid_made number l.answer words call (go_on _ l.words) valid told
 valid_first number go_on call next words Stuck valid told = absurd cc
 valid_first number go_on call next words Unfinished valid told = absurd cc
 
@@ -66,14 +67,14 @@ module _ {program : Program} {argument : ℕ} {main after : MainOf} {first now n
   ends_without {ret} next = record { valid = None; told = (exits seeks.still same next).0; is = tt }
 
   -- a call was refused, and main goes on
-  pub goes_on : {slot : ℕ} {answer : ℤ} → NextTurn main now (turned.Refused slot answer) after new
+  pub goes_on : {slot : ℕ} {call : RefusedCall} → NextTurn main now (turned.Refused slot call) after new
       → StillSeeks program argument after first new (number + 1)
-  goes_on {slot} {answer} next =
+  goes_on {slot} {call} next =
       let fewer = refusal_lessens seeks.still same next in
       let few = seeks.few in
       record {
         still = refuses seeks.still same next (mapped (first_of (number + 1)))
-            (one_refused number slot answer new.words);
+            (one_refused number slot call new.words);
         few = omega (arith, fewer, few);
       }
 

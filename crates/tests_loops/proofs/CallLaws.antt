@@ -11,4 +11,4 @@ pub known_call : (main : MainOf) (turn : StopReason) (call : LoopCall) → Stops
     → OverApproximatesCall main.program call
 known_call main (Loop made next) call turns = turns.1
 known_call main (Exit ret) call turns = absurd turns
-known_call main (Refused slot answer next) call turns = absurd turns
+known_call main (Refused slot asked next) call turns = absurd turns

@@ -4,5 +4,5 @@ use Rattle.bpfspec_records.proofs.loops.add_calls.Given as goal
 
 abbrev pub invariant-loop-number : goal.invariant-loop-number
 invariant-loop-number l =
-    l.records.items ++ numbered_records l.sizes l.arguments l.number (drop l.number l.loops)
-    ≡ l.initial.records.items ++ numbered_records l.sizes l.arguments 0 l.loops
+    l.records.items ++ numbered_records l.sizes l.number (drop l.number l.loops)
+    ≡ l.initial.records.items ++ numbered_records l.sizes 0 l.loops

@@ -1,11 +1,8 @@
-use Rattle.std.proofs.Common.{List, refl, sym, subst}
-use Rattle.std.specs.List.{list_any}
-use Rattle.array_maps.specs.MapList.{MapList}
-use Rattle.loop_core_model.specs.declared.verdict.LoopReport.{LoopReport}
+use Rattle.std.proofs.Common.{refl, sym, subst}
 use Rattle.loop_core_model.specs.Report.{loop_report}
 use Rattle.spec_run.proofs.Reported.{report_of}
 use Rattle.spec_run_explain.specs.Causes.{IsEachExplained}
-use Rattle.spec_run_explain.specs.Programs.{AreArgumentsIfRefused, AreToldSoFar, is_refused}
+use Rattle.spec_run_explain.specs.Programs.{AreToldSoFar}
 use Rattle.spec_run_explain.proofs.driver.explain_loops.Goals as goal
 
 pub returns : goal.returns
@@ -24,9 +21,4 @@ returns c =
       lines = told.lines_are;
       explained = subst (λ e. IsEachExplained c.args.test program c.args.most wants e left.loops.items) (sym ran.gives)
           told.explained;
-      arguments = subst (λ (maps : MapList). AreArgumentsIfRefused program c.args.argument maps.words
-          (list_any is_refused left.lines.items) c.in_ok-arguments.arguments.items) c.in_ok-start.ensures
-          (subst (λ (lines : List LoopReport). AreArgumentsIfRefused program c.args.argument
-          c.in_ok-start.start.words (list_any is_refused lines) c.in_ok-arguments.arguments.items)
-          c.deref.ensures.value c.in_ok-arguments.ensures);
     }

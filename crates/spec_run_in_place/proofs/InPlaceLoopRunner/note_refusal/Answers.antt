@@ -8,6 +8,6 @@ pub returns-clause-told : goal.returns-clause-told
 returns-clause-told c = λ program first calls words before. (
   before.0,
   c.tell-self.ensures.room ∙ before.1,
-  refused_line loop_report_in_order words calls refl (to_z-of_z w64 c.args.answer (search rules))
+  refused_line loop_report_in_order words calls refl (to_z-of_z w64 c.args.call.answer (search rules))
       (ap (λ n. take n c.tell-self.new.lines) c.tell-self.ensures.count ∙ c.tell-self.ensures.told) before.2,
 )

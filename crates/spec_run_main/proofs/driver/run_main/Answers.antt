@@ -1,10 +1,8 @@
-use Rattle.std.proofs.Common.{rules, w64, ◌++◌, ◌∷◌, [], ◌∙◌, ◌≤◌, sym, subst, arith}
-use Rattle.std.proofs.lemmas.Int.{to_z-of_z}
+use Rattle.std.proofs.Common.{rules, ◌++◌, ◌∷◌, [], ◌∙◌, ◌≤◌, sym, subst, arith}
 use Rattle.bpf_step_model.specs.Run.{mapped}
-use Rattle.bpf_step_model.specs.ProgramInOrder.{program_in_order}
+use Rattle.bpf_step_model.specs.ProgramInOrder.{program_in_order, valid_call, refused_call}
 use Rattle.bpf_verify_sound.specs.Soundness.{most_from}
 use Rattle.bpf_step.proofs.Limits.{few_steps, iterations_end}
-use Rattle.spec_run_main.specs.Calls.{valid_call, refused_call}
 use Rattle.spec_run_main.proofs.CallLists.{behind, none_before, one_more, all_made}
 use Rattle.spec_run_main.proofs.Turns.{Laws, program_ends, words_fit, starts, few_left, exits, refuses}
 use Rattle.spec_run_main.proofs.Turns.{refusal_lessens, call_sizes, loops, loop_lessens}
@@ -70,7 +68,7 @@ pub loop-call-preserved : goal.loop-call-preserved
 loop-call-preserved g c =
     let before = c.loop-call.invariant in
     let words = c.next.new.store.words in
-    let refused = refused_call c.in-Refused.slot c.in-Refused.answer words in
+    let refused = refused_call c.in-Refused.slot c.in-Refused.call words in
     let fewer = refusal_lessens before.still c.next.ensures.program c.in-Refused.ensures.ran in
     let room = before.room in
     let used = c.in_ok-note_refusal-in-Refused.ensures.used in
@@ -78,11 +76,8 @@ loop-call-preserved g c =
       calls = before.calls ++ refused ∷ [];
       still = refuses before.still c.next.ensures.program c.in-Refused.ensures.ran
           (mapped (behind (before.calls ++ refused ∷ []))) (one_more before.calls refused);
-      told = subst (λ answer. g.L.LoopRunner.tells c.args.program.now c.args.runner.now
-          (before.calls ++ refused_call c.in-Refused.slot answer words ∷ []) c.note_refusal.new.self)
-          (to_z-of_z w64 c.in-Refused.answer (search rules))
-          (c.in_ok-note_refusal-in-Refused.ensures.told c.args.program.now c.args.runner.now before.calls words
-          before.told);
+      told = c.in_ok-note_refusal-in-Refused.ensures.told c.args.program.now c.args.runner.now before.calls words
+          before.told;
       room = omega (arith, fewer, room, used);
     }
 

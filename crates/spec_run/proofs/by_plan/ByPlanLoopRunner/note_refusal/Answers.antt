@@ -9,5 +9,5 @@ returns-clause-told g c = λ program first calls words before. (
   before.0,
   before.1,
   refused_line (loop_report c.args.self.now.test program 4096) words calls refl
-      (to_z-of_z w64 c.args.answer (search rules)) c.in_ok-push.ensures.items before.2,
+      (to_z-of_z w64 c.args.call.answer (search rules)) c.in_ok-push.ensures.items before.2,
 )

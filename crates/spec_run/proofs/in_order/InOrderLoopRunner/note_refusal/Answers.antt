@@ -6,5 +6,5 @@ use Rattle.spec_run.proofs.in_order.InOrderLoopRunner.note_refusal.Goals as goal
 
 pub returns-clause-told : goal.returns-clause-told
 returns-clause-told c = λ program first calls words before.
-    refused_line loop_report_in_order words calls refl (to_z-of_z w64 c.args.answer (search rules))
+    refused_line loop_report_in_order words calls refl (to_z-of_z w64 c.args.call.answer (search rules))
     c.in_ok-push.ensures.items before
