@@ -4,15 +4,13 @@ from __future__ import annotations
 
 from collections.abc import Iterator
 
-from explain.flow import Flow
-from explain.joins import Joins
+from explain.flow import Flow, Joins
 from explain.loops import Loops
-from explain.pages import Page, lines_of
+from explain.pages import Page
 from explain.reasons import unit_reasons
 from explain.records import Facts, Pair
 from explain.records import Loop as LoopFacts
 from explain.shown import escaped
-from explain.states import state_at
 
 from .report import AccessReport, ConflictReport, LoopReport, Program
 from .reports import Loop
@@ -31,7 +29,7 @@ class PageOfC(Page):
     """The page of a unit that was made of C."""
 
     def __init__(self, program: Program, facts: Facts) -> None:
-        super().__init__(lines_of(program.unit.text), facts.insns)
+        super().__init__(program.unit.text, facts.insns)
         self._program = program
 
     def place(self, slot: int, insn: str) -> str:
@@ -96,9 +94,8 @@ def loop_lines(program: Program, facts: Facts) -> list[str]:
 
 def states_of(program: Program, facts: Facts) -> dict[int, str]:
     """What the registers are that the instruction at each slot reads."""
-    flow = Flow(facts, PageOfC(program, facts))
-    joins = Joins(flow)
-    return {slot: state_at(flow, joins, slot) for slot in facts.insns}
+    joins = Joins(Flow(facts, PageOfC(program, facts)))
+    return {slot: joins.state(slot) for slot in facts.insns}
 
 
 def loop_reports(program: Program, loops: list[Loop], facts: Facts | None) -> Iterator[LoopReport]:

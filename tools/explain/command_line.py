@@ -5,27 +5,16 @@ The errors have the wording of clap, the parser of the program's other commands.
 from __future__ import annotations
 
 import re
-from collections.abc import Sequence
-from typing import NamedTuple, NoReturn
-
-from .similar import most_similar
+from collections.abc import Iterable, Sequence
+from contextlib import suppress
+from typing import NamedTuple
 
 NAME, VERSION = "bpfspec explain", "0.1.0"
-ABOUT = "Explains why a program is refused, or why its loops conflict"
-OPTIONS_USAGE = "[OPTIONS]"
-NUMBER = re.compile(r"\+?[0-9]+")
+NUMBER = re.compile(r"\+?0*([0-9]{1,20})")
 MOST_ARGUMENT = (1 << 64) - 1
+LEAST_SIMILARITY = 0.7  # from which on an option is suggested
 TESTS = "flow", "lrpd"
-
-UNEXPECTED = "unexpected argument '{}' found"
-SIMILAR = UNEXPECTED + "\n\n  tip: a similar argument exists: '--{}'"
-REPEATED = "the argument '{}' cannot be used multiple times"
-NO_VALUE = "a value is required for '{}' but none was supplied"
-MORE_VALUES = "unexpected value '{}' for '{}' found; no more were expected"
-NOT_UTF_8 = "a word isn't UTF-8"
-WRONG_VALUE = "--arg wants a number from 0 to 18446744073709551615, and --test wants flow or lrpd"
-ERROR, USAGE = "error: {}", "\n\nUsage: {} {}"
-TRY_HELP = "\n\nFor more information, try '--help'.\n"
+USAGE = "\n\nUsage: " + NAME + " {}"
 
 
 class Option(NamedTuple):
@@ -40,12 +29,6 @@ class Option(NamedTuple):
     def shown(self) -> str:
         """The option as it is written in a usage."""
         return f"--{self.name} <{self.value}>" if self.value else f"--{self.name}"
-
-    def help_line(self) -> str:
-        """The option's line of the help."""
-        front = f"-{self.short}," if self.short else "   "
-        default = f" [default: {self.default}]" if self.value else ""
-        return f"  {front} {self.shown():<13}  {self.help}{default}\n"
 
 
 OPTIONS = {
@@ -63,7 +46,7 @@ OPTIONS = {
         Option("version", "Print version", short="V"),
     )
 }
-BY_SHORT = {option.short: option for option in OPTIONS.values() if option.short}
+BY_SHORT = {option.short: name for name, option in OPTIONS.items() if option.short}
 
 
 class Ask(NamedTuple):
@@ -89,10 +72,18 @@ class UsageError(Exception):
 
 def read_words(words: Sequence[str]) -> Ask:
     """What words ask for. It raises `HelpAsked` or `UsageError` if they ask for nothing else."""
-    for word in words:
-        if not _is_utf_8(word):
-            _fail(NOT_UTF_8, usage=[])
-    return _Reader().read(words)
+    try:
+        "".join(words).encode()
+    except UnicodeEncodeError:
+        raise _error("a word isn't UTF-8") from None
+    used = _Reader().read(words)
+    number, test = (used.get(name, OPTIONS[name].default) for name in ("arg", "test"))
+    found = NUMBER.fullmatch(number)
+    argument = int(found[1]) if found else MOST_ARGUMENT + 1
+    if argument > MOST_ARGUMENT or test not in TESTS:
+        raise _error(f"--arg wants a number from 0 to {MOST_ARGUMENT}, and --test wants {' or '.join(TESTS)}")
+    flags = {name: name in used for name in Ask._fields if name in OPTIONS and not OPTIONS[name].value}
+    return Ask(argument=argument, test=test, **flags)
 
 
 class _Reader:
@@ -103,52 +94,38 @@ class _Reader:
         self._pending: Option | None = None  # an option whose value may follow
         self._value: str | None = None  # that value
 
-    def read(self, words: Sequence[str]) -> Ask:
-        """What all words ask for."""
-        only_values = False
-        for word in words:
-            if only_values:
-                self._unexpected(word)
-            elif word == "--":
-                only_values = True
+    def read(self, words: Sequence[str]) -> dict[str, str]:
+        """The options that all words use."""
+        for at, word in enumerate(words):
+            if word == "--":
+                if words[at + 1 :]:
+                    raise _unexpected(words[at + 1])
             elif word.startswith("--"):
-                self._long(word[2:])
+                self._long(*word[2:].partition("="))
             elif word.startswith("-") and word != "-":
-                self._short(word[1])
+                if word[1] not in BY_SHORT:
+                    raise _unexpected(word[:2])
+                self._long(BY_SHORT[word[1]])
             elif self._pending is not None and self._value is None:
                 self._value = word
             else:
-                self._unexpected(word)
+                raise _unexpected(word)
         self._settle()
-        return self._ask()
+        return self._used
 
-    def _long(self, text: str) -> None:
-        """Takes `--text`."""
-        name, equals, value = text.partition("=")
+    def _long(self, name: str, equals: str = "", value: str = "") -> None:
+        """Takes `--name` or `--name=value`."""
         option = OPTIONS.get(name)
         if option is None:
-            self._unknown(name)
-        elif option.value:
-            self._settle()
-            if equals:
-                self._use(option, value)
-            else:
-                self._pending = option
-        elif equals:
-            used = [*self._used, name]
-            self._settle_quietly()
-            _fail(MORE_VALUES.format(value, option.shown()), usage=used)
-        else:
-            self._settle()
-            self._use(option, "")
-
-    def _short(self, letter: str) -> None:
-        """Takes `-letter`; both options of a letter end the reading."""
-        option = BY_SHORT.get(letter)
-        if option is None:
-            self._unexpected(f"-{letter}")
+            raise self._unknown(name)
+        if equals and not option.value:
+            wrong = f"unexpected value '{value}' for '{option.shown()}' found; no more were expected"
+            raise _error(wrong, [*self._used, name])
         self._settle()
-        self._use(option, "")
+        if option.value and not equals:
+            self._pending = option
+        else:
+            self._use(option, value)
 
     def _use(self, option: Option, value: str) -> None:
         """Notes the use of an option."""
@@ -157,79 +134,67 @@ class _Reader:
         if option.name == "version":
             raise HelpAsked(f"{NAME} {VERSION}\n")
         if self._used.pop(option.name, None) is not None:
-            _fail(REPEATED.format(option.shown()), usage=[])
+            raise _error(f"the argument '{option.shown()}' cannot be used multiple times")
         self._used[option.name] = value
 
     def _settle(self) -> None:
         """Notes the use of the option whose value has been read."""
         option, value = self._pending, self._value
         self._pending = self._value = None
-        if option is None:
-            return
-        if value is None:
-            _fail(NO_VALUE.format(option.shown()))
-        self._use(option, value)
+        if option is not None and value is None:
+            raise _error(f"a value is required for '{option.shown()}' but none was supplied", used=None)
+        if option is not None and value is not None:
+            self._use(option, value)
 
-    def _settle_quietly(self) -> None:
-        """The same before another error, which is the one that counts."""
-        try:
+    def _unknown(self, name: str) -> UsageError:
+        """The error of an option that there isn't. It counts before those of the option before it."""
+        with suppress(UsageError):
             self._settle()
-        except UsageError:
-            pass
-
-    def _unknown(self, name: str) -> NoReturn:
-        """Fails at an option that there isn't."""
-        self._settle_quietly()
         similar = most_similar(name, OPTIONS)
         if similar is None:
-            _fail(UNEXPECTED.format(f"--{name}"), usage=list(self._used))
-        used = self._used if similar in self._used else [*self._used, similar]
-        _fail(SIMILAR.format(f"--{name}", similar), usage=list(used))
-
-    def _unexpected(self, word: str) -> NoReturn:
-        """Fails at a word that is neither an option nor the value of one."""
-        _fail(UNEXPECTED.format(word), usage=[])
-
-    def _ask(self) -> Ask:
-        """What the options ask for."""
-        number = self._used.get("arg", OPTIONS["arg"].default)
-        test = self._used.get("test", OPTIONS["test"].default)
-        argument = _argument(number)
-        if argument is None or test not in TESTS:
-            _fail(WRONG_VALUE, usage=[])
-        flags = {name: name in self._used for name in Ask._fields if name not in ("argument", "test")}
-        return Ask(argument=argument, test=test, **flags)
+            return _unexpected(f"--{name}", self._used)
+        tip = f"\n\n  tip: a similar argument exists: '--{similar}'"
+        return _unexpected(f"--{name}", {**self._used, similar: ""}, tip)
 
 
-def _argument(text: str) -> int | None:
-    """The number of 64 bits that a text is; it may begin with a plus."""
-    if not NUMBER.fullmatch(text):
-        return None
-    digits = text.lstrip("+").lstrip("0")
-    if len(digits) > len(str(MOST_ARGUMENT)):
-        return None
-    number = int(digits or "0")
-    return number if number <= MOST_ARGUMENT else None
+def _unexpected(word: str, used: Iterable[str] = (), tip: str = "") -> UsageError:
+    """The error of a word that is neither an option nor the value of one."""
+    return _error(f"unexpected argument '{word}' found{tip}", used)
 
 
-def _is_utf_8(word: str) -> bool:
-    """Whether the bytes of a word were UTF-8."""
-    try:
-        word.encode()
-    except UnicodeEncodeError:
-        return False
-    return True
-
-
-def _fail(wrong: str, usage: list[str] | None = None) -> NoReturn:
-    """Raises an error with the usage of these options, of all if the list is empty, or without a usage."""
-    text = ERROR.format(wrong)
-    if usage is not None:
-        shown = dict.fromkeys(OPTIONS[name].shown() for name in usage)
-        text += USAGE.format(NAME, " ".join(shown) or OPTIONS_USAGE)
-    raise UsageError(text + TRY_HELP)
+def _error(wrong: str, used: Iterable[str] | None = ()) -> UsageError:
+    """An error with the usage of the options that were used, or of all if none were; with None it has no usage."""
+    shown = dict.fromkeys(OPTIONS[name].shown() for name in used or ())
+    usage = "" if used is None else USAGE.format(" ".join(shown) or "[OPTIONS]")
+    return UsageError(f"error: {wrong}{usage}\n\nFor more information, try '--help'.\n")
 
 
 def _help() -> str:
-    lines = "".join(option.help_line() for option in OPTIONS.values())
-    return f"{ABOUT}{USAGE.format(NAME, OPTIONS_USAGE)}\n\nOptions:\n{lines}"
+    lines = f"Explains why a program is refused, or why its loops conflict{USAGE.format('[OPTIONS]')}\n\nOptions:\n"
+    for option in OPTIONS.values():
+        front = f"-{option.short}," if option.short else "   "
+        default = f" [default: {option.default}]" if option.value else ""
+        lines += f"  {front} {option.shown():<13}  {option.help}{default}\n"
+    return lines
+
+
+def most_similar(word: str, names: Iterable[str]) -> str | None:
+    """The name that is most similar to a word, the last of several; None if none is similar."""
+    scored = [(jaro(word, name), place, name) for place, name in enumerate(names)]
+    similarity, _, name = max(scored)
+    return name if similarity > LEAST_SIMILARITY else None
+
+
+def jaro(left: str, right: str) -> float:
+    """The Jaro similarity of two texts, from 0 to 1."""
+    reach = max(max(len(left), len(right)) // 2 - 1, 0)
+    taken: list[int] = []  # of each character that has an equal one near its place in the other text, the place of that
+    for at, letter in enumerate(left):
+        near = range(max(at - reach, 0), min(at + reach + 1, len(right)))
+        taken += [place for place in near if right[place] == letter and place not in taken][:1]
+    if left == right or not taken:
+        return float(left == right)
+    found = len(taken)
+    in_order = [right[place] for place in sorted(taken)]
+    differing = sum(right[place] != other for place, other in zip(taken, in_order))
+    return (found / len(left) + found / len(right) + (found - differing // 2) / found) / 3

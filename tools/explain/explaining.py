@@ -9,19 +9,16 @@ from functools import cached_property
 from typing import TYPE_CHECKING
 
 from .command_line import Ask
-from .inputs import input_reasons, sections_of
+from .inputs import not_a_text, refusal_words, sections_of
 from .pages import Page
 from .records import Facts, Refusal
-from .refusals import refusal_words
-from .shown import escaped
+from .shown import escaped, indented
 
 if TYPE_CHECKING:
     from .loops import Loops
 
-UNIT, EVENTS, HEX = "unit", "events", "hex"
-RULES = "V"  # begins the codes of the verifier's rules
+UNIT, EVENTS = "unit", "events"  # sections
 MOST_ELEMENTS = 64  # of a loop that are explained
-ACCEPTED, FUNCTION = "accepted\n", "function {} at {} count {}\n"
 
 
 class Explanation:
@@ -29,32 +26,40 @@ class Explanation:
 
     def __init__(self, ask: Ask, data: bytes, facts: Facts) -> None:
         self.facts = facts
-        self.not_text = input_reasons(data)
+        self.not_text = not_a_text(data)
         self.sections = sections_of("" if self.not_text else data.decode())
         self.most = MOST_ELEMENTS if ask.all else 1  # elements of a loop that are explained
         self._is_drawn = ask.picture
+        self._text = "" if facts.header.form == "hex" else self.sections.unit  # a page of hex form has no lines
+        self._is_refused = facts.refusal is not None and facts.refusal.section == UNIT
 
     @cached_property
     def page(self) -> Page:
-        """The lines of the unit's text; none in hex form."""
-        return Page.none() if self.facts.header.form == HEX else Page.of(self.sections.unit, self.facts.insns)
+        """The lines of the unit's text."""
+        return Page(self._text, self.facts.insns)
 
     @cached_property
     def loops(self) -> Loops:
         """The loops of the unit."""
         from .loops import Loops
 
-        text = "" if self.facts.header.form == HEX else self.sections.unit
-        return Loops(self.facts, self.page, text)
+        return Loops(self.facts, self.page, self._text)
 
     def text(self) -> str:
         """What is printed: the answer of `verify` and the reasons, or the picture if one is asked for."""
-        picture = self._picture() if self._is_drawn else None
-        return self._answer() + escaped("".join(self.reasons())) if picture is None else picture
+        picture = self._picture() if self._is_drawn and not self._is_refused else None
+        if picture is not None:
+            return picture
+        answer = "accepted\n"
+        if self.facts.refusal is not None and self._is_refused:
+            answer = f"{refusal_words(self.facts.refusal)}\n"
+        for number, slot, count in self.facts.functions:
+            answer += f"function {number} at {slot} count {count}\n"
+        return answer + escaped("".join(self._reasons()))
 
-    def reasons(self) -> Iterator[str]:
+    def _reasons(self) -> Iterator[str]:
         """The reasons: of the unit and its states, of its loops, and of what is given with it."""
-        if self.facts.header.states and not self._is_refused():
+        if self.facts.header.states and not self._is_refused:
             yield self._states()
         if self.facts.loops:
             yield from (f"{line}\n" for line in self.loops.lines(self.most))
@@ -65,20 +70,16 @@ class Explanation:
         """Why the input, the unit, the values of its maps or the events are refused. A unit that a rule refuses has its
         states with that, if they are asked for."""
         if self.not_text is not None:
-            return self.not_text
-        return self._unit_reasons(refusal) if self._is_refused() else self._given_reasons(refusal)
+            return indented(self.not_text)
+        if refusal.section != UNIT:
+            from .given import given_reasons
 
-    def _is_refused(self) -> bool:
-        """Whether the unit is refused."""
-        return self.facts.refusal is not None and self.facts.refusal.section == UNIT
-
-    def _unit_reasons(self, refusal: Refusal) -> str:
-        """Why the unit is refused."""
-        if refusal.code.startswith(RULES):
+            return given_reasons(refusal, self.facts.maps, self.sections)
+        if refusal.code.startswith("V"):
             return self._states()
         from .texts import text_reasons
 
-        return text_reasons(refusal, self.facts.header.form, self.sections)
+        return text_reasons(refusal, self.facts.header.form, self.sections.unit)
 
     def _states(self) -> str:
         """Why a rule of the verifier refuses the unit, if one does, and its states if they are asked for."""
@@ -86,31 +87,10 @@ class Explanation:
 
         return unit_reasons(self.facts, self.page)
 
-    def _given_reasons(self, refusal: Refusal) -> str:
-        """Why the values of the maps or the events aren't taken."""
-        if refusal.section == EVENTS and refusal.line is None:
-            from .replays import replay_reasons
-
-            return replay_reasons(refusal, self.sections)
-        from .given import given_reasons
-
-        return given_reasons(refusal, self.facts.maps, self.sections)
-
-    def _answer(self) -> str:
-        """What `verify` prints."""
-        if self.facts.refusal is not None and self._is_refused():
-            return f"{refusal_words(self.facts.refusal)}\n"
-        return ACCEPTED + "".join(FUNCTION.format(*function) for function in self.facts.functions)
-
     def _picture(self) -> str | None:
         """The picture of the events of an accepted unit, else of its first loop that conflicts, if there is one."""
-        if self._is_refused():
-            return None
-        from .loop_picture import draw_loop
-        from .replay_picture import draw_events
-        from .replays import parse_events
+        from .given import parse_events
+        from .pictures import draw_events, draw_loop
 
-        schedule = parse_events(self.sections.events)
-        if schedule is not None and schedule.events:
-            return draw_events(schedule.events)
-        return draw_loop(self.facts, self.loops)
+        _, events = parse_events(self.sections.events) or ([], [])
+        return draw_events(events) if events else draw_loop(self.facts, self.loops)

@@ -3,19 +3,22 @@
 from __future__ import annotations
 
 import os
+import shlex
 import signal
+import subprocess
 from collections.abc import Sequence
 from types import FrameType
 from typing import NoReturn
 
 from .command_line import NAME, Ask, HelpAsked, UsageError, read_words
 from .explaining import Explanation
-from .facts_program import ProgramError, facts_of
 from .inputs import LONGEST
 from .records import MemoryRanOut, RecordsError, read
 
-BY_SIGNAL = 128  # and its number: the status of a program that a signal ended, as shells give it
+TOP = os.path.dirname(os.path.dirname(os.path.dirname(os.path.realpath(__file__))))  # of the repository or installation
+PLACES = os.path.join(TOP, "programs", "bpfspec"), os.path.join(TOP, "bpfspec")  # of the program that makes the facts
 ENDING = signal.SIGINT, signal.SIGTERM, signal.SIGHUP
+BY_SIGNAL = 128  # and its number: the status of a program that a signal ended, as shells give it
 DONE, USAGE, NO_MEMORY, NO_STREAM, CRASHED = 0, 3, 4, 5, 70
 INPUT, OUTPUT, MESSAGES = range(3)
 MEMORY_LINE = b"refused memory\n"
@@ -25,7 +28,9 @@ CHUNK = 1 << 16
 def main(words: Sequence[str]) -> int:
     """Explains the standard input as the words ask, and gives the exit status: that of `verify`; 3 if the words ask for
     nothing, 4 if memory runs out, 5 if a read or a write fails, 70 if the program that makes the facts crashes."""
-    _catch_signals()
+    for number in ENDING:
+        if signal.getsignal(number) != signal.SIG_IGN:  # one that is ignored stays so
+            signal.signal(number, _end)
     try:
         return _explain(read_words(words))
     except HelpAsked as asked:
@@ -34,18 +39,12 @@ def main(words: Sequence[str]) -> int:
         return _write(MESSAGES, str(error), USAGE)
     except MemoryError:
         return _write(OUTPUT, MEMORY_LINE, NO_MEMORY)
-    except (ProgramError, RecordsError) as error:
+    except RecordsError as error:
         return _write(MESSAGES, f"{NAME}: {error}\n", CRASHED)
 
 
-def _catch_signals() -> None:
-    """Lets the signals that end a program end the one that makes the facts too; a signal that is ignored stays so."""
-    for number in ENDING:
-        if signal.getsignal(number) != signal.SIG_IGN:
-            signal.signal(number, _end)
-
-
 def _end(number: int, _: FrameType | None) -> NoReturn:
+    """Ends the program at a signal, and with it the one that makes the facts."""
     raise SystemExit(BY_SIGNAL + number)
 
 
@@ -55,7 +54,7 @@ def _explain(ask: Ask) -> int:
         data = _read()
     except OSError:
         return NO_STREAM
-    records = facts_of(ask, data)
+    records = _facts_of(ask, data)
     try:
         facts = read(records.decode("ascii", "replace"))
     except MemoryRanOut:
@@ -63,13 +62,39 @@ def _explain(ask: Ask) -> int:
     if ask.json:
         return _write(OUTPUT, records, facts.status)
     explanation = Explanation(ask, data, facts)
-    return _write(OUTPUT, _sarif(explanation) if ask.sarif else explanation.text(), facts.status)
-
-
-def _sarif(explanation: Explanation) -> str:
+    if not ask.sarif:
+        return _write(OUTPUT, explanation.text(), facts.status)
     from .sarif import sarif_of  # the other outputs start faster without it
 
-    return sarif_of(explanation)
+    return _write(OUTPUT, sarif_of(explanation), facts.status)
+
+
+def _facts_of(ask: Ask, data: bytes) -> bytes:
+    """The records that `bpfspec facts` prints of an input. If it can't be run, `RecordsError` is raised."""
+    try:
+        words = [*_program(), "facts", *words_of(ask)]
+        return subprocess.run(words, input=data, stdout=subprocess.PIPE, check=False).stdout
+    except (OSError, ValueError) as error:
+        raise RecordsError(f"bpfspec can't be started: {getattr(error, 'strerror', None) or error}") from None
+
+
+def words_of(ask: Ask) -> list[str]:
+    """The words of the command line of `bpfspec facts`. A picture needs the grid, and up to 64 elements of its loop;
+    SARIF has neither a picture nor states."""
+    is_drawn, has_states = (is_asked and not ask.sarif for is_asked in (ask.picture, ask.states))
+    flags = {"--hex": ask.hex, "--states": has_states, "--all": ask.all or is_drawn, "--grid": is_drawn}
+    return ["--arg", str(ask.argument), "--test", ask.test, *(word for word, is_asked in flags.items() if is_asked)]
+
+
+def _program() -> list[str]:
+    """The program of $BPFSPEC, a file or words; else that of this repository or installation."""
+    named = os.environ.get("BPFSPEC", "")
+    if named.strip():
+        return [named] if os.path.isfile(named) else shlex.split(named)
+    for place in PLACES:
+        if os.path.isfile(place) and os.access(place, os.X_OK):
+            return [place]
+    raise RecordsError("there is no program bpfspec: $BPFSPEC names it")
 
 
 def _read() -> bytes:

@@ -1,9 +1,9 @@
 """Instructions, by the text of their records: their names, operands, and which registers they read and write.
 
     insn = parse("stx64 [r1-8], r2")
-    insn.kind, insn.name, insn.bits      # "store", "stx", 64
-    insn.dst, insn.offset, insn.src      # 1, -8, 2
-    insn.reads, insn.writes              # (1, 2), ()
+    insn.kind, insn.name, insn.bits          # "store", "stx", 64
+    insn.base, insn.offset, insn.src         # 1, -8, 2
+    insn.reads, insn.writes                  # (1, 2), ()
 """
 
 from __future__ import annotations
@@ -14,52 +14,41 @@ from typing import Any, NamedTuple
 
 from .records import RecordsError
 
-NAMES = {
-    "alu": "add sub mul div sdiv or and lsh rsh mod smod xor mov arsh",
-    "neg": "neg",
-    "endian": "le be swap",
-    "ja": "ja",
-    "jump": "jeq jgt jge jset jne jsgt jsge jlt jle jslt jsle",
-    "call": "call call_local call_btf",
-    "exit": "exit",
-    "load": "ldx ldxs",
-    "store": "st stx",
-    "atomic": "atomic",
-    "wide": "lddw ldmapfd ldmapfdval ldvar ldmap ldmapval",
-    "code": "ldcode",
-}
-KINDS = {name: kind for kind, names in NAMES.items() for name in names.split()}
 MOVSX = "movsx"  # the kind of mov64s8, a move that extends the sign
-# What the operands of each kind are. A `second` operand is a register or an immediate, and `base` an address in memory.
-OPERANDS = {
-    "alu": ("dst", "second"),
-    "neg": ("dst",),
-    "endian": ("dst",),
-    MOVSX: ("dst", "src"),
-    "ja": ("distance",),
-    "jump": ("dst", "second", "distance"),
-    "call": ("imm",),
-    "exit": (),
-    "load": ("dst", "base"),
-    "store": ("base", "second"),
-    "atomic": ("base", "src"),
-    "wide": ("dst", "imm", "byte"),
-    "code": ("dst", "distance"),
+# The names of each kind, and what its operands are. A `second` operand is `src`, a register, or `imm`, an immediate;
+# `base` is an address in memory.
+KINDS = {
+    "alu": ("add sub mul div sdiv or and lsh rsh mod smod xor arsh", "dst second"),
+    "mov": ("mov", "dst second"),
+    MOVSX: ("", "dst src"),
+    "unary": ("neg le be swap", "dst"),
+    "ja": ("ja", "distance"),
+    "jump": ("jeq jgt jge jset jne jsgt jsge jlt jle jslt jsle", "dst second distance"),
+    "call": ("call call_local call_btf", "imm"),
+    "exit": ("exit", ""),
+    "load": ("ldx ldxs", "dst base"),
+    "store": ("st stx", "base second"),
+    "atomic": ("atomic", "base src"),
+    "wide": ("lddw ldmapfd ldmapfdval ldvar ldmap ldmapval", "dst imm byte"),
+    "code": ("ldcode", "dst distance"),
 }
-WRITING = ("alu", "neg", "endian", MOVSX, "load", "wide", "code")  # they write `dst`
+BY_NAME = {name: kind for kind, (names, _) in KINDS.items() for name in names.split()}
+IN_PLACE = ("alu", "unary")  # they make `dst` of what it was
+READING = (*IN_PLACE, "jump")  # they read `dst`
+WRITING = (*IN_PLACE, "mov", MOVSX, "load", "wide", "code")  # they write `dst`
 MNEMONIC = re.compile(r"([a-z_]+)(?:(\d+)(s\d+)?)?")
 OPERAND = re.compile(r"r(?P<register>\d+)|\[r(?P<base>\d+)(?P<offset>[+-]\d+)\]|(?P<number>[+-]?\d+)")
 SIGNED_COMPARISONS = ("jsgt", "jsge", "jslt", "jsle")
 HELPERS = {1: "lookup", 181: "loop"}
 ARGUMENTS = {"lookup": (1, 2), "loop": (1, 2, 3, 4)}  # the registers that helpers read
+KEY = {"base": 2, "bits": 32}  # a lookup reads 4 bytes at r2
 CALLER_SAVED = (0, 1, 2, 3, 4, 5)  # a call writes them
-NOT_AN_INSN = "a record's instruction isn't one that is known here: {insn}"
 
 
 class Instruction(NamedTuple):
     """An instruction. What its kind doesn't have is None or 0."""
 
-    kind: str  # a key of OPERANDS
+    kind: str  # a key of KINDS
     name: str  # the mnemonic without its bits; of an atomic operation its second word
     bits: int = 0
     dst: int | None = None
@@ -73,29 +62,9 @@ class Instruction(NamedTuple):
     writes: tuple[int, ...] = ()
 
     @property
-    def is_mov(self) -> bool:
-        """Whether it copies its second operand, a register or an immediate."""
-        return self.name == "mov" and self.kind == "alu"
-
-    @property
     def helper(self) -> str | None:
         """The helper that it calls, if there is one of that number: lookup or loop."""
         return HELPERS.get(self.imm) if self.name == "call" else None
-
-
-class Access(NamedTuple):
-    """An access of memory: so many bytes at an offset from a base register."""
-
-    base: int
-    offset: int
-    size: int
-
-
-def access_of(insn: Instruction) -> Access | None:
-    """The access that an instruction makes, if it makes one. A lookup reads a key of 4 bytes at r2."""
-    if insn.base is not None:
-        return Access(insn.base, insn.offset, insn.bits // 8)
-    return Access(2, 0, 4) if insn.helper == "lookup" else None
 
 
 @lru_cache(maxsize=None)
@@ -104,16 +73,18 @@ def parse(text: str) -> Instruction:
     word, _, rest = text.partition(" ")
     try:
         name, bits, extended = MNEMONIC.fullmatch(word).groups("")  # type: ignore[union-attr]
-        kind = MOVSX if extended else KINDS[name]
+        kind = MOVSX if extended else BY_NAME[name]
         if kind == "atomic":
             name, _, rest = rest.partition(" ")
-        fields: dict[str, Any] = {}
-        for role, operand in zip(OPERANDS[kind], rest.split(", ")):
+        fields: dict[str, Any] = {"bits": int(bits or 0)}
+        for role, operand in zip(KINDS[kind][1].split(), rest.split(", ")):
             fields.update(_fields(role, operand))
     except (AttributeError, KeyError):
-        raise RecordsError(NOT_AN_INSN.format(insn=text)) from None
-    insn = Instruction(kind, name, int(bits or 0), **fields)
-    return insn._replace(reads=tuple(sorted(_read_by(insn))), writes=_written_by(insn))
+        raise RecordsError(f"a record's instruction isn't one that is known here: {text}") from None
+    insn = Instruction(kind, name, **fields)
+    if insn.helper == "lookup":
+        insn = insn._replace(**KEY)
+    return insn._replace(reads=_read_by(insn), writes=_written_by(insn))
 
 
 def _fields(role: str, operand: str) -> dict[str, int]:
@@ -127,26 +98,21 @@ def _fields(role: str, operand: str) -> dict[str, int]:
     return {"imm" if role == "second" else role: numbers["number"]}
 
 
-def _read_by(insn: Instruction) -> set[int]:
+def _read_by(insn: Instruction) -> tuple[int, ...]:
     """The registers that an instruction reads."""
     if insn.kind in ("call", "exit"):
-        return {0} if insn.kind == "exit" else set(ARGUMENTS.get(insn.helper or "", ()))
-    found = {insn.src, insn.base}
-    if insn.kind in ("alu", "neg", "endian", "jump") and not insn.is_mov:
-        found.add(insn.dst)
-    if insn.name == "cmpxchg":
-        found.add(0)
-    return {register for register in found if register is not None}
+        return (0,) if insn.kind == "exit" else ARGUMENTS.get(insn.helper or "", ())
+    found = {insn.src, insn.base, insn.dst if insn.kind in READING else None, 0 if insn.name == "cmpxchg" else None}
+    return tuple(sorted(register for register in found if register is not None))
 
 
 def _written_by(insn: Instruction) -> tuple[int, ...]:
     """The registers that an instruction writes."""
     if insn.kind == "call":
         return CALLER_SAVED
-    if insn.kind in WRITING and insn.dst is not None:
-        return (insn.dst,)
+    written = insn.dst if insn.kind in WRITING else None
     if insn.name == "cmpxchg":
-        return (0,)
-    if insn.name in ("xchg", "add_fetch", "or_fetch", "and_fetch", "xor_fetch") and insn.src is not None:
-        return (insn.src,)
-    return ()
+        written = 0
+    elif insn.name == "xchg" or insn.name.endswith("_fetch"):
+        written = insn.src
+    return () if written is None else (written,)

@@ -1,41 +1,32 @@
 """The lines of a unit's text, their comments, and the line of each instruction.
 
-    page = Page.of(text, facts.insns)    # the section of the unit, and the slots at which its instructions start
+    page = Page(text, facts.insns)   # the section of the unit, and the slots at which its instructions start
     page.number(33)                  # 32: the line of the instruction that starts at slot 33, or None
-    page.line(32)                    # that line as it is in the text; "" if there is none
     page.instruction(32)             # "stx64 [r1+0], r2", without its comment, cut at 200 bytes
     page.comment(32)                 # "reservoir.c:18: if (j < K)", cut; "" if no comment belongs to the line
     page.place(33, "stx64 [r1+0], r2")   # "line 32: stx64 [r1+0], r2    ; reservoir.c:18: if (j < K)"
     page.step(33, "stx64 [r1+0], r2")    # "slot  33  stx64 [r1+0], r2          ", in columns
     page.state(33, "r1 is 5")        # "slot 33: r1 is 5"
 
-`Page.none()` is the page of a unit in hex form: it has no lines, and its places are slots. A text that isn't a unit
-has no instructions: `Page.of(text, ())` then gives its lines.
+The page of a unit in hex form is `Page("", ())`: it has no lines, and its places are slots.
 """
 
 from __future__ import annotations
 
 import re
-from collections.abc import Iterable, Sequence
+from collections.abc import Iterable
 
 from .shown import BLANKS, cut, trimmed
 
-LABEL = re.compile(r"[A-Za-z_][A-Za-z0-9_]{0,31}:")
+LABEL = re.compile(r"[A-Za-z_][A-Za-z0-9_]{0,31}:")  # of a line of its own
 COMMENT = ";"
 SLOT_FRONT = "slot "  # begins the comments that the loader of C programs writes
-NUMBERED = "line {number}: {text}"
-COMMENTED = "{place}    ; {comment}"
-UNNUMBERED = "slot {slot}: {insn}"
-STEP = "slot {slot:>3}  {insn:<24}  "
-STATE = "slot {slot}: {words}"
 
 
 def lines_of(text: str) -> list[str]:
     """The lines of a text, which end at newlines alone. One after the last newline counts if it isn't empty."""
     lines = text.split("\n")
-    if not lines[-1]:
-        lines.pop()
-    return lines
+    return lines if lines[-1] else lines[:-1]
 
 
 def before_comment(line: str) -> str:
@@ -48,28 +39,14 @@ def content_of(line: str) -> str:
     return before_comment(line).strip(BLANKS)
 
 
-def is_label(content: str) -> bool:
-    """Whether what a line says is a label: a name of at most 32 characters, and a colon."""
-    return LABEL.fullmatch(content) is not None
-
-
 class Page:
     """The lines of a unit's text, the comment that belongs to each, and the line of each instruction."""
 
-    def __init__(self, lines: Sequence[str], slots: Iterable[int]) -> None:
-        self.lines = lines
-        self.comments = [""] * len(lines)
+    def __init__(self, text: str, slots: Iterable[int]) -> None:
+        """The text, and the slots at which its instructions start, which rise."""
+        self.lines = lines_of(text)
+        self.comments = [""] * len(self.lines)
         self.numbers = dict(zip(slots, self._read()))
-
-    @classmethod
-    def of(cls, text: str, slots: Iterable[int]) -> Page:
-        """The page of a unit's text whose instructions start at these slots, which rise."""
-        return cls(lines_of(text), slots)
-
-    @classmethod
-    def none(cls) -> Page:
-        """The page of no text: a unit in hex form has it."""
-        return cls((), ())
 
     def _read(self) -> list[int]:
         """Hands comments down to the lines below them, and gives the numbers of the lines that are instructions."""
@@ -83,7 +60,7 @@ class Page:
                 above = own
             elif not has_head:
                 above, has_head = "", True
-            elif not is_label(content):
+            elif not LABEL.fullmatch(content):
                 numbers.append(at + 1)
         return numbers
 
@@ -91,13 +68,9 @@ class Page:
         """The number of the line of the instruction that starts at a slot, from 1; None if the page has none."""
         return self.numbers.get(slot)
 
-    def line(self, number: int) -> str:
-        """The line of a number as it is in the text; empty if there is none."""
-        return self.lines[number - 1] if 0 < number <= len(self.lines) else ""
-
     def instruction(self, number: int) -> str:
         """The instruction of a line as it is written, without its comment, cut at 200 bytes."""
-        return cut(trimmed(before_comment(self.line(number))))
+        return cut(trimmed(before_comment(self.lines[number - 1])))
 
     def comment(self, number: int) -> str:
         """The comment that belongs to a line, without the slot at its front, cut at 200 bytes.
@@ -105,9 +78,7 @@ class Page:
         It is the line's own, or else that of the comment line above it, if only instructions and labels are between
         the two. It is empty if there is none.
         """
-        if not 0 < number <= len(self.lines):
-            return ""
-        comment = self.comments[number - 1]
+        comment = self.comments[number - 1] if 0 < number <= len(self.lines) else ""
         if comment.startswith(SLOT_FRONT) and ", " in comment:
             comment = comment.partition(", ")[2]
         return cut(comment)
@@ -117,15 +88,14 @@ class Page:
         the slot and the instruction."""
         number = self.number(slot)
         if number is None:
-            return UNNUMBERED.format(slot=slot, insn=insn)
-        place = NUMBERED.format(number=number, text=self.instruction(number))
+            return f"slot {slot}: {insn}"
         comment = self.comment(number)
-        return COMMENTED.format(place=place, comment=comment) if comment else place
+        return f"line {number}: {self.instruction(number)}{f'    ; {comment}' if comment else ''}"
 
     def step(self, slot: int, insn: str) -> str:
         """A slot and its instruction in columns, with two spaces at least after them."""
-        return STEP.format(slot=slot, insn=insn)
+        return f"slot {slot:>3}  {insn:<24}  "
 
     def state(self, slot: int, words: str) -> str:
         """What is known before the instruction at a slot."""
-        return STATE.format(slot=slot, words=words)
+        return f"slot {slot}: {words}"

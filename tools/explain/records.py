@@ -7,29 +7,27 @@
     facts.edges[1, 2][0]             # the abstract value of r0 on the edge from slot 1 into the join at slot 2
     facts.loops[0].pairs             # the pairs of iterations of the first loop that conflict
 
-A record is JSON on a line. An output without its last record, `end`, is discarded: `RecordsError`. So is one of another
-version; if memory ran out, it is `MemoryRanOut`. Kinds of records and fields that aren't known here are passed over.
+A record is JSON on a line. The classes below have those fields of docs/FORMATS.md
+that are used. An output without its last record,
+`end`, is discarded: `RecordsError`. So is one of another version; if memory ran out, it is `MemoryRanOut`. Kinds of
+records and fields that aren't known here are passed over.
 """
 
 from __future__ import annotations
 
 import json
+from collections import defaultdict
 from collections.abc import Callable
 from typing import Any, NamedTuple
 
 VERSION = 1
 NO_MEMORY = 4  # the status of `bpfspec facts` if memory runs out: then the record `end` is alone
 NO_MEMORY_LINE = "refused memory"  # what it prints in place of records if memory runs out while it reads its words
-
-NO_END = "the list of facts has no end: the program that makes it was interrupted"
-NOT_JSON = "the list of facts isn't JSON, a record a line"
-NOT_VERSION = "the list of facts isn't of version {version}"
-NOT_WHOLE = "a record of the list of facts lacks a field, or has one of another type: {record}"
 MEMORY_RAN_OUT = "memory ran out"
 
 
 class RecordsError(Exception):
-    """The records can't be used; the text is one line that says why."""
+    """The records can't be made or used; the text is one line that says why."""
 
 
 class MemoryRanOut(RecordsError):
@@ -39,7 +37,7 @@ class MemoryRanOut(RecordsError):
 class Value(NamedTuple):
     """The abstract value of a register. A field that its kind doesn't have is None."""
 
-    kind: str  # number, frame, main_frame, map, area, area_or_null, callback; unwritten has no record
+    kind: str  # a key of VALUE_FIELDS; unwritten has no record
     low: int | None = None  # of a number, or of the byte in the values of a map
     high: int | None = None
     shift: int | None = None  # all are multiples of 2^shift; 64 of 0 alone
@@ -50,18 +48,21 @@ class Value(NamedTuple):
 
 UNWRITTEN = Value("unwritten")
 FRAME_POINTER = Value("frame", offset=0)
+VALUE_FIELDS = {
+    "number": ("low", "high", "shift"),
+    **dict.fromkeys(("frame", "main_frame"), ("offset",)),
+    "map": ("map",),
+    **dict.fromkeys(("area", "area_or_null"), ("low", "high", "shift", "map")),
+    "callback": ("start",),
+}
 
 
 class Header(NamedTuple):
     """What was asked for."""
 
-    version: int
     form: str  # text, hex
     argument: int
-    test: str  # flow, lrpd
     states: bool
-    all: bool
-    grid: bool
 
 
 class Refusal(NamedTuple):
@@ -93,19 +94,9 @@ class Insn(NamedTuple):
     aside: int | None  # the target of a jump, or the first slot of a callback
 
 
-class Read(NamedTuple):
-    """A register that the instruction at a slot reads, and where its value comes from."""
-
-    slot: int
-    register: int
-    source: str  # start, written, entered, join
-    at: int | None
-
-
 class Unwritten(NamedTuple):
     """A byte that an access reads and that isn't written on every path."""
 
-    slot: int
     frame: str  # own, main
     offset: int  # from r10, or r10 of main: -512 to -1
 
@@ -113,7 +104,6 @@ class Unwritten(NamedTuple):
 class Pair(NamedTuple):
     """Two iterations of a loop that conflict at an element: one writes it, a later one reads what is written."""
 
-    loop: int
     map: int
     element: int
     writer: int
@@ -137,7 +127,6 @@ class Grid(NamedTuple):
 class Cell(NamedTuple):
     """What an iteration does at an element: the slots of a write, a read and a reduction."""
 
-    loop: int
     iteration: int
     map: int
     element: int
@@ -175,150 +164,81 @@ class Facts:
         self.functions: list[Function] = []
         self.maps: list[int] = []  # how many elements each map has
         self.insns: dict[int, Insn] = {}  # by slots, which rise: up to the first fault, or all
-        self.values: dict[int, dict[int, Value]] = {}  # before a slot, by register
-        self.reads: dict[int, list[Read]] = {}  # of the instruction at a slot, by register
-        self.edges: dict[tuple[int, int], dict[int, Value]] = {}  # from a slot into a join, by register
+        self.values: dict[int, dict[int, Value]] = defaultdict(dict)  # before a slot, by register
+        self.edges: dict[tuple[int, int], dict[int, Value]] = defaultdict(dict)  # from a slot into a join, by register
         self.unwritten: list[Unwritten] = []
         self.loops: list[Loop] = []
         self.grid: Grid | None = None  # with `--grid`, of the first loop that conflicts
         self.status = 0
 
+    def text(self, slot: int | None) -> str:
+        """The text of the instruction that starts at a slot; empty if there is none."""
+        return self.insns[slot].insn if slot in self.insns else ""
+
 
 Record = dict[str, Any]
-Adder = Callable[[Facts, Record], None]
+WORDS = frozenset({"argument", "flags", "low", "high"})  # fields of 64 bits, which are decimal strings
+
+
+def _row(kind: Any, record: Record) -> Any:
+    """A record as a class that has a part of its fields."""
+    return kind(*[int(record[name]) if name in WORDS else record[name] for name in kind._fields])
+
+
+def _value(record: Record) -> dict[int, Value]:
+    """The value of a record, by its register."""
+    kind = record["kind"]
+    fields = {name: int(record[name]) if name in WORDS else record[name] for name in VALUE_FIELDS[kind]}
+    return {record["register"]: Value(kind, **fields)}
+
+
+# How a record is added to the facts, by its kind.
+ADDERS: dict[str, Callable[[Facts, Record], object]] = {
+    "refusal": lambda facts, record: setattr(facts, "refusal", _row(Refusal, record)),
+    "function": lambda facts, record: facts.functions.append(_row(Function, record)),
+    "map": lambda facts, record: facts.maps.append(record["elements"]),
+    "insn": lambda facts, record: facts.insns.update({record["slot"]: _row(Insn, record)}),
+    "value": lambda facts, record: facts.values[record["slot"]].update(_value(record)),
+    "edge": lambda facts, record: facts.edges[record["slot"], record["to"]].update(_value(record)),
+    "unwritten": lambda facts, record: facts.unwritten.append(_row(Unwritten, record)),
+    "loop": lambda facts, record: facts.loops.append(_row(Loop, {**record, "pairs": [], "cells": []})),
+    "pair": lambda facts, record: facts.loops[record["loop"]].pairs.append(_row(Pair, record)),
+    "grid": lambda facts, record: setattr(facts, "grid", _row(Grid, record)),
+    "cell": lambda facts, record: facts.loops[record["loop"]].cells.append(_row(Cell, record)),
+    "end": lambda facts, record: setattr(facts, "status", record["status"]),
+}
 
 
 def read(output: str) -> Facts:
     """The records that `bpfspec facts` printed. If they can't be used, it raises `RecordsError`."""
     records = _parsed(output)
-    _check_ends(records)
     record = records[0]
     try:
-        facts = Facts(_header(record))
+        facts = Facts(_row(Header, record))
         for record in records[1:]:
-            ADDERS.get(record["record"], _pass_over)(facts, record)
+            if record["record"] in ADDERS:
+                ADDERS[record["record"]](facts, record)
     except (KeyError, TypeError, ValueError, AttributeError, IndexError):
-        raise RecordsError(NOT_WHOLE.format(record=json.dumps(record))) from None
+        words = "a record of the list of facts lacks a field, or has one of another type"
+        raise RecordsError(f"{words}: {json.dumps(record)}") from None
     return facts
 
 
 def _parsed(output: str) -> list[Any]:
-    """All lines as one array: that is twice as fast as line by line."""
+    """All lines as one array, which is twice as fast as line by line. The first is the header of this version, and the
+    last is the end."""
     lines = output.rstrip("\n")
     if lines == NO_MEMORY_LINE:
         raise MemoryRanOut(MEMORY_RAN_OUT)
-    if not lines.endswith("}"):
-        raise RecordsError(NO_END)
     try:
-        records: list[Any] = json.loads("[" + lines.replace("}\n{", "},{") + "]")
-    except (ValueError, RecursionError):
-        raise RecordsError(NOT_JSON) from None
-    return records
-
-
-def _check_ends(records: list[Any]) -> None:
-    """The first record is the header of this version, and the last is the end."""
-    first, last = records[0], records[-1]
-    if not (isinstance(first, dict) and isinstance(last, dict)):
-        raise RecordsError(NOT_JSON)
-    if last.get("record") != "end":
-        raise RecordsError(NO_END)
-    if last.get("status") == NO_MEMORY:
+        records: list[Any] = json.loads("[" + lines.replace("}\n{", "},{") + "]") if lines.endswith("}") else [{}]
+        version, end, status = (records[at].get(name) for at, name in ((0, "version"), (-1, "record"), (-1, "status")))
+    except (ValueError, RecursionError, AttributeError):
+        raise RecordsError("the list of facts isn't JSON, a record a line") from None
+    if end != "end":
+        raise RecordsError("the list of facts has no end: the program that makes it was interrupted")
+    if status == NO_MEMORY:
         raise MemoryRanOut(MEMORY_RAN_OUT)
-    if first.get("record") != "header" or first.get("version") != VERSION:
-        raise RecordsError(NOT_VERSION.format(version=VERSION))
-
-
-def _header(record: Record) -> Header:
-    return _row(Header, {**record, "argument": int(record["argument"])})  # type: ignore[no-any-return]
-
-
-def _value(record: Record) -> Value:
-    kind = record["kind"]
-    if kind == "number":
-        return Value(kind, int(record["low"]), int(record["high"]), record["shift"])
-    if kind in ("area", "area_or_null"):
-        return Value(kind, int(record["low"]), int(record["high"]), record["shift"], record["map"])
-    if kind == "map":
-        return Value(kind, map=record["map"])
-    if kind == "callback":
-        return Value(kind, start=record["start"])
-    return Value(kind, offset=record["offset"])
-
-
-def _row(kind: Any, record: Record) -> Any:
-    """A record whose fields are all numbers, words, booleans and null."""
-    return kind(*[record[name] for name in kind._fields])
-
-
-def _add_refusal(facts: Facts, record: Record) -> None:
-    facts.refusal = _row(Refusal, record)
-
-
-def _add_function(facts: Facts, record: Record) -> None:
-    facts.functions.append(_row(Function, record))
-
-
-def _add_map(facts: Facts, record: Record) -> None:
-    facts.maps.append(record["elements"])
-
-
-def _add_insn(facts: Facts, record: Record) -> None:
-    facts.insns[record["slot"]] = _row(Insn, record)
-
-
-def _add_value(facts: Facts, record: Record) -> None:
-    facts.values.setdefault(record["slot"], {})[record["register"]] = _value(record)
-
-
-def _add_read(facts: Facts, record: Record) -> None:
-    facts.reads.setdefault(record["slot"], []).append(_row(Read, record))
-
-
-def _add_edge(facts: Facts, record: Record) -> None:
-    facts.edges.setdefault((record["slot"], record["to"]), {})[record["register"]] = _value(record)
-
-
-def _add_unwritten(facts: Facts, record: Record) -> None:
-    facts.unwritten.append(_row(Unwritten, record))
-
-
-def _add_loop(facts: Facts, record: Record) -> None:
-    facts.loops.append(_row(Loop, {**record, "flags": int(record["flags"]), "pairs": [], "cells": []}))
-
-
-def _add_pair(facts: Facts, record: Record) -> None:
-    facts.loops[record["loop"]].pairs.append(_row(Pair, record))
-
-
-def _add_grid(facts: Facts, record: Record) -> None:
-    facts.grid = _row(Grid, record)
-
-
-def _add_cell(facts: Facts, record: Record) -> None:
-    facts.loops[record["loop"]].cells.append(_row(Cell, record))
-
-
-def _add_end(facts: Facts, record: Record) -> None:
-    facts.status = record["status"]
-
-
-def _pass_over(facts: Facts, record: Record) -> None:
-    """A record of a kind that this version doesn't know."""
-
-
-ADDERS: dict[str, Adder] = {
-    "refusal": _add_refusal,
-    "function": _add_function,
-    "map": _add_map,
-    "insn": _add_insn,
-    "value": _add_value,
-    "read": _add_read,
-    "edge": _add_edge,
-    "unwritten": _add_unwritten,
-    "loop": _add_loop,
-    "pair": _add_pair,
-    "grid": _add_grid,
-    "cell": _add_cell,
-    "end": _add_end,
-}
+    if records[0].get("record") != "header" or version != VERSION:
+        raise RecordsError(f"the list of facts isn't of version {VERSION}")
+    return records

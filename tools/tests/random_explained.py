@@ -41,7 +41,7 @@ sys.path.insert(0, str(TOP / "tools"))
 
 from explain.command_line import Ask, read_words  # noqa: E402
 from explain.explaining import Explanation  # noqa: E402
-from explain.facts_program import words_of  # noqa: E402
+from explain.main import words_of  # noqa: E402
 from explain.records import read  # noqa: E402
 from explain.sarif import sarif_of  # noqa: E402
 

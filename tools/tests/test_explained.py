@@ -13,11 +13,9 @@ from pathlib import Path
 TOP = Path(__file__).resolve().parents[2]
 sys.path.insert(0, str(TOP / "tools"))
 
-from explain.accesses import Access, access_of  # noqa: E402
-from explain.command_line import Ask, HelpAsked, UsageError, read_words  # noqa: E402
-from explain.names import Names  # noqa: E402
-from explain.replay_picture import draw_events  # noqa: E402
-from explain.similar import jaro, most_similar  # noqa: E402
+from explain.command_line import Ask, HelpAsked, UsageError, jaro, most_similar, read_words  # noqa: E402
+from explain.loops import Access, Names, access_of  # noqa: E402
+from explain.pictures import draw_events  # noqa: E402
 
 MEMORY = '{"record":"end","status":4}'
 LISTED = "; map 0: .bss\n;   total from element 0\n;   low from element 1\n;   high from byte 4 of element 1, of 2\n"

@@ -54,7 +54,7 @@ class Records(unittest.TestCase):
             with self.subTest(header), self.assertRaises(RecordsError):
                 read(printed(header, END))
         with self.assertRaises(RecordsError):
-            unit_reasons(read(printed(HEADER, {**INSN, "insn": "sing r3"}, END)), Page.none())
+            unit_reasons(read(printed(HEADER, {**INSN, "insn": "sing r3"}, END)), Page("", ()))
 
     def test_memory(self) -> None:
         with self.assertRaises(MemoryRanOut):
@@ -93,15 +93,14 @@ class Operands(unittest.TestCase):
 
 class Pages(unittest.TestCase):
     def test_lines_of_instructions(self) -> None:
-        page = Page.of("; unit\n\nmaps 1 ; head\nout:\n \t; only a comment\nexit\x1c\nexit\n", [0, 1])
+        page = Page("; unit\n\nmaps 1 ; head\nout:\n \t; only a comment\nexit\x1c\nexit\n", [0, 1])
         self.assertEqual([page.number(slot) for slot in (0, 1, 2)], [6, 7, None])
-        self.assertEqual((page.line(3), page.line(0), page.line(8)), ("maps 1 ; head", "", ""))
         self.assertEqual(page.instruction(6), "exit\x1c")
         self.assertEqual(page.place(3, "ja +0"), "slot 3: ja +0")
 
     def test_comments(self) -> None:
         lines = ["; of the head", "maps 1", "exit", "; slot 7, f.c:3: x, y", "out:", "exit", "exit ; own", "exit"]
-        page = Page.of("\n".join([*lines, "", "exit"]), range(5))
+        page = Page("\n".join([*lines, "", "exit"]), range(5))
         of_lines = [page.comment(number) for number in range(1, 9)]
         self.assertEqual(of_lines, ["of the head"] * 2 + [""] + ["f.c:3: x, y"] * 3 + ["own", "f.c:3: x, y"])
         self.assertEqual([page.comment(number) for number in (0, 10, 11)], [""] * 3)
