@@ -4,8 +4,8 @@ use Rattle.std.proofs.Common.{List, [], ◌∷◌, ◌++◌, length, refl, ap, �
 use Rattle.std.proofs.lemmas.List.{length-append}
 use Rattle.std.proofs.Math.Seq.{get_or-append_seam}
 use Rattle.bpf_text_lex.specs.Names.{is_name}
-use Rattle.bpf_text_mnemonics.proofs.SolidWords.{Ends, Line}
-use Rattle.bpf_text_mnemonics.proofs.LineLaws.{solid_no_colon}
+use Rattle.bpf_text_lex.proofs.SolidWords.{Ends, Line}
+use Rattle.bpf_text_lex.proofs.PrintedLineLaws.{solid_no_colon}
 use Rattle.bpf_text_asm.specs.AssemblerText.{name_of, is_label}
 
 last_byte : (line : List ℕ) → (e : Ends line) → get_or line (length line - 1) 0 ≡ e.last

@@ -14,7 +14,7 @@ use Rattle.bpf_text_lex.specs.Lines.{lines_of, contents_from, contents_of}
 use Rattle.bpf_text_lex.specs.declared.text_error.TextFault.TheVariants as faults
 use Rattle.bpf_text_lex.specs.declared.text_error.TextError.TheVariants as errors
 use Rattle.bpf_text_lex.specs.Refusals.{at_line}
-use Rattle.bpf_text_mnemonics.specs.PrintedLines.{insn_spelling, insn_line, head_spelling}
+use Rattle.bpf_text_lex.specs.PrintedLines.{insn_spelling, insn_line, head_spelling}
 use Rattle.bpf_text_operands.specs.declared.labels.Label.{Label}
 use Rattle.bpf_text_operands.specs.LabelTable.{slot_in}
 use Rattle.bpf_text_operands.specs.Statements.{insn_of_line}
@@ -27,10 +27,10 @@ use Rattle.bpf_insn_types.specs.Limits.{IsUnit}
 use Rattle.bpf_text_asm.specs.AssemblerForm.{assembler_lines, assembler_form}
 use Rattle.bpf_insn_types.proofs.ProgramLaws.{slots_some, slot_count-append}
 use Rattle.bpf_text_asm.proofs.ReadingLaws.{insns_behind-line, insns_behind-end}
-use Rattle.bpf_text_mnemonics.proofs.PrintedInsns.{insn_is_line}
-use Rattle.bpf_text_mnemonics.proofs.LineLaws.{contents-line}
+use Rattle.bpf_text_lex.proofs.PrintedInsns.{insn_is_line}
+use Rattle.bpf_text_lex.proofs.PrintedLineLaws.{contents-line}
 use Rattle.bpf_text_asm.proofs.PrintedLabels.{no_label}
-use Rattle.bpf_text_mnemonics.proofs.PrintedHead.{head_back, head_is_line, head_short}
+use Rattle.bpf_text_lex.proofs.PrintedHead.{head_back, head_is_line, head_short}
 
 -- ---- what has bytes
 

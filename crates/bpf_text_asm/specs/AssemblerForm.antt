@@ -5,7 +5,7 @@ use Rattle.std.specs.Result.{result_map_both}
 use Rattle.bpf_insn_types.specs.Program.{Program}
 use Rattle.bpf_insn.specs.declared.codec_error.CodecError.{CodecError}
 use Rattle.bpf_insn.specs.Spelling.{program_spelling}
-use Rattle.bpf_text_mnemonics.specs.PrintedLines.{insn_line, head_line}
+use Rattle.bpf_text_lex.specs.PrintedLines.{insn_line, head_line}
 
 -- the first line and a line for each instruction
 abbrev pub assembler_lines : Program → List ℕ

@@ -5,12 +5,12 @@ ghost use Rattle.std.specs.List.{flat_map};
 ghost use Rattle.std.specs.String.{string_bytes};
 ghost use Rattle.bpf_insn_types.specs.Outcome.{MatchesUnlessMemory};
 ghost use Rattle.bpf_insn.specs.CodecRefusal.{codec_refusal};
-ghost use Rattle.bpf_text_mnemonics.specs.PrintedLines.{insn_line};
+ghost use Rattle.bpf_text_lex.specs.PrintedLines.{insn_line};
 ghost use Rattle.bpf_text_asm.specs.AssemblerForm.{assembler_form};
 
 use bpf_insn::{CodecError, encode};
 use bpf_insn_types::{Insn, Unit};
-use bpf_text_mnemonics::{print_head, print_insn};
+use bpf_text_lex::{print_head, print_insn};
 use std::alloc::{AllocError, Global};
 
 /// Adds the lines of instructions to a text.

@@ -17,14 +17,14 @@ use Rattle.bpf_text_lex.specs.declared.text_error.TextFault.TheVariants as fault
 use Rattle.bpf_text_lex.specs.declared.text_error.TextError.TheVariants as errors
 use Rattle.bpf_text_lex.specs.Refusals.{at_line}
 use Rattle.bpf_insn_types.specs.Limits.{AreSizes, IsUnit}
-use Rattle.bpf_text_mnemonics.specs.PrintedLines.{head_spelling}
+use Rattle.bpf_text_lex.specs.PrintedLines.{head_spelling}
 use Rattle.bpf_text_hex.specs.HexForm.{slot_lines, hex_lines, hex_form}
 use Rattle.bpf_text_hex.proofs.HexLines.{slot_lines-slot}
 use Rattle.bpf_text_lex.proofs.ResultLaws.{same_ok, mapped}
 use Rattle.bpf_insn_types.specs.Program.{Program, slot_count}
-use Rattle.bpf_text_mnemonics.proofs.SolidWords.{is_solid, solids_in_line, ends_word, Line}
-use Rattle.bpf_text_mnemonics.proofs.LineLaws.{contents-line}
-use Rattle.bpf_text_mnemonics.proofs.PrintedHead.{word_first, head_back, head_is_line, head_short}
+use Rattle.bpf_text_lex.proofs.SolidWords.{is_solid, solids_in_line, ends_word, Line}
+use Rattle.bpf_text_lex.proofs.PrintedLineLaws.{contents-line}
+use Rattle.bpf_text_lex.proofs.PrintedHead.{word_first, head_back, head_is_line, head_short}
 use Rattle.bpf_text_hex.specs.SizesAndBytes.{SizesAndBytes}
 use Rattle.bpf_text_hex.specs.HexText.{as_bytes, bytes_of_lines, bytes_behind, hex_parts_of, hex_text}
 use Rattle.bpf_text_hex.proofs.HexLaws.{bytes_behind-line, bytes_behind-end}

@@ -5,7 +5,7 @@ use Rattle.hex.specs.Hex.{encode_lower}
 use Rattle.bpf_insn_types.specs.Program.{Program}
 use Rattle.bpf_insn.specs.declared.codec_error.CodecError.{CodecError}
 use Rattle.bpf_insn.specs.Spelling.{program_spelling}
-use Rattle.bpf_text_mnemonics.specs.PrintedLines.{head_line}
+use Rattle.bpf_text_lex.specs.PrintedLines.{head_line}
 
 -- slots of 8 bytes, a line of hex digits each
 unfoldable pub slot_lines : List ℕ → List ℕ

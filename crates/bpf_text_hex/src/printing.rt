@@ -8,7 +8,7 @@ ghost use Rattle.bpf_text_hex.specs.HexForm.{slot_lines, hex_form};
 
 use bpf_insn::{CodecError, encode};
 use bpf_insn_types::Unit;
-use bpf_text_mnemonics::print_head;
+use bpf_text_lex::print_head;
 use std::alloc::{AllocError, Global};
 
 /// Adds slots of 8 bytes to a text, one a line, as hex digits.

@@ -1,3 +1,12 @@
+pub mod DistanceLaws
+pub mod WideLaws
+pub mod Bounds
+pub mod SolidWords
+pub mod EachMnemonic
+pub mod MnemonicFronts
+pub mod PrintedInsns
+pub mod PrintedLineLaws
+pub mod PrintedHead
 pub mod LineLaws
 pub mod WordLaws
 pub mod NumberLaws

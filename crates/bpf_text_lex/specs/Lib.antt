@@ -1,3 +1,6 @@
+pub mod MnemonicWords
+pub mod Statement
+pub mod PrintedLines
 pub mod Lines
 pub mod Words
 pub mod Numbers

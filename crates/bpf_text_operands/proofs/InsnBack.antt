@@ -11,17 +11,17 @@ use Rattle.bpf_insn_types.specs.declared.insn.Insn.TheVariants as insn
 use Rattle.bpf_insn.specs.declared.slot.Slot.{Slot}
 use Rattle.bpf_insn.specs.Spelling.{spelling}
 use Rattle.bpf_insn_types.specs.Values.{InsnFits}
-use Rattle.bpf_text_mnemonics.specs.declared.mnemonic.Mnemonic.TheVariants as mnemonic
-use Rattle.bpf_text_mnemonics.specs.declared.value.Value.TheVariants as value
-use Rattle.bpf_text_mnemonics.specs.Statement.{wide}
-use Rattle.bpf_text_mnemonics.specs.PrintedLines.{insn_spelling}
+use Rattle.bpf_text_lex.specs.declared.mnemonic.Mnemonic.TheVariants as mnemonic
+use Rattle.bpf_text_lex.specs.declared.value.Value.TheVariants as value
+use Rattle.bpf_text_lex.specs.Statement.{wide}
+use Rattle.bpf_text_lex.specs.PrintedLines.{insn_spelling}
 use Rattle.bpf_text_operands.specs.declared.kind.Kind.TheVariants as kind
 use Rattle.bpf_text_operands.specs.Statements.{with_operands, insn_of_line}
 use Rattle.bpf_text_operands.proofs.MnemonicLaws.{exit_back}
 use Rattle.bpf_text_lex.proofs.ResultLaws.{same_ok}
 use Rattle.bpf_text_operands.proofs.LineBack.{line_one, line_two, line_three, reg_reads, imm_reads, near_reads}
 use Rattle.bpf_text_operands.proofs.LineBack.{far_reads, address_reads, imm_operand, reg_operand, wide_reads}
-use Rattle.bpf_text_mnemonics.proofs.WideLaws.{wide_low, wide_high, wide_fits}
+use Rattle.bpf_text_lex.proofs.WideLaws.{wide_low, wide_high, wide_fits}
 
 module _ (find : List ℕ → Option ℕ) (slot : ℕ) where
   exit_line : insn_of_line find slot (insn_spelling insn.Exit) ≡ Ok insn.Exit

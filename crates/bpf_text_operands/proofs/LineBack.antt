@@ -10,13 +10,13 @@ use Rattle.std.specs.Int.{w16, w32}
 use Rattle.bpf_text_lex.proofs.SpellingLaws.{in_field, decimal_digits}
 use Rattle.bpf_text_lex.specs.Lines.{trim_start, trim}
 use Rattle.bpf_text_lex.specs.Fields.{as_field}
-use Rattle.bpf_text_mnemonics.specs.declared.mnemonic.Mnemonic.{Mnemonic}
-use Rattle.bpf_text_mnemonics.specs.declared.value.Value.{Value}
-use Rattle.bpf_text_mnemonics.specs.declared.value.Value.TheVariants as value
-use Rattle.bpf_text_mnemonics.specs.declared.value.Operands.{Operands}
-use Rattle.bpf_text_mnemonics.specs.declared.value.Operands.TheVariants as operands
-use Rattle.bpf_text_mnemonics.specs.MnemonicWords.{mnemonic_word}
-use Rattle.bpf_text_mnemonics.specs.PrintedLines.{distance_spelling, value_spelling, operands_spelling}
+use Rattle.bpf_text_lex.specs.declared.mnemonic.Mnemonic.{Mnemonic}
+use Rattle.bpf_text_lex.specs.declared.value.Value.{Value}
+use Rattle.bpf_text_lex.specs.declared.value.Value.TheVariants as value
+use Rattle.bpf_text_lex.specs.declared.value.Operands.{Operands}
+use Rattle.bpf_text_lex.specs.declared.value.Operands.TheVariants as operands
+use Rattle.bpf_text_lex.specs.MnemonicWords.{mnemonic_word}
+use Rattle.bpf_text_lex.specs.PrintedLines.{distance_spelling, value_spelling, operands_spelling}
 use Rattle.bpf_insn_types.specs.declared.insn.Insn.{Insn}
 use Rattle.bpf_text_operands.specs.declared.kind.Kind.{Kind}
 use Rattle.bpf_text_operands.specs.declared.kind.Kind.TheVariants as kind
@@ -31,7 +31,7 @@ use Rattle.bpf_text_operands.proofs.MnemonicLaws.{HasWord, mnemonic_back}
 use Rattle.bpf_text_operands.proofs.PlainLaws.{Plain, plain-append, plain-digits, plain-no_comma, trim_start-text}
 use Rattle.bpf_text_operands.proofs.PlainLaws.{trim_start-plain, trim-plain, cut_back}
 use Rattle.bpf_text_operands.proofs.ValueLaws.{register_decimal, signed_back, distance_back, address_back}
-use Rattle.bpf_text_mnemonics.proofs.Bounds.{InBound, near_bound, far_bound}
+use Rattle.bpf_text_lex.proofs.Bounds.{InBound, near_bound, far_bound}
 
 module _ (find : List ℕ → Option ℕ) (slot : ℕ) where
   -- a word that is read as an operand of a kind, and has no blank and no comma

@@ -15,12 +15,12 @@ use Rattle.bpf_text_lex.specs.Lines.{trim}
 use Rattle.bpf_text_lex.specs.Names.{is_name}
 use Rattle.bpf_text_lex.specs.Numbers.{is_numeral, is_negative, is_number, number_in}
 use Rattle.bpf_text_lex.proofs.SpellingLaws.{numeral_if}
-use Rattle.bpf_text_mnemonics.specs.declared.mnemonic.Mnemonic.{Mnemonic}
-use Rattle.bpf_text_mnemonics.specs.declared.mnemonic.Mnemonic.TheVariants as mnemonic
-use Rattle.bpf_text_mnemonics.specs.declared.value.Value.{Value}
-use Rattle.bpf_text_mnemonics.specs.declared.value.Value.TheVariants as value
-use Rattle.bpf_text_mnemonics.specs.declared.value.Operands.{Operands}
-use Rattle.bpf_text_mnemonics.specs.declared.value.Operands.TheVariants.{Zero, One, Two, Three}
+use Rattle.bpf_text_lex.specs.declared.mnemonic.Mnemonic.{Mnemonic}
+use Rattle.bpf_text_lex.specs.declared.mnemonic.Mnemonic.TheVariants as mnemonic
+use Rattle.bpf_text_lex.specs.declared.value.Value.{Value}
+use Rattle.bpf_text_lex.specs.declared.value.Value.TheVariants as value
+use Rattle.bpf_text_lex.specs.declared.value.Operands.{Operands}
+use Rattle.bpf_text_lex.specs.declared.value.Operands.TheVariants.{Zero, One, Two, Three}
 use Rattle.bpf_text_operands.specs.declared.kind.Kind.{Kind}
 use Rattle.bpf_text_operands.specs.declared.kind.Kind.TheVariants as kind
 use Rattle.bpf_text_operands.specs.declared.kind.Kinds.{Kinds}

@@ -16,14 +16,14 @@ use Rattle.bpf_text_lex.specs.Numbers.{is_numeral, is_negative, number_in}
 use Rattle.bpf_text_lex.proofs.SpellingLaws.{in_field, digit_low, decimal_digits}
 use Rattle.bpf_text_lex.specs.declared.text_error.TextFault.{TextFault}
 use Rattle.bpf_text_lex.specs.declared.text_error.TextFault.TheVariants as faults
-use Rattle.bpf_text_mnemonics.specs.declared.value.Value.{Value}
-use Rattle.bpf_text_mnemonics.specs.declared.value.Value.TheVariants as value
-use Rattle.bpf_text_mnemonics.specs.PrintedLines.{distance_spelling, value_spelling}
+use Rattle.bpf_text_lex.specs.declared.value.Value.{Value}
+use Rattle.bpf_text_lex.specs.declared.value.Value.TheVariants as value
+use Rattle.bpf_text_lex.specs.PrintedLines.{distance_spelling, value_spelling}
 use Rattle.bpf_text_operands.specs.SignedNumbers.{as_register, register_at, ahead, back}
 use Rattle.bpf_text_operands.specs.SignedNumbers.{signed_at, offset_at, distance_at}
 use Rattle.bpf_text_operands.specs.Operands.{pair, as_address, is_sign, is_bracketed, inside}
 use Rattle.bpf_text_operands.specs.Operands.{base_part, offset_part, address_at}
-use Rattle.bpf_text_mnemonics.proofs.Bounds.{InBound}
+use Rattle.bpf_text_lex.proofs.Bounds.{InBound}
 
 -- digits have no sign
 no_minus : (word : List ℕ) → 48 ≤ get_or word 0 0 → is_negative word ≡ false

@@ -10,12 +10,12 @@ use Rattle.bpf_text_lex.specs.declared.text_error.TextFault.{TextFault}
 use Rattle.bpf_text_lex.specs.declared.text_error.TextFault.TheVariants as faults
 use Rattle.bpf_text_lex.specs.FaultNumbers.{text_fault_number}
 use Rattle.bpf_text_lex.specs.Fields.{field_of}
-use Rattle.bpf_text_mnemonics.specs.declared.mnemonic.Mnemonic.{Mnemonic}
-use Rattle.bpf_text_mnemonics.specs.declared.mnemonic.Mnemonic.TheVariants as mnemonic
-use Rattle.bpf_text_mnemonics.specs.declared.value.Value.{Value}
-use Rattle.bpf_text_mnemonics.specs.declared.value.Value.TheVariants as value
-use Rattle.bpf_text_mnemonics.specs.declared.value.Operands.{Operands}
-use Rattle.bpf_text_mnemonics.specs.declared.value.Operands.TheVariants as operands
+use Rattle.bpf_text_lex.specs.declared.mnemonic.Mnemonic.{Mnemonic}
+use Rattle.bpf_text_lex.specs.declared.mnemonic.Mnemonic.TheVariants as mnemonic
+use Rattle.bpf_text_lex.specs.declared.value.Value.{Value}
+use Rattle.bpf_text_lex.specs.declared.value.Value.TheVariants as value
+use Rattle.bpf_text_lex.specs.declared.value.Operands.{Operands}
+use Rattle.bpf_text_lex.specs.declared.value.Operands.TheVariants as operands
 use Rattle.bpf_text_operands.specs.declared.kind.Kind.{Kind}
 use Rattle.bpf_text_operands.specs.declared.kind.Kind.TheVariants as kind
 use Rattle.bpf_text_operands.specs.declared.kind.Kinds.{Kinds}

@@ -13,11 +13,11 @@ use Rattle.bpf_insn_types.specs.declared.insn.Insn.TheVariants as insn
 use Rattle.bpf_text_lex.specs.Lines.{is_blank, trim_start}
 use Rattle.bpf_text_lex.specs.declared.text_error.TextFault.{TextFault}
 use Rattle.bpf_text_lex.specs.declared.text_error.TextFault.TheVariants as faults
-use Rattle.bpf_text_mnemonics.specs.declared.mnemonic.Mnemonic.{Mnemonic}
-use Rattle.bpf_text_mnemonics.specs.declared.mnemonic.Mnemonic.TheVariants as mnemonic
-use Rattle.bpf_text_mnemonics.specs.declared.value.Value.TheVariants as value
-use Rattle.bpf_text_mnemonics.specs.declared.value.Operands.{Operands}
-use Rattle.bpf_text_mnemonics.specs.declared.value.Operands.TheVariants.{Zero, One, Two, Three}
+use Rattle.bpf_text_lex.specs.declared.mnemonic.Mnemonic.{Mnemonic}
+use Rattle.bpf_text_lex.specs.declared.mnemonic.Mnemonic.TheVariants as mnemonic
+use Rattle.bpf_text_lex.specs.declared.value.Value.TheVariants as value
+use Rattle.bpf_text_lex.specs.declared.value.Operands.{Operands}
+use Rattle.bpf_text_lex.specs.declared.value.Operands.TheVariants.{Zero, One, Two, Three}
 use Rattle.bpf_text_operands.specs.Stems.{mnemonic_at, atomic_width, atomics, first_atomic}
 use Rattle.bpf_text_operands.specs.Operands.{kinds_of, operands_at, all_stand}
 

@@ -16,10 +16,10 @@ use Rattle.bpf_insn_types.specs.declared.insn.SimpleOp.TheVariants as simple
 use Rattle.bpf_insn_types.specs.declared.insn.AtomicOp.{AtomicOp}
 use Rattle.bpf_insn_types.specs.declared.insn.AtomicOp.TheVariants as atomic
 use Rattle.bpf_insn_types.specs.declared.insn.ImmKind.TheVariants as kind
-use Rattle.bpf_text_mnemonics.specs.declared.mnemonic.Mnemonic.{Mnemonic}
-use Rattle.bpf_text_mnemonics.specs.declared.mnemonic.Mnemonic.TheVariants as mnemonic
-use Rattle.bpf_text_mnemonics.specs.MnemonicWords.{alu_word, order_word, compare_word, callee_word}
-use Rattle.bpf_text_mnemonics.specs.MnemonicWords.{atomic_word, kind_word}
+use Rattle.bpf_text_lex.specs.declared.mnemonic.Mnemonic.{Mnemonic}
+use Rattle.bpf_text_lex.specs.declared.mnemonic.Mnemonic.TheVariants as mnemonic
+use Rattle.bpf_text_lex.specs.MnemonicWords.{alu_word, order_word, compare_word, callee_word}
+use Rattle.bpf_text_lex.specs.MnemonicWords.{atomic_word, kind_word}
 use Rattle.bpf_text_operands.specs.declared.stem.Stem.{Stem}
 use Rattle.bpf_text_operands.specs.declared.stem.Stem.TheVariants as stem
 

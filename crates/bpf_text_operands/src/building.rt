@@ -7,7 +7,7 @@ use bpf_insn_types::{
     AluOp, AtomicOp, ByteOrder, Callee, Compare, EndianBits, ImmKind, Insn, MovsxBits, Operand,
     Reg, Size, Width,
 };
-use bpf_text_mnemonics::{Mnemonic, Operands, Value};
+use bpf_text_lex::{Mnemonic, Operands, Value};
 
 /// A two-slot load of a number.
 fn two_slot_number(dst: Reg, number: u64) -> Insn

@@ -4,7 +4,7 @@ ghost use Rattle.std.specs.Prelude.{◌≡◌};
 ghost use Rattle.bpf_text_operands.specs.Operands.{kinds_of};
 
 use bpf_insn_types::ImmKind;
-use bpf_text_mnemonics::Mnemonic;
+use bpf_text_lex::Mnemonic;
 
 /// What may stand as an operand.
 #[derive(Clone, Copy)]

@@ -5,7 +5,7 @@ ghost use Rattle.bpf_insn_types.specs.declared.insn.Insn.{Insn};
 ghost use Rattle.bpf_insn.specs.declared.slot.Slot.{Slot};
 ghost use Rattle.bpf_insn.specs.Spelling.{spelling};
 ghost use Rattle.bpf_insn_types.specs.Values.{InsnFits};
-ghost use Rattle.bpf_text_mnemonics.specs.PrintedLines.{insn_spelling};
+ghost use Rattle.bpf_text_lex.specs.PrintedLines.{insn_spelling};
 ghost use Rattle.bpf_insn_types.specs.Slots.{slots_of};
 ghost use Rattle.bpf_text_operands.specs.Statements.{insn_of_line, slots_at};
 

@@ -18,8 +18,7 @@ use crate::numbers::{
 };
 use crate::pairs::pair;
 use bpf_insn_types::Reg;
-use bpf_text_lex::{TextFault, is_name, is_number, read_number, trim};
-use bpf_text_mnemonics::{Operands, Value};
+use bpf_text_lex::{Operands, TextFault, Value, is_name, is_number, read_number, trim};
 
 /// The bound of distances and offsets of 16 bits, which lie from its negative to below it.
 const NEAR: u64 = 1 << 15;

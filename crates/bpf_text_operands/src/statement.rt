@@ -11,8 +11,7 @@ use crate::labels::Labels;
 use crate::operands::{all_stand, operands_at};
 use crate::tables::{atomic_at, atomic_width, mnemonic_at};
 use bpf_insn_types::Insn;
-use bpf_text_lex::{TextFault, blank_at, trim_start};
-use bpf_text_mnemonics::{Mnemonic, Operands};
+use bpf_text_lex::{Mnemonic, Operands, TextFault, blank_at, trim_start};
 
 /// A text up to its first blank, and what comes after its blanks there.
 fn split_word(text: &[u8]) -> (&[u8], &[u8])

@@ -10,7 +10,7 @@ use bpf_insn_types::{
     AluOp, AtomicOp, ByteOrder, Callee, Compare, EndianBits, ImmKind, MovsxBits, SimpleOp, Size,
     Width,
 };
-use bpf_text_mnemonics::{Mnemonic, atomic_word};
+use bpf_text_lex::{Mnemonic, atomic_word};
 
 /// All stems, each with its word.
 #[rattlefmt::skip]

@@ -1,6 +1,6 @@
 -- The lines of records.
 use Rattle.std.specs.Prelude.{ℕ, ℤ, Bool, List, ◌++◌, codes}
-use Rattle.bpf_text_mnemonics.specs.PrintedLines.{insn_spelling}
+use Rattle.bpf_text_lex.specs.PrintedLines.{insn_spelling}
 use Rattle.bpf_verify_origin.specs.declared.source.Source.{Source}
 use Rattle.bpf_verify_origin.specs.declared.source.Source.TheVariants as sources
 use Rattle.bpfspec_records.specs.declared.records.Record.{Record}

@@ -2,12 +2,12 @@
 
 ghost use Rattle.std.specs.Prelude.{◌≡◌, ◌++◌, OnOk, IfOk};
 ghost use Rattle.std.specs.String.{string_bytes};
-ghost use Rattle.bpf_text_mnemonics.specs.PrintedLines.{insn_spelling};
+ghost use Rattle.bpf_text_lex.specs.PrintedLines.{insn_spelling};
 ghost use Rattle.bpfspec_records.specs.Fields.{absent, flag, number, object_end, object_start};
 ghost use Rattle.bpfspec_records.specs.Fields.{optional, signed, wide, word};
 
 use bpf_insn_types::Insn;
-use bpf_text_mnemonics::print_insn;
+use bpf_text_lex::print_insn;
 use std::alloc::{AllocError, Global};
 
 /// Begins a record of this kind.

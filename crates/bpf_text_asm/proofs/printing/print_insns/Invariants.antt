@@ -1,7 +1,7 @@
 use Rattle.std.proofs.Common.{◌≡◌, ◌++◌, take}
 use Rattle.std.specs.List.{flat_map}
 use Rattle.std.specs.String.{string_bytes}
-use Rattle.bpf_text_mnemonics.specs.PrintedLines.{insn_line}
+use Rattle.bpf_text_lex.specs.PrintedLines.{insn_line}
 use Rattle.bpf_text_asm.proofs.printing.print_insns.Given as goal
 
 abbrev pub invariant-loop-insn : goal.invariant-loop-insn

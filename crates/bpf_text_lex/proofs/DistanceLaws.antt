@@ -3,7 +3,7 @@ use Rattle.std.proofs.Common.{◌≡◌, ℕ, suc, ◌^◌, ◌-◌, ◌++◌, l
 use Rattle.std.specs.Prelude.{ℤ, pos, negsuc, nat_lt}
 use Rattle.std.proofs.lemmas.Bool.Decides.{nat_tests}
 use Rattle.std.specs.Fmt.{decimal, format_spec, styled_signed_decimal, padded_integral, sign_text_with, char_count}
-use Rattle.bpf_text_mnemonics.specs.PrintedLines.{distance_spelling}
+use Rattle.bpf_text_lex.specs.PrintedLines.{distance_spelling}
 
 -- a sign and the digits
 with_sign : (negative : Bool) (digits : List ℕ) → padded_integral (format_spec 32 0 1 0 (2 ^ 64 - 1)) negative [] digits

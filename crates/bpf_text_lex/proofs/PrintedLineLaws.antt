@@ -7,7 +7,7 @@ use Rattle.std.proofs.lemmas.Bool.{ne_eqb, leb-true, and_parts, cond-false}
 use Rattle.bpf_text_lex.specs.Lines.{with_front, lines_of, before_comment, is_blank, trim_start}
 use Rattle.bpf_text_lex.specs.Lines.{trim_end, trim, content_of, with_content, contents_from}
 use Rattle.bpf_text_lex.proofs.LineLaws.{trim_end-kept}
-use Rattle.bpf_text_mnemonics.proofs.SolidWords.{in_line, is_solid, Ends, Line}
+use Rattle.bpf_text_lex.proofs.SolidWords.{in_line, is_solid, Ends, Line}
 
 not_true : (a : Bool) → not a ≡ true → a ≡ false
 not_true true e = absurd cc

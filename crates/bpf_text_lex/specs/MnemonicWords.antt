@@ -21,8 +21,8 @@ use Rattle.bpf_insn_types.specs.declared.insn.AtomicOp.{AtomicOp}
 use Rattle.bpf_insn_types.specs.declared.insn.AtomicOp.TheVariants as atomic
 use Rattle.bpf_insn_types.specs.declared.insn.ImmKind.{ImmKind}
 use Rattle.bpf_insn_types.specs.declared.insn.ImmKind.TheVariants as kind
-use Rattle.bpf_text_mnemonics.specs.declared.mnemonic.Mnemonic.{Mnemonic}
-use Rattle.bpf_text_mnemonics.specs.declared.mnemonic.Mnemonic.TheVariants as mnemonic
+use Rattle.bpf_text_lex.specs.declared.mnemonic.Mnemonic.{Mnemonic}
+use Rattle.bpf_text_lex.specs.declared.mnemonic.Mnemonic.TheVariants as mnemonic
 
 -- the bits of an operation's width
 abbrev pub width_word : Width → List ℕ

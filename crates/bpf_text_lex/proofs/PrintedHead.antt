@@ -16,11 +16,11 @@ use Rattle.bpf_text_lex.specs.declared.text_error.TextFault.TheVariants as fault
 use Rattle.bpf_text_lex.specs.Fields.{as_field, numbers_in, fields_of}
 use Rattle.bpf_insn_types.specs.Limits.{sizes_fit}
 use Rattle.bpf_text_lex.specs.Head.{as_sizes, head_of}
-use Rattle.bpf_text_mnemonics.specs.PrintedLines.{size_spelling, head_spelling}
-use Rattle.bpf_text_mnemonics.proofs.SolidWords.{in_line, is_solid, solids_in_line, all_append, Ends}
-use Rattle.bpf_text_mnemonics.proofs.SolidWords.{ends_behind, ends_word as ends_solid, Line}
-use Rattle.bpf_text_mnemonics.proofs.PrintedInsns.{decimal_solid, decimal_short}
-use Rattle.bpf_text_mnemonics.proofs.LineLaws.{solid_no_blank}
+use Rattle.bpf_text_lex.specs.PrintedLines.{size_spelling, head_spelling}
+use Rattle.bpf_text_lex.proofs.SolidWords.{in_line, is_solid, solids_in_line, all_append, Ends}
+use Rattle.bpf_text_lex.proofs.SolidWords.{ends_behind, ends_word as ends_solid, Line}
+use Rattle.bpf_text_lex.proofs.PrintedInsns.{decimal_solid, decimal_short}
+use Rattle.bpf_text_lex.proofs.PrintedLineLaws.{solid_no_blank}
 
 -- a word before the end of a line or a blank
 word_before : (b : ℕ) (bs rest : List ℕ) → is_solid b ≡ true → list_all is_solid bs ≡ true → ends_word rest ≡ true

@@ -4,17 +4,17 @@ ghost use Rattle.std.specs.Prelude.{◌≡◌, ◌++◌, codes, OnOk, IfOk};
 ghost use Rattle.std.specs.Int.{w16};
 ghost use Rattle.std.specs.List.{flat_map};
 ghost use Rattle.std.specs.String.{string_bytes};
-ghost use Rattle.bpf_text_mnemonics.specs.MnemonicWords.{mnemonic_word};
-ghost use Rattle.bpf_text_mnemonics.specs.PrintedLines.{distance_spelling, value_spelling, operands_spelling};
-ghost use Rattle.bpf_text_mnemonics.specs.PrintedLines.{insn_line, head_line, size_spelling};
+ghost use Rattle.bpf_text_lex.specs.MnemonicWords.{mnemonic_word};
+ghost use Rattle.bpf_text_lex.specs.PrintedLines.{distance_spelling, value_spelling, operands_spelling};
+ghost use Rattle.bpf_text_lex.specs.PrintedLines.{insn_line, head_line, size_spelling};
 
 use crate::mnemonic::Mnemonic;
-use crate::statement::{mnemonic_of, operands_of};
-use crate::value::{Operands, Value};
-use crate::words::{
+use crate::mnemonic_words::{
     alu_word, atomic_word, callee_word, compare_word, endian_word, kind_word, movsx_word,
     order_word, size_word, width_word,
 };
+use crate::statement::{mnemonic_of, operands_of};
+use crate::value::{Operands, Value};
 use bpf_insn_types::Insn;
 use std::alloc::{AllocError, Global};
 

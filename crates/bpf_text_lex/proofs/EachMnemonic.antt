@@ -3,8 +3,8 @@ use Rattle.bpf_insn_types.proofs.Cases.{EachWidth, each_width, EachSize, each_si
 use Rattle.bpf_insn_types.proofs.Cases.{EachEndianBits, each_endian_bits, EachMovsxBits, each_movsx_bits}
 use Rattle.bpf_insn_types.proofs.Cases.{EachOp, each_op, EachCompare, each_compare, EachCallee, each_callee}
 use Rattle.bpf_insn_types.proofs.Cases.{EachKind, each_kind, EachAtomic, each_atomic}
-use Rattle.bpf_text_mnemonics.specs.declared.mnemonic.Mnemonic.{Mnemonic}
-use Rattle.bpf_text_mnemonics.specs.declared.mnemonic.Mnemonic.TheVariants as mnemonic
+use Rattle.bpf_text_lex.specs.declared.mnemonic.Mnemonic.{Mnemonic}
+use Rattle.bpf_text_lex.specs.declared.mnemonic.Mnemonic.TheVariants as mnemonic
 
 pub record EachMnemonic (P : Mnemonic → Type 0) : Type 0 where
   pub alu : EachWidth (λ w. EachOp (λ o. P (mnemonic.Alu w o)))

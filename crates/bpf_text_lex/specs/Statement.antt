@@ -7,12 +7,12 @@ use Rattle.bpf_insn_types.specs.declared.insn.ImmKind.{ImmKind}
 use Rattle.bpf_insn_types.specs.declared.insn.ImmKind.TheVariants as kind
 use Rattle.bpf_insn_types.specs.declared.insn.Insn.{Insn}
 use Rattle.bpf_insn_types.specs.declared.insn.Insn.TheVariants as insn
-use Rattle.bpf_text_mnemonics.specs.declared.mnemonic.Mnemonic.{Mnemonic}
-use Rattle.bpf_text_mnemonics.specs.declared.mnemonic.Mnemonic.TheVariants as mnemonic
-use Rattle.bpf_text_mnemonics.specs.declared.value.Value.{Value}
-use Rattle.bpf_text_mnemonics.specs.declared.value.Value.TheVariants as value
-use Rattle.bpf_text_mnemonics.specs.declared.value.Operands.{Operands}
-use Rattle.bpf_text_mnemonics.specs.declared.value.Operands.TheVariants.{Zero, One, Two, Three}
+use Rattle.bpf_text_lex.specs.declared.mnemonic.Mnemonic.{Mnemonic}
+use Rattle.bpf_text_lex.specs.declared.mnemonic.Mnemonic.TheVariants as mnemonic
+use Rattle.bpf_text_lex.specs.declared.value.Value.{Value}
+use Rattle.bpf_text_lex.specs.declared.value.Value.TheVariants as value
+use Rattle.bpf_text_lex.specs.declared.value.Operands.{Operands}
+use Rattle.bpf_text_lex.specs.declared.value.Operands.TheVariants.{Zero, One, Two, Three}
 
 -- the mnemonic of an instruction
 abbrev pub mnemonic_of : Insn → Mnemonic

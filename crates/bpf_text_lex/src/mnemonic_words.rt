@@ -1,8 +1,8 @@
 //! The words of assembler text.
 
 ghost use Rattle.std.specs.Prelude.{◌≡◌};
-ghost use Rattle.bpf_text_mnemonics.specs.MnemonicWords.{width_word, size_word, alu_word, order_word, endian_word};
-ghost use Rattle.bpf_text_mnemonics.specs.MnemonicWords.{movsx_word, compare_word, callee_word, atomic_word, kind_word};
+ghost use Rattle.bpf_text_lex.specs.MnemonicWords.{width_word, size_word, alu_word, order_word, endian_word};
+ghost use Rattle.bpf_text_lex.specs.MnemonicWords.{movsx_word, compare_word, callee_word, atomic_word, kind_word};
 
 use bpf_insn_types::{
     AluOp, AtomicOp, ByteOrder, Callee, Compare, EndianBits, ImmKind, MovsxBits, SimpleOp, Size,

@@ -1,3 +1,0 @@
-pub mod MnemonicWords
-pub mod Statement
-pub mod PrintedLines
