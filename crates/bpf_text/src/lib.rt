@@ -1,5 +1,7 @@
-//! The texts that programs and maps are read from and printed to. A text that is no text of its form
-//! is refused with the least line over all its faults, and there the least of them.
+//! The texts that programs and maps are read from and printed to: units as assembler text and in hex
+//! form (a first line of sizes, then lines of hex digits), maps, and lists of events. A text that is
+//! no text of its form is refused with the least line over all its faults, and there the least of
+//! them.
 //!
 //! ```text
 //! let unit = parse_unit(alloc, "maps 1\nmov64 r0, 7\nexit\n")?;   // its sizes and instructions
@@ -10,14 +12,23 @@
 //! ```
 #![tactic(auto)]
 
+mod assembler_printing;
+mod assembler_reading;
 mod events;
+mod hex_printing;
+mod hex_reading;
+mod label;
+pub mod laws;
 mod maps;
 mod maps_print;
+mod program;
 
-pub use bpf_text_asm::{parse_unit, print_unit};
-pub use bpf_text_hex::{HexUnit, read_hex, write_hex};
+pub use assembler_printing::print_unit;
+pub use assembler_reading::parse_unit;
 pub use bpf_text_lex::{TextError, TextFault};
 pub use events::parse_events;
+pub use hex_printing::write_hex;
+pub use hex_reading::{HexUnit, read_hex};
 pub use loop_core_event::{Event, EventKind};
 pub use maps::parse_maps;
 pub use maps_print::print_maps;

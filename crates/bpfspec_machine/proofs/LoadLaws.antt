@@ -10,7 +10,7 @@ use Rattle.bpf_text_lex.specs.declared.text_error.TextFault.TheVariants as text_
 use Rattle.bpf_text_lex.specs.declared.text_error.TextError.{TextError}
 use Rattle.bpf_text_lex.specs.declared.text_error.TextError.TheVariants as text
 use Rattle.bpf_text_lex.specs.Refusals.{text_refusal}
-use Rattle.bpf_text_hex.specs.SizesAndBytes.{SizesAndBytes}
+use Rattle.bpf_text.specs.HexText.{SizesAndBytes}
 use Rattle.bpfspec_machine.specs.declared.load_error.LoadError.{LoadError}
 use Rattle.bpfspec_machine.specs.declared.load_error.LoadError.TheVariants.{Text, Codec, Rule, Memory}
 use Rattle.bpfspec_machine.specs.Loading.{load_refusal, text_load_error, as_loaded, readable, program_of_text}

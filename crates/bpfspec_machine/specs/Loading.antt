@@ -9,9 +9,8 @@ use Rattle.bpf_insn.specs.Reading.{reading}
 use Rattle.bpf_text_lex.specs.declared.text_error.TextFault.TheVariants as text_faults
 use Rattle.bpf_text_lex.specs.declared.text_error.TextError.{TextError}
 use Rattle.bpf_text_lex.specs.declared.text_error.TextError.TheVariants as text
-use Rattle.bpf_text_hex.specs.SizesAndBytes.{SizesAndBytes}
-use Rattle.bpf_text_hex.specs.HexText.{hex_text}
-use Rattle.bpf_text_asm.specs.AssemblerText.{assembler_text}
+use Rattle.bpf_text.specs.HexText.{SizesAndBytes, hex_text}
+use Rattle.bpf_text.specs.AssemblerText.{assembler_text}
 use Rattle.bpf_verify_model.specs.Accepted.{BrokenRule, first_fault}
 use Rattle.bpfspec_machine.specs.declared.load_error.LoadError.{LoadError}
 use Rattle.bpfspec_machine.specs.declared.load_error.LoadError.TheVariants.{Text, Codec, Rule, Memory}

@@ -8,16 +8,15 @@ ghost use Rattle.bpfspec_machine.specs.Loading.{load_refusal, text_load_error, c
 ghost use Rattle.bpfspec_machine.specs.Loading.{readable, text_program, parts_of_text, insns_program, hex_program};
 ghost use Rattle.bpfspec_machine.specs.Loading.{loaded};
 ghost use Rattle.bpfspec_machine.specs.Machines.{new_machine};
-ghost use Rattle.bpf_text_asm.specs.AssemblerText.{assembler_text};
-ghost use Rattle.bpf_text_hex.specs.HexText.{hex_text};
+ghost use Rattle.bpf_text.specs.AssemblerText.{assembler_text};
+ghost use Rattle.bpf_text.specs.HexText.{hex_text};
 
 use crate::load_error::LoadError;
 use crate::machine::Machine;
 use array_maps::{Maps, MapsError};
 use bpf_insn::{CodecError, decode};
 use bpf_insn_types::Unit;
-use bpf_text_asm::parse_unit;
-use bpf_text_hex::{HexUnit, read_hex};
+use bpf_text::{HexUnit, parse_unit, read_hex};
 use bpf_text_lex::{TextError, TextFault};
 use bpf_verify::{Verified, VerifyError, verify};
 use loop_core_model::{LoopReport, Verdict};

@@ -11,11 +11,9 @@ use Rattle.bpf_insn.specs.Reading.{reading}
 use Rattle.bpf_text_lex.specs.declared.text_error.TextFault.TheVariants as text_faults
 use Rattle.bpf_text_lex.specs.declared.text_error.TextError.{TextError}
 use Rattle.bpf_text_lex.specs.declared.text_error.TextError.TheVariants as text
-use Rattle.bpf_text_hex.specs.SizesAndBytes.{SizesAndBytes}
-use Rattle.bpf_text_hex.specs.HexText.{hex_text}
-use Rattle.bpf_text_hex.specs.HexForm.{hex_form}
-use Rattle.bpf_text_asm.specs.AssemblerForm.{assembler_form}
-use Rattle.bpf_text_asm.specs.AssemblerText.{assembler_text}
+use Rattle.bpf_text.specs.HexText.{SizesAndBytes, hex_text}
+use Rattle.bpf_text.specs.PrintedUnits.{hex_form, assembler_form}
+use Rattle.bpf_text.specs.AssemblerText.{assembler_text}
 use Rattle.bpf_text.specs.MapsText.{maps_text}
 use Rattle.bpf_text.specs.EventsText.{events_text}
 use Rattle.bpf_insn_types.specs.Program.{Program, callback_starts}

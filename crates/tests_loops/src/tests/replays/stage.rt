@@ -8,7 +8,7 @@ use crate::rows::first_call;
 use crate::tests::replays::loops::Row;
 use array_maps::Maps;
 use bpf_step::LoopCall;
-use bpf_text_asm::parse_unit;
+use bpf_text::parse_unit;
 use bpf_verify::{Verified, verify};
 use loop_core_event::Event;
 use loop_core_model::Test;

@@ -1,3 +1,0 @@
-pub mod ReadingLaws
-pub mod PrintedLabels
-pub mod UnitBack

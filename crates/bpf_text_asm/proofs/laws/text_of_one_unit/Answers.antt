@@ -1,5 +1,0 @@
-use Rattle.bpf_text_asm.proofs.UnitBack.{one_unit}
-use Rattle.bpf_text_asm.proofs.laws.text_of_one_unit.Goals as goal
-
-pub returns : goal.returns
-returns c = one_unit

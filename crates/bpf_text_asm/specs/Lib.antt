@@ -1,2 +1,0 @@
-pub mod AssemblerText
-pub mod AssemblerForm

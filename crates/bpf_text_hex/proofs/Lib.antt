@@ -1,4 +1,0 @@
-pub mod HexLines
-pub mod HexLaws
-pub mod SpelledBytes
-pub mod HexBack

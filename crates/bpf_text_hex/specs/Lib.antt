@@ -1,3 +1,0 @@
-pub mod SizesAndBytes
-pub mod HexText
-pub mod HexForm
