@@ -5,7 +5,7 @@ use Rattle.std.specs.Prelude.{slice_range}
 use Rattle.std.proofs.lemmas.List.Sums.{sum_by_more}
 use Rattle.std.proofs.lemmas.List.{drop-drop}
 use Rattle.array_maps.specs.MapList.{base_of}
-use Rattle.bpfspec_output.specs.NumberedLines.{numbered_lines}
+use Rattle.bpfspec_output.specs.ReportText.{numbered_lines}
 use Rattle.bpfspec_output.specs.ReportText.{values_of}
 
 front_suc : {X : Type 0} (xs : List X) (i : ℕ) (x : X) → i < length xs → x ≡ get_or xs i x → drop i xs ≡ x

@@ -1,4 +1,3 @@
-pub mod NumberedLines
-pub mod AcceptedText
+pub mod Streams
 pub mod Refusals
 pub mod ReportText

@@ -1,12 +1,27 @@
--- What is printed of a program that ran, and of a loop that was replayed.
-use Rattle.std.specs.Prelude.{ℕ, List, [], ◌∷◌, ◌++◌, take, drop, codes}
+-- What is printed of an accepted program, of a program that ran, and of a loop that was replayed.
+use Rattle.std.specs.Prelude.{ℕ, ◌+◌, List, [], ◌∷◌, ◌++◌, take, drop, codes}
 use Rattle.std.specs.Fmt.{decimal, signed_decimal}
 use Rattle.bpf_text.specs.MapsText.{maps_spelling}
 use Rattle.loop_core_model.specs.declared.verdict.Verdict.{Verdict}
 use Rattle.loop_core_model.specs.declared.verdict.Verdict.TheVariants.{Parallel, Conflict, Refused, InOrder}
 use Rattle.loop_core_model.specs.declared.verdict.LoopReport.{LoopReport}
 use Rattle.loop_core_model.specs.Report.{Reported}
-use Rattle.bpfspec_output.specs.NumberedLines.{numbered_lines}
+use Rattle.bpfspec_output.specs.declared.accepted.Function.{Function}
+
+-- a line for each item, the first of which has this number
+abbrev pub numbered_lines : {X : Type 0} → (ℕ → X → List ℕ) → ℕ → List X → List ℕ
+numbered_lines line number [] = []
+numbered_lines line number (item ∷ others) = line number item ++ numbered_lines line (number + 1) others
+
+-- the line of a function, which has this number: where it starts, and the most instructions that it takes
+abbrev pub function_line : ℕ → Function → List ℕ
+function_line number function =
+    codes "function " ++ decimal number ++ codes " at " ++ decimal function.start ++ codes " count "
+    ++ decimal function.count ++ codes "\n"
+
+-- that it is accepted, and the lines of its functions, main first
+abbrev pub accepted_text : List Function → List ℕ
+accepted_text functions = codes "accepted\n" ++ numbered_lines function_line 0 functions
 
 -- the words of each map
 abbrev pub values_of : List ℕ → List ℕ → List (List ℕ)

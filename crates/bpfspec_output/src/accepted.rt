@@ -2,8 +2,8 @@
 
 ghost use Rattle.std.specs.Prelude.{◌≡◌, ◌++◌, IfOk, OnOk};
 ghost use Rattle.std.specs.String.{string_bytes};
-ghost use Rattle.bpfspec_output.specs.AcceptedText.{function_line, accepted_text};
-ghost use Rattle.bpfspec_output.specs.NumberedLines.{numbered_lines};
+ghost use Rattle.bpfspec_output.specs.ReportText.{function_line, accepted_text};
+ghost use Rattle.bpfspec_output.specs.ReportText.{numbered_lines};
 
 use std::alloc::{AllocError, Global};
 

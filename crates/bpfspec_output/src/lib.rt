@@ -1,4 +1,5 @@
-//! What is printed: of an accepted program, of a program that ran, of a loop that was replayed, and of a
+//! What the program reads and writes: its streams, of which all bytes are read or written; and what is
+//! printed of an accepted program, of a program that ran, of a loop that was replayed, and of a
 //! refusal.
 //!
 //!     let functions = [Function { start: 0, count: 2 }];
@@ -8,9 +9,18 @@
 #![tactic(auto)]
 
 mod accepted;
+mod counting;
+mod reading;
 mod refusal;
 mod report;
+mod retrying;
+mod streams;
+mod writing;
 
 pub use accepted::{Function, print_accepted};
+pub use counting::{Counted, read_outcome, write_outcome};
+pub use reading::{ReadAllError, read_all};
 pub use refusal::{MEMORY_LINE, Refusal, Section, print_refusal};
 pub use report::{print_replay, print_report};
+pub use streams::{DeviceFault, Sink, Source};
+pub use writing::write_all;

@@ -7,7 +7,7 @@ ghost use Rattle.loop_core_model.specs.declared.verdict.Verdict.TheVariants.{Con
 ghost use Rattle.bpf_text.specs.MapsText.{lists, maps_spelling};
 ghost use Rattle.bpfspec_output.specs.ReportText.{values_of, verdict_text, loop_line, return_line};
 ghost use Rattle.bpfspec_output.specs.ReportText.{report_text, replay_text};
-ghost use Rattle.bpfspec_output.specs.NumberedLines.{numbered_lines};
+ghost use Rattle.bpfspec_output.specs.ReportText.{numbered_lines};
 
 use array_maps::Maps;
 use bpf_text::print_maps;

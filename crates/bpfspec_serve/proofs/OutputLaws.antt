@@ -25,7 +25,7 @@ use Rattle.std.proofs.lemmas.Str.{IsUtf8-from_is_utf8, is_utf8-from_IsUtf8}
 use Rattle.bpf_text_lex.specs.declared.text_error.TextFault.TheVariants as text_faults
 use Rattle.bpfspec_output.specs.declared.refusal.Section.TheVariants as sections
 use Rattle.bpfspec_output.specs.declared.refusal.Refusal.TheVariants as refusals
-use Rattle.bpfspec_streams.specs.Streams.{ReadsToEnd}
+use Rattle.bpfspec_output.specs.Streams.{ReadsToEnd}
 use Rattle.bpfspec_serve.specs.HowServed.{AnswersReader, HowWritten, HowServed, Answered, Out_of_memory, Read_failed}
 use Rattle.bpfspec_serve.specs.declared.answer_error.AnswerError.{AnswerError}
 use Rattle.bpfspec_serve.specs.declared.answer_error.AnswerError.TheVariants as errors

@@ -6,7 +6,7 @@ use Rattle.bpfspec_serve.specs.declared.serving.Served.{Served}
 use Rattle.bpfspec_serve.specs.declared.serving.Served.TheVariants as served
 use Rattle.bpfspec_serve.specs.Answering.{Answers}
 use Rattle.bpfspec_serve.specs.Output.{Answer}
-use Rattle.bpfspec_streams.specs.Streams.{AppendsBeginning, ReadsToEnd}
+use Rattle.bpfspec_output.specs.Streams.{AppendsBeginning, ReadsToEnd}
 
 -- the answer to what a reader had left, where that is known, and else to some input; of which no more than one byte
 -- past the limit is read

@@ -37,7 +37,7 @@ use Rattle.bpfspec_output.specs.declared.refusal.Section.{Section}
 use Rattle.bpfspec_output.specs.declared.refusal.Section.TheVariants as sections
 use Rattle.bpfspec_output.specs.declared.refusal.Refusal.{Refusal}
 use Rattle.bpfspec_output.specs.declared.refusal.Refusal.TheVariants as refusals
-use Rattle.bpfspec_output.specs.AcceptedText.{accepted_text}
+use Rattle.bpfspec_output.specs.ReportText.{accepted_text}
 use Rattle.bpfspec_output.specs.Refusals.{refusal_line, memory_line}
 use Rattle.bpfspec_output.specs.ReportText.{report_text, replay_text}
 use Rattle.bpfspec_serve.specs.declared.answer_error.AnswerError.{AnswerError}

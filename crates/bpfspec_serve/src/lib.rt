@@ -22,7 +22,7 @@ mod stats_text;
 pub use bpfspec_command_line::{
     Ask, Job, LineFault, Mode, Plan, Request, Test, UnitForm, read_command_line, read_words,
 };
-pub use bpfspec_streams::{
+pub use bpfspec_output::{
     Counted, DeviceFault, ReadAllError, Sink, Source, read_all, read_outcome, write_all,
     write_outcome,
 };

@@ -6,16 +6,17 @@ ghost use Rattle.bpfspec_command_line.specs.declared.job.Job.TheVariants.{Serve,
 ghost use Rattle.bpfspec_serve.specs.Answering.{Answers, answer_of, memory_text, Gives};
 ghost use Rattle.bpfspec_serve.specs.HowServed.{AnswersReader, HowWritten, HowServed};
 ghost use Rattle.bpfspec_serve.specs.Output.{refused_as, AnswerTells};
-ghost use Rattle.bpfspec_streams.specs.Streams.{ConsumesAtMost};
+ghost use Rattle.bpfspec_output.specs.Streams.{ConsumesAtMost};
 
 use crate::answer_error::AnswerError;
 use crate::answering::{outcome, run_outcome};
 use crate::facts::facts_of;
 use crate::reading::MAX_READ;
 use bpfspec_command_line::{Ask, Job, Mode};
-use bpfspec_output::{MEMORY_LINE, Refusal, print_refusal};
+use bpfspec_output::{
+    MEMORY_LINE, ReadAllError, Refusal, Sink, Source, print_refusal, read_all, write_all,
+};
 use bpfspec_records::print_records;
-use bpfspec_streams::{ReadAllError, Sink, Source, read_all, write_all};
 use loop_core_split::Gate;
 use spec_run::Observer;
 use std::alloc::{AllocError, Global};

@@ -1,10 +1,10 @@
 //! Counted readers and writers whose calls do what a script says.
 
 ghost use Rattle.std.specs.Prelude.{◌≡◌, ◌<◌};
-ghost use Rattle.bpfspec_streams.specs.Counting.{failures_of};
+ghost use Rattle.bpfspec_output.specs.Streams.{failures_of};
 
 use crate::tests::asserts::assert_same;
-use bpfspec_streams::{Counted, DeviceFault, Sink, Source};
+use bpfspec_output::{Counted, DeviceFault, Sink, Source};
 use std::alloc::Global;
 use std::io;
 use std::io::{ErrorKind, Read, Write};

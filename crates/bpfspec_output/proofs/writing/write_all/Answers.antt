@@ -1,6 +1,6 @@
 use Rattle.std.proofs.Common.{rules}
-use Rattle.bpfspec_streams.proofs.StreamLaws.{appends_next}
-use Rattle.bpfspec_streams.proofs.writing.write_all.Goals as goal
+use Rattle.bpfspec_output.proofs.StreamLaws.{appends_next}
+use Rattle.bpfspec_output.proofs.writing.write_all.Goals as goal
 
 pub pieces-preserved : goal.pieces-preserved
 pieces-preserved g c = (

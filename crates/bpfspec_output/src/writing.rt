@@ -2,7 +2,7 @@
 
 ghost use Rattle.std.specs.Prelude.{◌≡◌, ◌+◌, ◌-◌, ◌^◌, ◌<◌, OnOk, OnErr};
 ghost use Rattle.std.specs.Io.KnownBytes.{Appends};
-ghost use Rattle.bpfspec_streams.specs.Streams.{AppendsBeginning};
+ghost use Rattle.bpfspec_output.specs.Streams.{AppendsBeginning};
 
 use crate::streams::{DeviceFault, Sink};
 

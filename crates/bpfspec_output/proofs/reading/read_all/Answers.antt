@@ -1,6 +1,6 @@
 use Rattle.std.proofs.Common.{rules, vec_len}
-use Rattle.bpfspec_streams.proofs.StreamLaws.{consumes_at_most}
-use Rattle.bpfspec_streams.proofs.reading.read_all.Goals as goal
+use Rattle.bpfspec_output.proofs.StreamLaws.{consumes_at_most}
+use Rattle.bpfspec_output.proofs.reading.read_all.Goals as goal
 
 pub returns-in-Err-clause-consumed : goal.returns-in-Err-clause-consumed
 returns-in-Err-clause-consumed g c =

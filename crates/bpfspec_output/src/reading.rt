@@ -3,7 +3,7 @@
 ghost use Rattle.std.specs.Prelude.{◌≡◌, ◌+◌, ◌-◌, ◌^◌, ◌<◌, ◌≤◌, take, Ok, Err};
 ghost use Rattle.std.specs.Prelude.{IfOk, IfErr, IfSome, OnOk, OnErr, vec_len};
 ghost use Rattle.std.specs.Io.KnownBytes.{Keeps, IsAtEnd, prepend_known};
-ghost use Rattle.bpfspec_streams.specs.Streams.{ConsumesAtMost, ReadsToEnd};
+ghost use Rattle.bpfspec_output.specs.Streams.{ConsumesAtMost, ReadsToEnd};
 
 use crate::streams::{DeviceFault, Source};
 use std::alloc::Global;

@@ -1,6 +1,6 @@
 use Rattle.std.proofs.Common.{◌≡◌, ◌-◌, ◌≤◌, length, take}
 use Rattle.std.specs.Io.KnownBytes.{Appends}
-use Rattle.bpfspec_streams.proofs.writing.write_all.Given as goal
+use Rattle.bpfspec_output.proofs.writing.write_all.Given as goal
 
 -- the bytes before `at` are written, and nothing failed
 abbrev pub invariant-pieces : goal.invariant-pieces

@@ -5,7 +5,7 @@ use Rattle.std.proofs.lemmas.List.{take_all}
 use Rattle.std.proofs.Math.Seq.{take-add}
 use Rattle.std.proofs.KnownBytes.{Appends-trans}
 use Rattle.std.specs.Io.KnownBytes.{Appends, Consumes, Keeps, prepend_known}
-use Rattle.bpfspec_streams.specs.Streams.{ConsumesAtMost}
+use Rattle.bpfspec_output.specs.Streams.{ConsumesAtMost}
 
 -- the rest from i on, cut to its own length
 rest_whole : (bs : List ℕ) (i : ℕ) → take (length bs - i) (drop i bs) ≡ drop i bs

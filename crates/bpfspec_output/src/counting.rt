@@ -1,7 +1,7 @@
 //! Readers and writers of std that count their failures.
 
 ghost use Rattle.std.specs.Prelude.{◌≡◌, ◌+◌, ◌-◌, ◌^◌, ◌<◌, length, Ok, IsErr, IfOk, OnOk, OnErr};
-ghost use Rattle.bpfspec_streams.specs.Counting.{inner_of, failures_of};
+ghost use Rattle.bpfspec_output.specs.Streams.{inner_of, failures_of};
 
 use crate::retrying::{read_again, write_again};
 use crate::streams::{DeviceFault, Sink, Source};

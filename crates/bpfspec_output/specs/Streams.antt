@@ -1,6 +1,7 @@
--- What reads and writes of whole streams do to the bytes that are known of them.
+-- What reads and writes of whole streams do to the bytes that are known of them, and what is counted.
 use Rattle.std.specs.Prelude.{◌≢◌, ℕ, ◌≤◌, List, Option, length, take}
 use Rattle.std.specs.Io.KnownBytes.{Appends, Consumes, IsAtEnd}
+use Rattle.bpfspec_output.specs.declared.counting.Counted.{Counted}
 
 -- known bytes grow by a beginning of bs
 abbrev pub AppendsBeginning : Option (List ℕ) → Option (List ℕ) → List ℕ → Type 0
@@ -15,3 +16,11 @@ pub record ReadsToEnd (old new : Option (List ℕ)) (limit : ℕ) (bytes : List 
   pub consumed : Consumes old new bytes
   pub within : length bytes ≤ limit
   pub ended : length bytes ≢ limit → IsAtEnd new
+
+-- the reader or writer of a `Counted`
+abbrev pub inner_of : {T : Type 0} → Counted T → T
+inner_of c = c.inner
+
+-- how many of its calls failed
+abbrev pub failures_of : {T : Type 0} → Counted T → ℕ
+failures_of c = c.failures

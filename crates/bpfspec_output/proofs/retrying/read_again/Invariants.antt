@@ -1,6 +1,6 @@
 use Rattle.std.proofs.Common.{◌≡◌, length}
 use Rattle.std.specs.Io.KnownBytes.{Keeps}
-use Rattle.bpfspec_streams.proofs.retrying.read_again.Given as goal
+use Rattle.bpfspec_output.proofs.retrying.read_again.Given as goal
 
 abbrev pub invariant-loop : goal.invariant-loop
 invariant-loop g l = (length l.buffer ≡ length l.initial.buffer) × Keeps (g.R.Read.remaining l.initial.reader)
