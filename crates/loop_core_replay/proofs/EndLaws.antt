@@ -17,7 +17,7 @@ use Rattle.loop_core_block.specs.Blocks.{BlockOf}
 use Rattle.loop_core_block.specs.Ran.{as_gathered, iterations_of, RecordsRun}
 use Rattle.loop_core_block.specs.Shown.{shown}
 use Rattle.loop_core_gather.specs.Gathered.{all_gathered}
-use Rattle.loop_core_workers.specs.Standing.{state}
+use Rattle.loop_core_replay.specs.Standing.{state}
 use Rattle.loop_core_block.specs.Loops.{LoopOf, IsSpeculative}
 use Rattle.loop_core_block.specs.LoopBlocks.{IsBlockOf}
 use Rattle.loop_core_replay.specs.Replays.{block_numbers, IsLeft}

@@ -16,14 +16,14 @@ use Rattle.loop_core_model.proofs.SplitLaws.{faultless}
 use Rattle.loop_core_model.proofs.Steps.{first_break, RunsFrom, Fits as WorkerIsSound}
 use Rattle.loop_core_model.proofs.RunBlocks.{scan_break}
 use Rattle.loop_core_model.proofs.ScheduleLaws.{Sound, AllOk, events_ok, sound_at_first}
-use Rattle.loop_core_workers.specs.declared.worker.Worker.TheVariants.{Running}
-use Rattle.loop_core_workers.specs.declared.worker.PendingIteration.{PendingIteration}
-use Rattle.loop_core_workers.specs.Standing.{Standing, WorkersFit, schedule_worker, state}
-use Rattle.loop_core_workers.specs.declared.worker.Step.{Step}
-use Rattle.loop_core_workers.specs.declared.worker.Step.TheVariants as steps
-use Rattle.loop_core_workers.specs.Steps.{Leads, Faults, StepFollows, IsBefore, IterationFinished}
-use Rattle.loop_core_workers.specs.InTurn.{LeadTo, EventsInTurn}
-use Rattle.loop_core_workers.proofs.StandingLaws.{seen_at, at_is}
+use Rattle.loop_core_replay.specs.declared.worker.Worker.TheVariants.{Running}
+use Rattle.loop_core_replay.specs.declared.worker.PendingIteration.{PendingIteration}
+use Rattle.loop_core_replay.specs.Standing.{Standing, WorkersFit, schedule_worker, state}
+use Rattle.loop_core_replay.specs.declared.worker.Step.{Step}
+use Rattle.loop_core_replay.specs.declared.worker.Step.TheVariants as steps
+use Rattle.loop_core_replay.specs.Steps.{Leads, Faults, StepFollows, IsBefore, IterationFinished}
+use Rattle.loop_core_replay.specs.InTurn.{LeadTo, EventsInTurn}
+use Rattle.loop_core_replay.proofs.StandingLaws.{seen_at, at_is}
 use Rattle.loop_core_block.specs.Loops.{LoopOf, IsSpeculative}
 use Rattle.loop_core_replay.specs.Replays.{BlocksOf, ReplayOf, loop_breaks, block_numbers, state_of}
 use Rattle.loop_core_replay.specs.Replays.{AreBlocks, BreaksAt, BlockHasRun, HasCome}

@@ -1,1 +1,5 @@
+pub mod Standing
+pub mod Moves
+pub mod Steps
+pub mod InTurn
 pub mod Replays

@@ -9,8 +9,8 @@ use Rattle.loop_core_event.specs.declared.event.Event.{Event}
 use Rattle.loop_core_model.specs.Intervals.{blocks_of, start_of, end_of}
 use Rattle.loop_core_model.specs.Outcome.{breaks_at}
 use Rattle.loop_core_model.specs.Schedule.{ScheduleState, replay}
-use Rattle.loop_core_workers.specs.Standing.{Standing, WorkersFit, state}
-use Rattle.loop_core_workers.specs.InTurn.{LeadTo}
+use Rattle.loop_core_replay.specs.Standing.{Standing, WorkersFit, state}
+use Rattle.loop_core_replay.specs.InTurn.{LeadTo}
 use Rattle.loop_core_block.specs.declared.block.Block.{Block}
 use Rattle.loop_core_block.specs.Loops.{LoopOf}
 use Rattle.loop_core_block.specs.LoopBlocks.{IsBlockOf}

@@ -4,15 +4,17 @@ ghost use Rattle.std.specs.Prelude.{◌≡◌, ◌+◌, ◌<◌, List, length, s
 ghost use Rattle.loop_core_model.specs.Gather.{is_bound};
 ghost use Rattle.loop_core_event.specs.declared.event.EventKind.TheVariants as kinds;
 ghost use Rattle.loop_core_model.specs.Schedule.{replay};
-ghost use Rattle.loop_core_workers.specs.Steps.{IsBefore};
+ghost use Rattle.loop_core_replay.specs.Steps.{IsBefore};
 ghost use Rattle.loop_core_replay.specs.Replays.{loop_breaks, HasCome, IsLeft};
 
 use crate::blocks::Blocks;
 use crate::error::ReplayError;
+use crate::laws::law_of_events_in_turn;
+use crate::worker::{PendingIteration, Step};
+use crate::workers::Workers;
 use loop_core_block::{Block, SpeculativeLoop};
 use loop_core_event::Event;
 use loop_core_model::ReplayFault;
-use loop_core_workers::{PendingIteration, Step, Workers, law_of_events_in_turn};
 use std::alloc::AllocError;
 use std::marker::Model;
 

@@ -1,6 +1,6 @@
 use Rattle.std.proofs.Common.{arith}
-use Rattle.loop_core_workers.proofs.StandingLaws.{begun}
-use Rattle.loop_core_workers.proofs.workers.Workers.begin.Goals as goal
+use Rattle.loop_core_replay.proofs.StandingLaws.{begun}
+use Rattle.loop_core_replay.proofs.workers.Workers.begin.Goals as goal
 
 pub returns-in-Some-Moves-clause-follows : goal.returns-in-Some-Moves-clause-follows
 returns-in-Some-Moves-clause-follows c =

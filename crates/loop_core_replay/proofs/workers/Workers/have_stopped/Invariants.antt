@@ -1,8 +1,8 @@
 use Rattle.std.proofs.Common.{◌≡◌, [], drop}
 use Rattle.std.specs.List.{list_all}
 use Rattle.loop_core_model.specs.Schedule.{is_stopped, worker_of}
-use Rattle.loop_core_workers.specs.Standing.{state}
-use Rattle.loop_core_workers.proofs.workers.Workers.have_stopped.Given as goal
+use Rattle.loop_core_replay.specs.Standing.{state}
+use Rattle.loop_core_replay.proofs.workers.Workers.have_stopped.Given as goal
 
 -- what is left has stopped if the whole has
 abbrev pub invariant-loop-event : goal.invariant-loop-event

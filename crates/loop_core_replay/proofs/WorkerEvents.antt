@@ -8,7 +8,7 @@ use Rattle.loop_core_model.specs.declared.replay_fault.ReplayFault.{ReplayFault}
 use Rattle.loop_core_model.specs.declared.replay_fault.ReplayFault.TheVariants.{NotEnded}
 use Rattle.loop_core_model.specs.Schedule.{ScheduleState, at_first, after_event, after_events}
 use Rattle.loop_core_model.specs.Schedule.{and_then, has_ended, if_ended, replay}
-use Rattle.loop_core_workers.specs.InTurn.{EventsInTurn}
+use Rattle.loop_core_replay.specs.InTurn.{EventsInTurn}
 
 module _ (breaks : ℕ → Bool) (bounds : List ℕ) where
   -- one event more leads on

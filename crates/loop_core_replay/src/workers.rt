@@ -5,9 +5,9 @@ ghost use Rattle.std.specs.Prelude.{length, IfSome, IfOk, IfErr, OnOk, OnErr};
 ghost use Rattle.std.specs.List.{list_all};
 ghost use Rattle.loop_core_model.specs.declared.replay_fault.ReplayFault.TheVariants.{NotEnded};
 ghost use Rattle.loop_core_model.specs.Schedule.{at_first, has_ended, is_stopped, worker_of};
-ghost use Rattle.loop_core_workers.specs.Standing.{WorkersFit, state};
-ghost use Rattle.loop_core_workers.specs.Moves.{after_transition};
-ghost use Rattle.loop_core_workers.specs.Steps.{IsStepOf, StepFits, StepFollows, Faults, IsBefore, IterationFinished};
+ghost use Rattle.loop_core_replay.specs.Standing.{WorkersFit, state};
+ghost use Rattle.loop_core_replay.specs.Moves.{after_transition};
+ghost use Rattle.loop_core_replay.specs.Steps.{IsStepOf, StepFits, StepFollows, Faults, IsBefore, IterationFinished};
 
 use crate::moves::{Asked, WorkerTransition, asked_of, iterate};
 use crate::worker::{PendingIteration, Shared, Step, Worker};
@@ -27,7 +27,7 @@ pub struct Workers {
 
 impl Model for Workers {
     ghost use Rattle.std.specs.Prelude.{◌≡◌, length};
-    ghost use Rattle.loop_core_workers.specs.Standing.{Standing};
+    ghost use Rattle.loop_core_replay.specs.Standing.{Standing};
 
     ghost Value = { Standing };
 
@@ -48,7 +48,7 @@ fn step_of(ran: Option<u32>) -> Step
 impl Default for Workers {
     ghost use Rattle.std.specs.Prelude.{◌≡◌, []};
     ghost use Rattle.loop_core_model.specs.Schedule.{at_first};
-    ghost use Rattle.loop_core_workers.specs.Standing.{state};
+    ghost use Rattle.loop_core_replay.specs.Standing.{state};
 
     ghost is_default = { λ w. state w [] ≡ at_first };
 

@@ -3,8 +3,8 @@
 ghost use Rattle.std.specs.Prelude.{◌≡◌, ◌<◌, ◌≤◌, ℕ, Bool, List, IfSome, IfNone, Some, None};
 ghost use Rattle.loop_core_model.specs.Intervals.{blocks_of, end_of};
 ghost use Rattle.loop_core_model.specs.Events.{claims, looks, iterates, posts};
-ghost use Rattle.loop_core_workers.specs.Standing.{schedule_worker, shared_of, WorkerFits};
-ghost use Rattle.loop_core_workers.specs.Moves.{TransitionFits, transition_result, IsAskedFor, IsNeverEnabled};
+ghost use Rattle.loop_core_replay.specs.Standing.{schedule_worker, shared_of, WorkerFits};
+ghost use Rattle.loop_core_replay.specs.Moves.{TransitionFits, transition_result, IsAskedFor, IsNeverEnabled};
 
 use crate::worker::{Shared, Worker};
 use loop_core_event::EventKind;

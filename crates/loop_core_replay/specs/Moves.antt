@@ -5,13 +5,13 @@ use Rattle.loop_core_event.specs.declared.event.EventKind.{EventKind}
 use Rattle.loop_core_event.specs.declared.event.EventKind.TheVariants as kinds
 use Rattle.loop_core_model.specs.Intervals.{blocks_of}
 use Rattle.loop_core_model.specs.Events.{Moved, becomes, transition}
-use Rattle.loop_core_workers.specs.declared.worker.Worker.{Worker}
-use Rattle.loop_core_workers.specs.declared.worker.Worker.TheVariants.{Running}
-use Rattle.loop_core_workers.specs.declared.worker.Shared.{Shared}
-use Rattle.loop_core_workers.specs.declared.moves.WorkerTransition.{WorkerTransition}
-use Rattle.loop_core_workers.specs.declared.moves.Asked.{Asked}
-use Rattle.loop_core_workers.specs.declared.moves.Asked.TheVariants.{Moves, Iteration}
-use Rattle.loop_core_workers.specs.Standing.{schedule_worker, shared_of, Standing, WorkerFits}
+use Rattle.loop_core_replay.specs.declared.worker.Worker.{Worker}
+use Rattle.loop_core_replay.specs.declared.worker.Worker.TheVariants.{Running}
+use Rattle.loop_core_replay.specs.declared.worker.Shared.{Shared}
+use Rattle.loop_core_replay.specs.declared.moves.WorkerTransition.{WorkerTransition}
+use Rattle.loop_core_replay.specs.declared.moves.Asked.{Asked}
+use Rattle.loop_core_replay.specs.declared.moves.Asked.TheVariants.{Moves, Iteration}
+use Rattle.loop_core_replay.specs.Standing.{schedule_worker, shared_of, Standing, WorkerFits}
 
 -- what a worker and what it shares become, where these blocks were run before
 abbrev pub transition_result : WorkerTransition → List ℕ → Moved

@@ -8,20 +8,20 @@ use Rattle.std.specs.Option.{option_to_list}
 use Rattle.loop_core_event.specs.declared.event.Event.{Event}
 use Rattle.loop_core_model.specs.Events as events
 use Rattle.loop_core_model.specs.Schedule.{if_enabled, after_event}
-use Rattle.loop_core_workers.specs.declared.worker.Worker.{Worker}
-use Rattle.loop_core_workers.specs.declared.worker.Worker.TheVariants.{Idle}
-use Rattle.loop_core_workers.specs.declared.worker.Shared.{Shared}
-use Rattle.loop_core_workers.specs.declared.moves.WorkerTransition.{WorkerTransition}
-use Rattle.loop_core_workers.specs.Standing.{schedule_worker, shared_of, Standing, state, WorkerFits, WorkersFit}
-use Rattle.loop_core_workers.specs.declared.worker.Worker.TheVariants.{Running}
-use Rattle.loop_core_workers.specs.declared.worker.Step.{Step}
-use Rattle.loop_core_workers.specs.declared.worker.Step.TheVariants as steps
-use Rattle.loop_core_workers.specs.declared.worker.PendingIteration.{PendingIteration}
+use Rattle.loop_core_replay.specs.declared.worker.Worker.{Worker}
+use Rattle.loop_core_replay.specs.declared.worker.Worker.TheVariants.{Idle}
+use Rattle.loop_core_replay.specs.declared.worker.Shared.{Shared}
+use Rattle.loop_core_replay.specs.declared.moves.WorkerTransition.{WorkerTransition}
+use Rattle.loop_core_replay.specs.Standing.{schedule_worker, shared_of, Standing, state, WorkerFits, WorkersFit}
+use Rattle.loop_core_replay.specs.declared.worker.Worker.TheVariants.{Running}
+use Rattle.loop_core_replay.specs.declared.worker.Step.{Step}
+use Rattle.loop_core_replay.specs.declared.worker.Step.TheVariants as steps
+use Rattle.loop_core_replay.specs.declared.worker.PendingIteration.{PendingIteration}
 use Rattle.loop_core_event.specs.declared.event.EventKind.TheVariants as kinds
-use Rattle.loop_core_workers.specs.declared.moves.Asked.{Asked}
-use Rattle.loop_core_workers.specs.declared.moves.Asked.TheVariants.{Moves}
-use Rattle.loop_core_workers.specs.Moves.{TransitionFits, transition_result, after_transition, IsTransition, IsAskedFor}
-use Rattle.loop_core_workers.specs.Steps.{IsStepOf, IsBefore, StepFollows, IterationFinished}
+use Rattle.loop_core_replay.specs.declared.moves.Asked.{Asked}
+use Rattle.loop_core_replay.specs.declared.moves.Asked.TheVariants.{Moves}
+use Rattle.loop_core_replay.specs.Moves.{TransitionFits, transition_result, after_transition, IsTransition, IsAskedFor}
+use Rattle.loop_core_replay.specs.Steps.{IsStepOf, IsBefore, StepFollows, IterationFinished}
 
 pub seen_at : (workers : List Worker) (number : ℕ) → slice_index_or (map schedule_worker workers) number events.Idle
     ≡ schedule_worker (slice_index_or workers number Idle)

@@ -1,5 +1,5 @@
-use Rattle.loop_core_workers.proofs.StandingLaws.{finished}
-use Rattle.loop_core_workers.proofs.workers.Workers.finish.Goals as goal
+use Rattle.loop_core_replay.proofs.StandingLaws.{finished}
+use Rattle.loop_core_replay.proofs.workers.Workers.finish.Goals as goal
 
 pub returns-clause-turned : goal.returns-clause-turned
 returns-clause-turned c =

@@ -1,4 +1,0 @@
-pub mod Standing
-pub mod Moves
-pub mod Steps
-pub mod InTurn
