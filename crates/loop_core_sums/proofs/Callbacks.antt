@@ -14,8 +14,8 @@ use Rattle.bpf_step_ir.specs.PlainRun.{PlainStopReason, PlainExit, PlainLoop, Pl
 use Rattle.bpf_step_ir.specs.Translation.{AreOps}
 use Rattle.bpf_step_ir_sound.specs.Laws.{EachIterationSimulates, plain_exited_by, plain_exited}
 use Rattle.bpf_step.proofs.Callbacks.{begins}
-use Rattle.bpf_step_sums.specs.SumOps.{AddUp}
-use Rattle.bpf_step_sums.specs.SumLaw.{AllReduce, EndsReducing, SumsReduceAlone}
+use Rattle.loop_core_sums.specs.SumOps.{AddUp}
+use Rattle.loop_core_sums.specs.SumLaw.{AllReduce, EndsReducing, SumsReduceAlone}
 use Rattle.loop_core_sequential.proofs.Together.{frame_long}
 use Rattle.loop_core_sums.specs.SumLoops.{OnlyReduces, IsSumLoop}
 

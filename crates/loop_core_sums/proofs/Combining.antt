@@ -18,7 +18,7 @@ use Rattle.array_maps.specs.MapList.{AreWords}
 use Rattle.array_maps.proofs.ElementLaws.{length-words_after, length-words_after_all, element_after_all}
 use Rattle.loop_core_model.specs.Actions.{reduces_by}
 use Rattle.loop_core_model.specs.Kept.{OperatorsAssociate}
-use Rattle.bpf_step_sums.specs.SumLaw.{AllReduce}
+use Rattle.loop_core_sums.specs.SumLaw.{AllReduce}
 use Rattle.loop_core_sums.specs.Sums.{identity_of, combined_words}
 use Rattle.loop_core_sums.proofs.Reduces.{reduces_at, combined_first}
 

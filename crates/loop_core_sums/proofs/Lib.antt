@@ -1,3 +1,7 @@
+pub mod SumSteps
+pub mod SumRuns
+pub mod Searching
+pub mod Refusing
 pub mod Clearing
 pub mod Reduces
 pub mod Combining

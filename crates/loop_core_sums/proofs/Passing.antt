@@ -20,7 +20,7 @@ use Rattle.loop_core_model.specs.Scan.{up_to_break, scan}
 use Rattle.loop_core_model.proofs.OneElement.{and_true_left, and_true_right, same_op}
 use Rattle.loop_core_model.proofs.PlaneLaws.{filter-none}
 use Rattle.loop_core_model.proofs.ScanLaws.{counted_are_scanned}
-use Rattle.bpf_step_sums.specs.SumLaw.{AllReduce}
+use Rattle.loop_core_sums.specs.SumLaw.{AllReduce}
 use Rattle.loop_core_sums.specs.SumLoops.{SumLoopOf, IsSumLoop, AlwaysPasses}
 use Rattle.loop_core_sums.proofs.Reduces.{and_both, reduces_at}
 use Rattle.loop_core_sums.proofs.Ranges.{ends_known}

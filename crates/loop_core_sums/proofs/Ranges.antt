@@ -18,7 +18,7 @@ use Rattle.loop_core_model.specs.Kept.{OperatorsAssociate}
 use Rattle.loop_core_model.proofs.RunAgain.{iteration_local}
 use Rattle.loop_core_model.proofs.Turns.{words_after_all-append}
 use Rattle.loop_core_sequential.specs.Rests.{rest_to, RanTo}
-use Rattle.bpf_step_sums.specs.SumLaw.{AllReduce}
+use Rattle.loop_core_sums.specs.SumLaw.{AllReduce}
 use Rattle.loop_core_sums.specs.declared.partial_sum.PartialSum.{PartialSum}
 use Rattle.loop_core_sums.specs.SumLoops.{SumLoopOf, IsSumLoop}
 use Rattle.loop_core_sums.specs.Sums.{identity_of, identity_maps, combined_words, IsSumOf}

@@ -8,7 +8,7 @@ use Rattle.loop_core_model.specs.Actions.{is_same, reduces_by}
 use Rattle.loop_core_model.specs.Kept.{OperatorsAssociate}
 use Rattle.loop_core_model.proofs.OneElement.{and_true_left, and_true_right, same_op, reduces_saw}
 use Rattle.loop_core_model.proofs.Turns.{Saws}
-use Rattle.bpf_step_sums.specs.SumLaw.{AllReduce}
+use Rattle.loop_core_sums.specs.SumLaw.{AllReduce}
 
 pub and_both : (a b : Bool) → a ≡ true → b ≡ true → (a && b) ≡ true
 and_both a b x y = rw (x, y) refl

@@ -15,7 +15,7 @@ use Rattle.bpf_step_ir.specs.declared.plain_op.PlainOp.{PlainOp}
 use Rattle.bpf_step_ir.specs.declared.plain_op.PlainOp.TheVariants.{ChangeElement}
 use Rattle.bpf_step_ir.specs.PlainRun.{op_of}
 use Rattle.bpf_step_ir.specs.Translation.{AreOps}
-use Rattle.bpf_step_sums.specs.SumOps.{AddUp, is_whole_by, keeps_to}
+use Rattle.loop_core_sums.specs.SumOps.{AddUp, is_whole_by, keeps_to}
 use Rattle.loop_core_sums.specs.SumLoops.{AddsUp, function_end}
 
 -- no whole element is added to by halves

@@ -10,8 +10,8 @@ use Rattle.bpf_step_model.specs.Iteration.{Iterated, iteration}
 use Rattle.bpf_verify_sound.specs.Soundness.{AreMapWords, OverApproximatesCall}
 use Rattle.bpf_step_ir.specs.declared.plain_op.PlainOp.{PlainOp}
 use Rattle.bpf_step_ir.specs.Translation.{AreOps}
-use Rattle.bpf_step_sums.specs.SumOps.{AddUp}
-use Rattle.bpf_step_sums.specs.SumLaw.{AllReduce}
+use Rattle.loop_core_sums.specs.SumOps.{AddUp}
+use Rattle.loop_core_sums.specs.SumLaw.{AllReduce}
 use Rattle.loop_core_model.specs.declared.loop_test.Test.{Test}
 use Rattle.loop_core_model.specs.declared.verdict.Verdict.TheVariants.{Parallel}
 use Rattle.loop_core_model.specs.Report.{verdict}

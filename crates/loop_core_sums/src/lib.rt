@@ -18,11 +18,16 @@
 mod adding;
 mod function_end;
 mod identity;
+mod laws;
+mod operators;
 mod partial_sum;
 mod range_sums;
 mod round;
 mod sum_loop;
+mod summable;
+mod summing;
 
+pub use laws::law_of_sum_operations;
 pub use partial_sum::PartialSum;
 pub use round::Round;
 pub use sum_loop::SumLoop;

@@ -5,10 +5,11 @@ ghost use Rattle.bpf_verify_sound.specs.Soundness.{OverApproximatesCall};
 ghost use Rattle.loop_core_sums.specs.SumLoops.{AddsUp, AddsUpByNone, AlwaysPasses};
 
 use crate::function_end::function_end;
+use crate::laws::law_of_sum_operations;
+use crate::summing::sum_operator;
 use array_maps::Op;
 use bpf_step::LoopCall;
 use bpf_step_ir_sound::law_of_plain_iterations;
-use bpf_step_sums::{law_of_sum_operations, sum_operator};
 use bpf_verify::Verified;
 use bpf_verify_sound::{law_of_accepted_programs, law_of_accepted_runs};
 use std::marker::Model;

@@ -22,7 +22,7 @@ use Rattle.bpf_step_ir.specs.Plain.{Plain, word, plain_operand, further, landed,
 use Rattle.bpf_step_ir.specs.Plain.{PlainStepOutcome, Halts, Goes, Wants, CallsLoop, RefusesLoop, Ends, bytes_in}
 use Rattle.bpf_step_ir.specs.Plain.{plain_number_at, plain_written_at, plain_puts, compared_word, plain_found}
 use Rattle.bpf_step_ir.specs.Plain.{plain_loop_call_step, plain_step, plain_after_request}
-use Rattle.bpf_step_sums.specs.SumOps.{is_between, keeps_to, stays_within}
+use Rattle.loop_core_sums.specs.SumOps.{is_between, keeps_to, stays_within}
 
 -- a machine is at one of the slots from one up to, and without, another
 pub record IsAt (from past : ℕ) (p : Plain) : Type 0 where

@@ -8,7 +8,7 @@ use Rattle.bpf_step_model.specs.Run.{BoundedResult, Ended, Stuck, Unfinished}
 use Rattle.bpf_step_ir.specs.declared.plain_op.PlainOp.{PlainOp}
 use Rattle.bpf_step_ir.specs.Plain.{Plain}
 use Rattle.bpf_step_ir.specs.PlainRun.{PlainRunSegment, plain_run}
-use Rattle.bpf_step_sums.specs.SumOps.{AddUp}
+use Rattle.loop_core_sums.specs.SumOps.{AddUp}
 
 -- each access reduces its element by this operator
 abbrev pub AllReduce : Op → List Access → Type 0

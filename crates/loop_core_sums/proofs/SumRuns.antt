@@ -10,9 +10,9 @@ use Rattle.bpf_step_ir.specs.declared.plain_op.PlainOp.{PlainOp}
 use Rattle.bpf_step_ir.specs.Plain.{Plain, PlainStepOutcome, Halts, Goes, Wants, CallsLoop}
 use Rattle.bpf_step_ir.specs.Plain.{RefusesLoop, Ends, plain_step, plain_after_request}
 use Rattle.bpf_step_ir.specs.PlainRun.{PlainRunSegment, op_of, with_op, after_plain_access, after_plain_step, plain_run}
-use Rattle.bpf_step_sums.specs.SumOps.{AddUp}
-use Rattle.bpf_step_sums.specs.SumLaw.{EndsReducing, SumsReduceAlone}
-use Rattle.bpf_step_sums.proofs.SumSteps.{IsAt, LeadsReducing, op_leads}
+use Rattle.loop_core_sums.specs.SumOps.{AddUp}
+use Rattle.loop_core_sums.specs.SumLaw.{EndsReducing, SumsReduceAlone}
+use Rattle.loop_core_sums.proofs.SumSteps.{IsAt, LeadsReducing, op_leads}
 
 -- an operation in front that makes no access, and one that reduces
 none_more : (op : Op) (e : BoundedResult PlainRunSegment) → EndsReducing op e → EndsReducing op (mapped (with_op []) e)

@@ -1,9 +1,9 @@
 use Rattle.bpf_insn_types.specs.declared.insn.SimpleOp.{SimpleOp}
 use Rattle.bpf_insn_types.specs.declared.insn.SimpleOp.TheVariants.{Add, Or, And, Xor}
 use Rattle.bpf_step_model.specs.Step.{map_operator}
-use Rattle.bpf_step_sums.specs.SumOps.{AddUp}
-use Rattle.bpf_step_sums.proofs.Refusing.{refused}
-use Rattle.bpf_step_sums.proofs.summing.sum_operator.Goals as goal
+use Rattle.loop_core_sums.specs.SumOps.{AddUp}
+use Rattle.loop_core_sums.proofs.Refusing.{refused}
+use Rattle.loop_core_sums.proofs.summing.sum_operator.Goals as goal
 
 pub returns-clause-none : goal.returns-clause-none
 returns-clause-none c = go

@@ -7,7 +7,7 @@ use Rattle.array_maps.specs.declared.access.Op.{Op}
 use Rattle.bpf_step_ir.specs.declared.plain_op.PlainOp.{PlainOp}
 use Rattle.bpf_step_ir.specs.declared.plain_op.PlainOp.TheVariants.{Stop}
 use Rattle.bpf_step_ir.specs.PlainRun.{op_of}
-use Rattle.bpf_step_sums.specs.SumOps.{IsSumOp, AddUp}
+use Rattle.loop_core_sums.specs.SumOps.{IsSumOp, AddUp}
 
 module _ (op : Op) (ops : List PlainOp) (from past : ℕ) where
   -- all from the first slot up to, and without, one

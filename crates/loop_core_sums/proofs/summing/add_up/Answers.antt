@@ -1,7 +1,7 @@
 use Rattle.std.proofs.Common.{refl, subst, sym, arith}
-use Rattle.bpf_step_sums.specs.SumOps.{IsSumOp}
-use Rattle.bpf_step_sums.proofs.Searching.{is_read, sums_more, sums_none, sums_all}
-use Rattle.bpf_step_sums.proofs.summing.add_up.Goals as goal
+use Rattle.loop_core_sums.specs.SumOps.{IsSumOp}
+use Rattle.loop_core_sums.proofs.Searching.{is_read, sums_more, sums_none, sums_all}
+use Rattle.loop_core_sums.proofs.summing.add_up.Goals as goal
 
 pub loop-slot-init : goal.loop-slot-init
 loop-slot-init c = sums_none c.args.op c.args.ops.now c.args.from c.args.past

@@ -4,7 +4,7 @@ ghost use Rattle.std.specs.Prelude.{◌≡◌, ◌↔◌, ◌<◌, ◌≤◌, le
 ghost use Rattle.bpf_insn_types.specs.declared.insn.SimpleOp.{SimpleOp};
 ghost use Rattle.bpf_step_model.specs.Step.{map_operator};
 ghost use Rattle.bpf_step_ir.specs.PlainRun.{op_of};
-ghost use Rattle.bpf_step_sums.specs.SumOps.{AddUp, IsSumOp};
+ghost use Rattle.loop_core_sums.specs.SumOps.{AddUp, IsSumOp};
 
 use crate::summable::{keeps_to, stays_within};
 use array_maps::Op;

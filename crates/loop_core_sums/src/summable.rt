@@ -1,7 +1,7 @@
 //! Which operations the iterations of a sum may do.
 
 ghost use Rattle.std.specs.Prelude.{◌≡◌, ◌<◌, ◌≤◌};
-ghost use Rattle.bpf_step_sums.specs.SumOps.{is_between, keeps_to, stays_within};
+ghost use Rattle.loop_core_sums.specs.SumOps.{is_between, keeps_to, stays_within};
 
 use crate::operators::is_whole_by;
 use array_maps::Op;

@@ -1,4 +1,0 @@
-pub mod SumSteps
-pub mod SumRuns
-pub mod Searching
-pub mod Refusing

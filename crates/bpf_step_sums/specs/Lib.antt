@@ -1,2 +1,0 @@
-pub mod SumOps
-pub mod SumLaw
