@@ -15,9 +15,9 @@ use Rattle.clap.specs.declared.parser.matches.SubCommand.{SubCommand}
 use Rattle.clap.proofs.WalkLemmas.{one_text-rows}
 use Rattle.loop_core_model.specs.declared.loop_test.Test.{Test}
 use Rattle.loop_core_model.specs.declared.loop_test.Test.TheVariants.{Flow, Lrpd}
-use Rattle.spec_run_plan.specs.declared.plan.Plan.{Plan}
-use Rattle.spec_run_plan.specs.declared.plan.Policy.{Policy}
-use Rattle.spec_run_plan.specs.declared.plan.Policy.TheVariants.{Pays, Blocks}
+use Rattle.loop_core_split.specs.declared.plan.Plan.{Plan}
+use Rattle.loop_core_split.specs.declared.plan.Policy.{Policy}
+use Rattle.loop_core_split.specs.declared.plan.Policy.TheVariants.{Pays, Blocks}
 use Rattle.bpfspec_command_line.specs.CommandLine.{AreArgs, AreCommands, AsksFor, AsksForJob, AsksForStats, Finds}
 use Rattle.bpfspec_command_line.specs.CommandLine.{IsArg, IsArgument, IsAskOf, IsChosen, IsCommand}
 use Rattle.bpfspec_command_line.specs.CommandLine.{with_commands, with_rules}

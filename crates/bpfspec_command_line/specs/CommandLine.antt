@@ -10,10 +10,10 @@ use Rattle.clap.specs.declared.builder.command.Command.TheViews.{out-Command}
 use Rattle.clap.specs.declared.builder.ArgAction.TheVariants.{Set, SetTrue}
 use Rattle.loop_core_model.specs.declared.loop_test.Test.{Test}
 use Rattle.loop_core_model.specs.declared.loop_test.Test.TheVariants.{Lrpd, Flow}
-use Rattle.spec_run_plan.specs.declared.plan.Plan.{Plan}
-use Rattle.spec_run_plan.specs.declared.plan.Policy.{Policy}
-use Rattle.spec_run_plan.specs.declared.plan.Policy.TheVariants.{Pays, Blocks}
-use Rattle.spec_run_plan.specs.Plans.{IsPlan}
+use Rattle.loop_core_split.specs.declared.plan.Plan.{Plan}
+use Rattle.loop_core_split.specs.declared.plan.Policy.{Policy}
+use Rattle.loop_core_split.specs.declared.plan.Policy.TheVariants.{Pays, Blocks}
+use Rattle.loop_core_split.specs.Plans.{IsPlan}
 use Rattle.bpfspec_command_line.specs.declared.job.Ask.{Ask}
 use Rattle.bpfspec_command_line.specs.declared.job.Job.{Job}
 use Rattle.bpfspec_command_line.specs.declared.job.Job.TheVariants.{Serve, Run, Facts}

@@ -3,7 +3,7 @@
 ghost use Rattle.std.specs.Prelude.{◌≡◌};
 
 use loop_core_model::Test;
-use spec_run_plan::Plan;
+use loop_core_split::Plan;
 use std::alloc::{AllocError, AllocFailed};
 use thiserror::Error;
 

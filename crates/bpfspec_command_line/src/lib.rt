@@ -9,5 +9,5 @@ mod words;
 
 pub use job::{Ask, Job, LineFault, Mode, Request, UnitForm};
 pub use loop_core_model::Test;
-pub use spec_run_plan::{Plan, Policy};
+pub use loop_core_split::{Plan, Policy};
 pub use words::{read_command_line, read_words};

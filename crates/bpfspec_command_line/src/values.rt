@@ -8,7 +8,7 @@ ghost use Rattle.bpfspec_command_line.specs.CommandLine.{IsNumber, IsNumberWithi
 use crate::job::{Ask, UnitForm};
 use clap::ArgMatches;
 use loop_core_model::Test;
-use spec_run_plan::{Plan, Policy};
+use loop_core_split::{Plan, Policy};
 
 /// The value that the flag of this name chooses: `off` where it isn't given, and else `on`.
 fn chosen<T: Copy>(matches: &ArgMatches<'_>, name: &str, off: T, on: T) -> T

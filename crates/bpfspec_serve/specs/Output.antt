@@ -26,8 +26,8 @@ use Rattle.spec_run_replay.specs.declared.replaying.Replayed.{Replayed}
 use Rattle.spec_run_replay.specs.declared.replaying.ReplayRefusal.{ReplayRefusal}
 use Rattle.spec_run_replay.specs.declared.replaying.ReplayRefusal.TheVariants as replays
 use Rattle.spec_run_replay.specs.ProgramReplay.{LoopReplay, ReplaysFrom}
-use Rattle.spec_run_plan.specs.declared.plan.Plan.{Plan}
-use Rattle.spec_run_plan.specs.Plans.{IsPlan}
+use Rattle.loop_core_split.specs.declared.plan.Plan.{Plan}
+use Rattle.loop_core_split.specs.Plans.{IsPlan}
 use Rattle.bpfspec_command_line.specs.declared.job.Mode.{Mode}
 use Rattle.bpfspec_command_line.specs.declared.job.Mode.TheVariants.{Verify, Order, Replay, Asm, Disasm}
 use Rattle.bpfspec_command_line.specs.declared.job.UnitForm.{UnitForm}

@@ -6,8 +6,8 @@ use Rattle.loop_core_model.specs.declared.loop_test.Test.{Test}
 use Rattle.loop_core_model.specs.Report.{report as report_by}
 use Rattle.spec_run_loop.specs.declared.error.RunError.{RunError}
 use Rattle.spec_run_loop.specs.declared.error.RunError.TheVariants.{Memory}
-use Rattle.spec_run_plan.specs.declared.plan.Plan.{Plan}
-use Rattle.spec_run_plan.specs.Plans.{IsPlan}
+use Rattle.loop_core_split.specs.declared.plan.Plan.{Plan}
+use Rattle.loop_core_split.specs.Plans.{IsPlan}
 use Rattle.spec_run.specs.declared.report.Report.{Report}
 use Rattle.spec_run.specs.Reports.{IsReportOf}
 

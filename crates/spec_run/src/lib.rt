@@ -21,7 +21,7 @@ mod speculating;
 mod stats;
 
 pub use loop_core_model::{LoopReport, Test, Verdict};
-pub use loop_core_split::{Gate, NoGate};
+pub use loop_core_split::{Gate, NoGate, Plan, Policy};
 pub use observing::{Observer, Unobserved};
 pub use program_in_order::run_in_order;
 pub use report::Report;
@@ -29,6 +29,5 @@ pub use spec_run_loop::{
     BlocksReason, Course, LoopAnswer, LoopOutcome, LoopRun, RunError, SpeculativeLoop, run_loop,
     work,
 };
-pub use spec_run_plan::{Plan, Policy};
 pub use speculating::{run, run_observed};
 pub use stats::{LoopStats, Stats};

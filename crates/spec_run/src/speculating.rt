@@ -4,7 +4,7 @@ ghost use Rattle.std.specs.Prelude.{◌≡◌, ◌≢◌, ◌↔◌, Err, IfOk};
 ghost use Rattle.bpf_verify_sound.specs.Soundness.{OverApproximatesCall};
 ghost use Rattle.loop_core_gather.specs.Gathered.{IsOutcome};
 ghost use Rattle.spec_run.specs.AsInOrder.{RunsAsInOrder};
-ghost use Rattle.spec_run_plan.specs.Plans.{IsPlan};
+ghost use Rattle.loop_core_split.specs.Plans.{IsPlan};
 
 use crate::by_plan::run_program;
 use crate::freed_memory::keep_freed_memory;
@@ -14,9 +14,8 @@ use array_maps::Maps;
 use bpf_step::LoopCall;
 use bpf_verify::Verified;
 use loop_core_sequential::law_of_filled_calls;
-use loop_core_split::Gate;
+use loop_core_split::{Gate, Plan};
 use spec_run_loop::{LoopAnswer, LoopJob, RunError, Workspace, run_by_plan};
-use spec_run_plan::Plan;
 use std::alloc::{AllocError, Global};
 use std::thread::Threads;
 

@@ -23,8 +23,8 @@ use Rattle.loop_core_witness.specs.Witnesses.{Explains}
 use Rattle.spec_run_loop.specs.declared.course.Course.{Course}
 use Rattle.spec_run_loop.specs.Courses.{IsCourseOf}
 use Rattle.spec_run_loop.specs.Jobs.{JobOf}
-use Rattle.spec_run_plan.specs.declared.plan.Plan.{Plan}
-use Rattle.spec_run_plan.specs.declared.plan.Policy.TheVariants.{Pays}
+use Rattle.loop_core_split.specs.declared.plan.Plan.{Plan}
+use Rattle.loop_core_split.specs.declared.plan.Policy.TheVariants.{Pays}
 use Rattle.spec_run_explain.specs.declared.explained.Cause.{Cause}
 use Rattle.spec_run_explain.specs.declared.explained.LoopExplained.{LoopExplained}
 use Rattle.spec_run_explain.specs.Showing.{is_conflict, Shows}

@@ -17,9 +17,9 @@ use bpf_step::LoopCall;
 use bpf_verify::Verified;
 use loop_core_conflicts::{find_conflicts, survey_loop};
 use loop_core_model::{LoopReport, Test};
+use loop_core_split::{Plan, Policy};
 use loop_core_witness::{Place, Survey, find_break, find_end_of_reduction, find_pair};
 use spec_run_loop::{Course, LoopJob, course_of};
-use spec_run_plan::{Plan, Policy};
 use std::alloc::{AllocError, Global};
 
 /// The cause of an element at which the loop fails the test.

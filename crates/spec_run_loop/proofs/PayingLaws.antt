@@ -11,7 +11,7 @@ use Rattle.bpf_step_model.specs.SoundMachine.{IsStart}
 use Rattle.bpf_verify_sound.specs.Soundness.{most_from}
 use Rattle.loop_core_block.proofs.MostLaws.{count_is}
 use Rattle.loop_core_model.specs.Split.{even_bounds}
-use Rattle.spec_run_plan.specs.declared.plan.Plan.{Plan}
+use Rattle.loop_core_split.specs.declared.plan.Plan.{Plan}
 use Rattle.spec_run_loop.specs.declared.course.BlocksReason.{BlocksReason}
 use Rattle.spec_run_loop.specs.declared.way.BlockPlan.{BlockPlan}
 use Rattle.spec_run_loop.specs.declared.way.Crew.TheVariants.{Caller, Workers}

@@ -3,7 +3,7 @@ use Rattle.std.specs.Prelude.{ℕ, ◌+◌, ◌*◌, ◌/◌, Bool, false, nat_l
 use Rattle.loop_core_model.specs.declared.loop_test.Test.{Test}
 use Rattle.loop_core_model.specs.declared.loop_test.Test.TheVariants.{Flow, Lrpd}
 use Rattle.bpf_verify_sound.specs.Soundness.{most_from}
-use Rattle.spec_run_plan.specs.declared.plan.Plan.{Plan}
+use Rattle.loop_core_split.specs.declared.plan.Plan.{Plan}
 use Rattle.spec_run_loop.specs.Jobs.{JobOf}
 
 -- what an iteration that runs by blocks costs beside its instructions

@@ -5,8 +5,8 @@ use Rattle.loop_core_model.specs.declared.loop_test.Test.TheVariants.{Flow, Lrpd
 use Rattle.loop_core_model.specs.Split.{even_bounds, split_fault}
 use Rattle.loop_core_model.specs.Intervals.{blocks_of}
 use Rattle.loop_core_sums.specs.SumLoops.{AddsUp, AddsUpByNone}
-use Rattle.spec_run_plan.specs.declared.plan.Policy.{Policy}
-use Rattle.spec_run_plan.specs.declared.plan.Policy.TheVariants.{Pays, Blocks}
+use Rattle.loop_core_split.specs.declared.plan.Policy.{Policy}
+use Rattle.loop_core_split.specs.declared.plan.Policy.TheVariants.{Pays, Blocks}
 use Rattle.spec_run_loop.specs.declared.course.BlocksReason.{BlocksReason}
 use Rattle.spec_run_loop.specs.declared.course.BlocksReason.TheVariants.{Asked, Work, ReadsWritten}
 use Rattle.spec_run_loop.specs.declared.course.BlocksReason.TheVariants as reasons

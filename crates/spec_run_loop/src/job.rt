@@ -2,7 +2,7 @@
 
 use bpf_step::LoopCall;
 use bpf_verify::Verified;
-use spec_run_plan::Plan;
+use loop_core_split::Plan;
 use std::alloc::Global;
 use std::marker::Model;
 

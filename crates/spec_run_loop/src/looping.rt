@@ -6,7 +6,7 @@ ghost use Rattle.loop_core_gather.specs.Gathered.{IsOutcome};
 ghost use Rattle.spec_run_loop.specs.Courses.{IsCourseOf, course_by};
 ghost use Rattle.spec_run_loop.specs.Plans.{IsLoopPlan};
 ghost use Rattle.spec_run_loop.specs.Ways.{all_blocks_of};
-ghost use Rattle.spec_run_plan.specs.declared.plan.Policy.TheVariants.{Blocks};
+ghost use Rattle.loop_core_split.specs.declared.plan.Policy.TheVariants.{Blocks};
 
 use crate::by_blocks::{decided, run_by_blocks};
 use crate::decision::LoopAnswer;

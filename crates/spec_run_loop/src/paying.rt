@@ -1,7 +1,7 @@
 //! What pays: by how many workers a loop is run, and over how many blocks.
 
 ghost use Rattle.std.specs.Prelude.{◌≡◌, ◌*◌, ◌/◌, ◌<◌, ◌≤◌, length, max, min};
-ghost use Rattle.spec_run_plan.specs.Plans.{IsPlan};
+ghost use Rattle.loop_core_split.specs.Plans.{IsPlan};
 ghost use Rattle.spec_run_loop.specs.Paying.{instructions, work_in_order, work_by_blocks, cost_of_elements};
 ghost use Rattle.spec_run_loop.specs.Paying.{busy_workers, are_copies_dear, worthwhile_blocks, visits};
 
@@ -10,7 +10,7 @@ use array_maps::Maps;
 use bpf_step::LoopCall;
 use loop_core_block::most_instructions;
 use loop_core_event::MAX_WORKERS;
-use spec_run_plan::Plan;
+use loop_core_split::Plan;
 
 /// What a speculative iteration costs beside its instructions, as many of them: its accesses are marked and kept apart.
 const BOOKKEEPING: u64 = 30;

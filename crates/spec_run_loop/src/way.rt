@@ -4,7 +4,7 @@ ghost use Rattle.std.specs.Prelude.{◌≡◌, ◌<◌, ◌≤◌, None, true};
 ghost use Rattle.spec_run_loop.specs.Paying.{pays_in_order};
 ghost use Rattle.loop_core_model.specs.Split.{even_bounds, split_fault};
 ghost use Rattle.loop_core_model.specs.declared.loop_test.Test.TheVariants as tests;
-ghost use Rattle.spec_run_plan.specs.declared.plan.Policy.TheVariants as policies;
+ghost use Rattle.loop_core_split.specs.declared.plan.Policy.TheVariants as policies;
 ghost use Rattle.spec_run_loop.specs.Courses.{course_by, workers_of};
 ghost use Rattle.spec_run_loop.specs.Ways.{IsBlockPlan, IsByPlan, IsWayOf, IsWayThatPays, MayGo};
 ghost use Rattle.spec_run_loop.specs.Ways.{all_blocks_of, blocks_that_pay};
@@ -17,9 +17,8 @@ use crate::paying::{
 };
 use bpf_step::LoopCall;
 use loop_core_model::Test;
-use loop_core_split::Split;
+use loop_core_split::{Policy, Split};
 use loop_core_sums::SumLoop;
-use spec_run_plan::Policy;
 
 /// Who runs the blocks of a loop.
 #[derive(Clone, Copy)]

@@ -1,7 +1,7 @@
 //! How the loops of a program are run.
 
 ghost use Rattle.std.specs.Prelude.{◌↔◌, IsTrue};
-ghost use Rattle.spec_run_plan.specs.Plans.{IsPlan};
+ghost use Rattle.loop_core_split.specs.Plans.{IsPlan};
 
 use loop_core_event::{MAX_BLOCKS, MAX_WORKERS};
 use loop_core_model::Test;

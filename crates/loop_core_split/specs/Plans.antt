@@ -1,6 +1,6 @@
 -- Which plans are within their limits.
 use Rattle.std.specs.Prelude.{◌<◌, ◌≤◌}
-use Rattle.spec_run_plan.specs.declared.plan.Plan.{Plan}
+use Rattle.loop_core_split.specs.declared.plan.Plan.{Plan}
 
 -- 1 to 16 workers and 1 to 64 blocks
 pub record IsPlan (plan : Plan) : Type 0 where
