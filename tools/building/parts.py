@@ -32,7 +32,7 @@ class Part:
 # What a linker sees is in the rest.
 REST = Part("rest", re.compile(r"\w"), "-O2")
 PARTS = (  # the slowest first
-    Part("loops", re.compile(r'"spec_run(_in_place|_replay)?::(?!stats::)'), "-O3", True),
+    Part("loops", re.compile(r'"spec_run(_main::in_place|_replay)?::(?!stats::)'), "-O3", True),
     Part("causes", re.compile(r'"spec_run_explain::'), "-O2"),
     REST,
     Part("words", re.compile(r'"bpfspec_command_line::'), "-Oz"),

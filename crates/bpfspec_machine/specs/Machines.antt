@@ -5,7 +5,7 @@ use Rattle.bpf_insn_types.specs.Program.{Program, callback_starts}
 use Rattle.bpf_verify_model.specs.Count.{count_of}
 use Rattle.bpf_verify_sound.specs.Soundness.{most_from}
 use Rattle.loop_core_model.specs.declared.verdict.LoopReport.{LoopReport}
-use Rattle.spec_run_in_place.specs.InPlace.{RanInOrder}
+use Rattle.spec_run_main.specs.InPlace.{RanInOrder}
 
 -- a program, its maps, and the lines of the loop calls of its last run
 pub record MachineState : Type 0 where

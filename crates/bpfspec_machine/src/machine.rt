@@ -11,7 +11,7 @@ ghost use Rattle.array_maps.specs.MapList.{zero_maps, base_of};
 use array_maps::Maps;
 use bpf_verify::Verified;
 use loop_core_model::LoopReport;
-use spec_run_in_place::run_in_place;
+use spec_run_main::run_in_place;
 use std::marker::Model;
 
 /// A program with its maps, which runs many times. In contracts it is its program, its maps, and the lines of the loop

@@ -1,3 +1,4 @@
+pub mod InPlace
 pub mod Calls
 pub mod Programs
 pub mod Lines

@@ -4,7 +4,7 @@ use Rattle.bpf_step_model.specs.ProgramInOrder.{program_in_order}
 use Rattle.loop_core_model.specs.declared.verdict.LoopReport.{LoopReport}
 use Rattle.loop_core_model.specs.Report.{report_in_order, loop_report_in_order}
 use Rattle.spec_run_main.proofs.ReportLines.{reported}
-use Rattle.spec_run_in_place.proofs.run_in_place.Goals as goal
+use Rattle.spec_run_main.proofs.in_place.run_in_place.Goals as goal
 
 pub returns-clause-ran : goal.returns-clause-ran
 returns-clause-ran c =

@@ -2,7 +2,7 @@ use Rattle.std.proofs.Common.{rules, w64, take, refl, ap, ◌∙◌}
 use Rattle.std.proofs.lemmas.Int.{to_z-of_z}
 use Rattle.loop_core_model.specs.Report.{loop_report_in_order}
 use Rattle.spec_run_main.proofs.ReportLines.{refused_line}
-use Rattle.spec_run_in_place.proofs.InPlaceLoopRunner.note_refusal.Goals as goal
+use Rattle.spec_run_main.proofs.in_place.InPlaceLoopRunner.note_refusal.Goals as goal
 
 pub returns-clause-told : goal.returns-clause-told
 returns-clause-told c = λ program first calls words before. (

@@ -1,23 +1,17 @@
-//! Runs accepted programs over array maps in place: each loop in order, and nothing allocated.
-//!
-//! ```text
-//! let mut lines = vec![in alloc; blank; program.count(0) as usize]?;
-//! let ran = run_in_place(&program, &mut maps, 0, &mut lines);
-//! // ran.ret is what it returned, and lines[..ran.calls] are its loop calls
-//! ```
-#![tactic(auto)]
+//! A run in place: each loop in order, and nothing allocated.
 
 ghost use Rattle.std.specs.Prelude.{◌≡◌, ◌+◌, ◌-◌, ◌<◌, ◌≤◌, ◌++◌, ◌∷◌, [], length, take};
 ghost use Rattle.bpf_verify_sound.specs.Soundness.{most_from};
-ghost use Rattle.spec_run_in_place.specs.InPlace.{RanInOrder};
+ghost use Rattle.spec_run_main.specs.InPlace.{RanInOrder};
 
+use crate::driver::run_main;
+use crate::runner::LoopRunner;
 use array_maps::Maps;
 use bpf_step::LoopCall;
 use bpf_step_model::RefusedCall;
 use bpf_verify::Verified;
 use loop_core_model::{LoopReport, Verdict};
 use loop_core_sequential::in_order;
-use spec_run_main::{LoopRunner, run_main};
 use std::convert::Infallible;
 
 /// What a run in place gives beside the maps.
