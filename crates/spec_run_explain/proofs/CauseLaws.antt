@@ -12,8 +12,8 @@ use Rattle.loop_core_model.specs.declared.loop_test.Test.{Test}
 use Rattle.loop_core_model.specs.Actions.{joined, only_operator}
 use Rattle.loop_core_model.specs.Conflict.{fails, at_element, conflicts, conflicting}
 use Rattle.loop_core_model.proofs.OneElement.{and_true_right}
-use Rattle.loop_core_conflicts.specs.declared.conflicts.Conflicts.{Conflicts}
-use Rattle.loop_core_conflicts.specs.Told.{AreConflicts}
+use Rattle.spec_run_explain.specs.declared.conflicts.Conflicts.{Conflicts}
+use Rattle.spec_run_explain.specs.Told.{AreConflicts}
 use Rattle.loop_core_witness.specs.Witnesses.{Explains}
 use Rattle.spec_run_explain.specs.declared.explained.Cause.{Cause}
 use Rattle.spec_run_explain.specs.Causes.{FailsAt, cause_elements}

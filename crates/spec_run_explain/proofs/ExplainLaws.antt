@@ -15,8 +15,8 @@ use Rattle.loop_core_model.specs.Conflict.{conflicting}
 use Rattle.loop_core_model.specs.Report.{line, loop_report, verdict, judged}
 use Rattle.loop_core_sequential.specs.FilledCalls.{FilledCallsAreOneLoop}
 use Rattle.loop_core_sequential.specs.Loops.{RanLoopInOrder}
-use Rattle.loop_core_conflicts.specs.declared.conflicts.Conflicts.{Conflicts}
-use Rattle.loop_core_conflicts.specs.Told.{AreConflicts}
+use Rattle.spec_run_explain.specs.declared.conflicts.Conflicts.{Conflicts}
+use Rattle.spec_run_explain.specs.Told.{AreConflicts}
 use Rattle.spec_run.specs.Calls.{RanCall}
 use Rattle.spec_run_explain.specs.declared.explained.LoopExplained.{LoopExplained}
 use Rattle.spec_run_explain.specs.Causes.{IsExplained, report_lines}

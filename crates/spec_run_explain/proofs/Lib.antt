@@ -1,3 +1,6 @@
+pub mod ListLaws
+pub mod ConflictLaws
+pub mod SurveyLaws
 pub mod ExplainLaws
 pub mod CauseLaws
 pub mod CallsTold

@@ -1,3 +1,4 @@
+pub mod Told
 pub mod Showing
 pub mod Causes
 pub mod Programs

@@ -11,11 +11,12 @@ ghost use Rattle.spec_run_explain.specs.Causes.{AreCauses, FailsAt, IsExplained,
 ghost use Rattle.spec_run_loop.specs.Courses.{IsCourseOf};
 
 use crate::explained::{Cause, LoopExplained};
+use crate::finding::find_conflicts;
 use crate::showing::{grid_if, is_shown};
+use crate::surveying::survey_loop;
 use array_maps::Maps;
 use bpf_step::LoopCall;
 use bpf_verify::Verified;
-use loop_core_conflicts::{find_conflicts, survey_loop};
 use loop_core_model::{LoopReport, Test};
 use loop_core_split::{Plan, Policy};
 use loop_core_witness::{Place, Survey, find_break, find_end_of_reduction, find_pair};

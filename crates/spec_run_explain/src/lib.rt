@@ -9,9 +9,13 @@
 #![tactic(auto)]
 
 mod call;
+mod conflicts;
 mod driver;
 mod explained;
+mod finding;
+mod listing;
 mod showing;
+mod surveying;
 
 pub use driver::explain_loops;
 pub use explained::{Cause, Explained, LoopExplained};

@@ -3,7 +3,7 @@ use Rattle.std.specs.Prelude.{IfSome}
 use Rattle.std.proofs.lemmas.List.Elements.{All-push, All-same}
 use Rattle.loop_core_witness.specs.declared.survey.Stretch.{Stretch}
 use Rattle.loop_core_witness.specs.Surveys.{IsStretch}
-use Rattle.loop_core_conflicts.proofs.surveying.survey_loop.Goals as goal
+use Rattle.spec_run_explain.proofs.surveying.survey_loop.Goals as goal
 
 pub loop-first-preserved-in_ok-push : goal.loop-first-preserved-in_ok-push
 loop-first-preserved-in_ok-push c =

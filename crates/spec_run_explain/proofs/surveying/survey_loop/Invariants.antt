@@ -1,7 +1,7 @@
 use Rattle.std.proofs.Common.{◌-◌}
 use Rattle.std.specs.List.{All}
 use Rattle.loop_core_witness.specs.Surveys.{IsStretch}
-use Rattle.loop_core_conflicts.proofs.surveying.survey_loop.Given as goal
+use Rattle.spec_run_explain.proofs.surveying.survey_loop.Given as goal
 
 abbrev pub invariant-loop-first : goal.invariant-loop-first
 invariant-loop-first l = record {

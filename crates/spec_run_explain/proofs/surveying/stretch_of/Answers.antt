@@ -2,8 +2,8 @@ use Rattle.std.proofs.Common.{false, sym, ap, ◌∙◌}
 use Rattle.std.specs.Prelude.{is_some}
 use Rattle.loop_core_model.specs.declared.loop_test.Test.TheVariants.{Lrpd}
 use Rattle.loop_core_block.specs.Shown.{shown}
-use Rattle.loop_core_conflicts.proofs.SurveyLaws.{is_stretch}
-use Rattle.loop_core_conflicts.proofs.surveying.stretch_of.Goals as goal
+use Rattle.spec_run_explain.proofs.SurveyLaws.{is_stretch}
+use Rattle.spec_run_explain.proofs.surveying.stretch_of.Goals as goal
 
 pub returns : goal.returns
 returns c =

@@ -1,7 +1,7 @@
 use Rattle.std.proofs.Common.{◌≡◌, ◌≢◌, ◌≤◌, ◌+◌, ◌*◌, length, refl, arith}
 use Rattle.loop_core_model.specs.Planes.{bit_of}
-use Rattle.loop_core_conflicts.proofs.ListLaws.{enough, listed_more, few_more}
-use Rattle.loop_core_conflicts.proofs.listing.least_elements.Goals as goal
+use Rattle.spec_run_explain.proofs.ListLaws.{enough, listed_more, few_more}
+use Rattle.spec_run_explain.proofs.listing.least_elements.Goals as goal
 
 pub returns-then-len-most : goal.returns-then-len-most
 returns-then-len-most c =

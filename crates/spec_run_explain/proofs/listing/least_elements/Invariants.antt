@@ -1,7 +1,7 @@
 use Rattle.std.proofs.Common.{◌≡◌, ◌≤◌, length}
 use Rattle.std.specs.List.{filter, range_with_len}
 use Rattle.loop_core_model.specs.Planes.{bit_of}
-use Rattle.loop_core_conflicts.proofs.listing.least_elements.Given as goal
+use Rattle.spec_run_explain.proofs.listing.least_elements.Given as goal
 
 abbrev pub invariant-loop-e : goal.invariant-loop-e
 invariant-loop-e l = record {

@@ -25,8 +25,8 @@ use Rattle.shadow_marks.specs.Standing.{StandFor, test_of}
 use Rattle.private_copy.specs.Visits.{visits_of}
 use Rattle.loop_core_block.specs.Blocks.{BlockOf}
 use Rattle.loop_core_block.specs.Ran.{RecordsRun}
-use Rattle.loop_core_conflicts.specs.declared.conflicts.Conflicts.{Conflicts}
-use Rattle.loop_core_conflicts.specs.Told.{AreConflicts}
+use Rattle.spec_run_explain.specs.declared.conflicts.Conflicts.{Conflicts}
+use Rattle.spec_run_explain.specs.Told.{AreConflicts}
 
 -- the counted iterations are those of a block of all indices
 counted_is : (program : Program) (call : LoopCall) (words : List ℕ) (past : ℕ) (ran : List Iterated) → past ≡ call.n

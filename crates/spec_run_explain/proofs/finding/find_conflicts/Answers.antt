@@ -6,9 +6,9 @@ use Rattle.loop_core_model.specs.Planes.{elements_in_plane, plane_verdict}
 use Rattle.shadow_marks.specs.declared.planes.Planes.{Planes}
 use Rattle.shadow_marks.specs.Standing.{StandFor, test_of}
 use Rattle.loop_core_block.specs.Shown.{shown}
-use Rattle.loop_core_conflicts.proofs.ListLaws.{one_starts, one_ends}
-use Rattle.loop_core_conflicts.proofs.ConflictLaws.{are_conflicts}
-use Rattle.loop_core_conflicts.proofs.finding.find_conflicts.Goals as goal
+use Rattle.spec_run_explain.proofs.ListLaws.{one_starts, one_ends}
+use Rattle.spec_run_explain.proofs.ConflictLaws.{are_conflicts}
+use Rattle.spec_run_explain.proofs.finding.find_conflicts.Goals as goal
 
 pub returns : goal.returns
 returns c =

@@ -8,7 +8,7 @@ use Rattle.loop_core_model.specs.declared.loop_test.Test.{Test}
 use Rattle.loop_core_model.specs.Conflict.{conflicting}
 use Rattle.loop_core_model.specs.LeastBreak.{least_break, counted_runs}
 use Rattle.loop_core_model.specs.Report.{judged}
-use Rattle.loop_core_conflicts.specs.declared.conflicts.Conflicts.{Conflicts}
+use Rattle.spec_run_explain.specs.declared.conflicts.Conflicts.{Conflicts}
 
 -- the counted iterations of a loop call on these words end; the verdict is that on the elements that conflict, of
 -- these the least are listed, at most `most`; and the least break is given
