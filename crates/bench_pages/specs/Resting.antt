@@ -5,7 +5,7 @@ use Rattle.shadow_marks.specs.Standing.{ArePlanes}
 use Rattle.private_copy.specs.declared.private.Private.{Private}
 use Rattle.private_copy.specs.Shown.{copy_of}
 
--- no iteration is under way, this many were begun, and the planes are for the copy's elements
+-- no iteration is active, this many were begun, and the planes are for the copy's elements
 pub record Rests (copy : Private) (planes : Planes) (many : ℕ) : Type 0 where
   pub ended : (copy_of copy).under_way ≡ false
   pub begun : (copy_of copy).begun ≡ many

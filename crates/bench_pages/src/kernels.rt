@@ -28,7 +28,7 @@ pub(crate) fn merge_often(alloc: Global, test: Test, rounds: u32) -> Result<u32,
     })
 }
 
-/// Tells the conflicts of planes so often, and then how many there are: none.
+/// Finds the conflicts of planes so often, and then returns how many there are: none.
 pub(crate) fn judge_often(alloc: Global, test: Test, rounds: u32) -> Result<u32, AllocError> {
     let planes = Planes::try_new(alloc, ELEMENTS, test)?;
     let mut plane = vec![in alloc; 0u64; WORDS]?;

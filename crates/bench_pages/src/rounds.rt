@@ -106,7 +106,7 @@ fn zeros(alloc: Global) -> Result<Maps, AllocError> {
     }
 }
 
-/// Runs n iterations on a new copy, and tells a sum over the plane of plain accesses.
+/// Runs n iterations on a new copy, and returns a sum over the plane of plain accesses.
 pub(crate) fn round(
     alloc: Global,
     test: Test,

@@ -34,7 +34,7 @@ fn signed_op(offset: i16, plain: AluOp, signed: AluOp) -> Result<AluOp, CodecFau
     }
 }
 
-/// The operation of a code, which the offset of a division or a modulo tells signed.
+/// The operation of a code; the offset of a division or a modulo says whether it is signed.
 fn op_of(code: AluCode, offset: i16) -> Result<AluOp, CodecFault>
     ensures { result ≡ alu_op_at code offset }
 {
@@ -179,7 +179,7 @@ fn atomic_op(imm: i32) -> Result<AtomicOp, CodecFault>
     }
 }
 
-/// An atomic, whose immediate tells its operation.
+/// An atomic, whose immediate encodes its operation.
 fn atomic(width: Width, dst: Reg, src: Reg, offset: i16, imm: i32) -> Result<Insn, CodecFault>
     ensures { result ≡ atomic_insn width dst src offset (atomic_at imm) }
 {
@@ -253,7 +253,7 @@ fn jump(width: Width, compare: Compare, dst: Reg, operand: Operand, offset: i16)
     }
 }
 
-/// The instruction of a form whose registers and unused fields stand; next is the slot after it.
+/// The instruction of a form whose registers and unused fields are valid; next is the slot after it.
 fn insn_of_form(
     form: Form,
     dst: Reg,

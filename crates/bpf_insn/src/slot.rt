@@ -6,7 +6,7 @@ ghost use Rattle.bpf_insn.specs.SlotBytes.{slot, slot_bytes, slot_at};
 use crate::form::{Form, opcode_of};
 use std::alloc::AllocError;
 
-/// The fields of a slot as they stand. A register field is the half of a byte, 0 to 15.
+/// The fields of a slot as they are encoded. A register field is the half of a byte, 0 to 15.
 #[derive(Clone, Copy)]
 pub struct Slot {
     pub opcode: u8,

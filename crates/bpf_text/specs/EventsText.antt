@@ -16,7 +16,7 @@ use Rattle.loop_core_event.specs.declared.event.EventKind.{EventKind}
 use Rattle.loop_core_event.specs.declared.event.EventKind.TheVariants as kind
 use Rattle.loop_core_event.specs.declared.event.Event.{Event}
 
--- the kind that a letter stands for
+-- the kind that a letter denotes
 abbrev pub event_kind_at : ℕ → Option EventKind
 event_kind_at letter =
     if letter == 99 then Some kind.Claim

@@ -16,7 +16,7 @@ use bpf_text_lex::{
 use loop_core_event::{Event, EventKind};
 use std::alloc::Global;
 
-/// The kind that a letter stands for.
+/// The kind that a letter denotes.
 fn kind_at(letter: u8) -> Option<EventKind>
     ensures { result ≡ event_kind_at letter }
 {

@@ -17,7 +17,7 @@ pub struct Line<'a> {
     pub content: &'a [u8],
 }
 
-/// Where the first newline of a text stands.
+/// The index of the first newline of a text, if it has one.
 pub fn newline_at(text: &[u8]) -> Option<usize>
     ensures { result ≡ position (λ b. b == 10) text.now }
 {
@@ -36,7 +36,7 @@ pub(crate) fn split_line(text: &[u8]) -> (&[u8], &[u8])
     }
 }
 
-/// Where the first semicolon stands.
+/// The index of the first semicolon, if there is one.
 fn comment_at(line: &[u8]) -> Option<usize>
     ensures { result ≡ position (λ b. b == 59) line.now }
 {
@@ -53,7 +53,7 @@ pub(crate) fn before_comment(line: &[u8]) -> &[u8]
     }
 }
 
-/// Where the first byte stands that is no blank.
+/// The index of the first byte that is no blank, if there is one.
 fn text_at(bytes: &[u8]) -> Option<usize>
     ensures { result ≡ position (λ b. not (is_blank b)) bytes.now }
 {

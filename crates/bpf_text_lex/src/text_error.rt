@@ -35,7 +35,7 @@ pub enum TextError {
     Refused {
         /// The least fault at that line.
         fault: TextFault,
-        /// The line, from 1; 0 stands for the whole text.
+        /// The line, from 1; 0 means the whole text.
         line: u32,
     },
     /// There was no memory for the answer.

@@ -30,7 +30,7 @@ pub fn next_word(line: &[u8]) -> Option<(&[u8], &[u8])>
     }
 }
 
-/// Where the first blank stands.
+/// The index of the first blank, if there is one.
 pub fn blank_at(line: &[u8]) -> Option<usize>
     ensures { result ≡ position is_blank line.now }
 {

@@ -160,7 +160,7 @@ operands_at find slot (kinds.One a) text = one_operand (value_at find slot a (tr
 operands_at find slot (kinds.Two a b) text = two_operands (both_at find slot a b (cut_comma text))
 operands_at find slot (kinds.Three a b c) text = three_operands (three_at find slot a b c (cut_comma text))
 
--- whether a word has the form of a kind, and its registers are there, whatever its numbers and labels are
+-- whether a word has the form of a kind, and its registers exist, whatever its numbers and labels are
 abbrev pub stands : Kind → List ℕ → Bool
 stands kind.Reg word = is_ok (register_at word)
 stands kind.RegOrImm word = if is_register word then is_ok (register_at word) else is_number word
@@ -179,7 +179,7 @@ abbrev pub three_stand : Kind → Kind → Kind → Option (List ℕ × List ℕ
 three_stand a b c None = false
 three_stand a b c (Some parts) = stands a (trim parts.0) && both_stand b c (cut_comma parts.1)
 
--- whether a text has the form of operands of these kinds, and its registers are there
+-- whether a text has the form of operands of these kinds, and its registers exist
 abbrev pub all_stand : Kinds → List ℕ → Bool
 all_stand kinds.Zero text = length text == 0
 all_stand (kinds.One a) text = stands a (trim text)

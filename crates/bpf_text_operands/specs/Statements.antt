@@ -108,7 +108,7 @@ abbrev pub mnemonic_slots : Mnemonic → ℕ
 mnemonic_slots (mnemonic.LoadImm k) = 2
 mnemonic_slots _ = 1
 
--- how many slots a line takes: none unless its form and its registers stand
+-- how many slots a line takes: none unless it has its form and its registers exist
 abbrev pub slots_where : Option (Mnemonic × List ℕ) → ℕ
 slots_where None = 0
 slots_where (Some s) = if all_stand (kinds_of s.0) s.1 then mnemonic_slots s.0 else 0

@@ -6,7 +6,7 @@ ghost use Rattle.bpf_text_operands.specs.Operands.{kinds_of};
 use bpf_insn_types::ImmKind;
 use bpf_text_lex::Mnemonic;
 
-/// What may stand as an operand.
+/// What an operand may be.
 #[derive(Clone, Copy)]
 pub enum Kind {
     /// A register.

@@ -280,7 +280,7 @@ fn address_stands(word: &[u8]) -> bool
     register_at(base).is_ok() && is_offset(offset)
 }
 
-/// Whether a word has the form of a kind, and its registers are there.
+/// Whether a word has the form of a kind, and its registers exist.
 fn stands(kind: Kind, word: &[u8]) -> bool
     ensures { result ≡ stands kind word.now }
 {
@@ -293,7 +293,7 @@ fn stands(kind: Kind, word: &[u8]) -> bool
     }
 }
 
-/// Whether two operands with a comma between them stand.
+/// Whether two operands with a comma between them have the forms of their kinds, and their registers exist.
 fn both_stand(kinds: (Kind, Kind), text: &[u8]) -> bool
     ensures { result ≡ both_stand kinds.0 kinds.1 (cut_comma text.now) }
 {
@@ -303,7 +303,7 @@ fn both_stand(kinds: (Kind, Kind), text: &[u8]) -> bool
     }
 }
 
-/// Whether three operands with commas between them stand.
+/// Whether three operands with commas between them have the forms of their kinds, and their registers exist.
 fn three_stand(first: Kind, others: (Kind, Kind), text: &[u8]) -> bool
     ensures { result ≡ three_stand first others.0 others.1 (cut_comma text.now) }
 {
@@ -313,7 +313,7 @@ fn three_stand(first: Kind, others: (Kind, Kind), text: &[u8]) -> bool
     }
 }
 
-/// Whether a text has the form of operands of these kinds, and its registers are there.
+/// Whether a text has the form of operands of these kinds, and its registers exist.
 pub(crate) fn all_stand(kinds: Kinds, text: &[u8]) -> bool
     ensures { result ≡ all_stand kinds text.now }
 {

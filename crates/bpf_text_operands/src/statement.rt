@@ -87,7 +87,7 @@ fn mnemonic_slots(mnemonic: Mnemonic) -> u32
     }
 }
 
-/// How many slots a line takes: those of its instruction where its form and its registers stand,
+/// How many slots a line takes: those of its instruction if it has its form and its registers exist,
 /// whatever its numbers and labels are, and else none.
 #[tactic(auto, unfolding(crate::specs::Statements::slots_at))]
 pub fn line_slots(line: &[u8]) -> u32

@@ -22,7 +22,7 @@ use Rattle.bpf_verify_origin.specs.Sources.{source_before}
 abbrev pub broken_rule : Fault → BrokenRule
 broken_rule fault = record { rule = fault.rule; slot = fault.slot }
 
--- the verifier's pass comes to a slot: the program is within the limits, an instruction starts there, and no slot
+-- the verifier's pass reaches a slot: the program is within the limits, an instruction starts there, and no slot
 -- before it breaks a rule
 pub record IsPassedTo (program : Program) (slot : ℕ) : Type 0 where
   pub within : WithinLimits program (slot_count program.insns)
@@ -39,12 +39,12 @@ abbrev pub is_past : Option BrokenRule → ℕ → Bool
 is_past None slot = false
 is_past (Some fault) slot = nat_le fault.slot slot
 
--- the abstract state before a slot to which the pass comes
+-- the abstract state before a slot that the pass reaches
 pub record IsStateBefore (program : Program) (slot : ℕ) (state : State) : Type 0 where
   pub passed : IsPassedTo program slot
   pub is : state_before program slot ≡ Some state
 
--- the abstract state on the edges from a slot to which the pass comes to another
+-- the abstract state on the edges from a slot that the pass reaches to another slot
 pub record IsStateBetween (program : Program) (from to : ℕ) (state : State) : Type 0 where
   pub passed : IsPassedTo program from
   pub is : state_between program from to ≡ Some state

@@ -33,7 +33,7 @@ pub record EntersAt (program : Program) (slot : ℕ) (before m : Machine) : Type
   pub at : before.slot ≡ slot
   pub enters : Enters (step program before) m
 
--- a run has just come to where a source is: main starts, the last step wrote the register, it entered a callback, or
+-- a run has just reached a source: main starts, the last step wrote the register, it entered a callback, or
 -- edges from several slots meet here
 abbrev pub IsThere : Program → Source → ℕ → List Machine → Machine → Type 0
 IsThere program Start reg [] m = Unit {0}
@@ -42,19 +42,19 @@ IsThere program (Entered slot) reg (before ∷ earlier) m = EntersAt program slo
 IsThere program (Meeting slot) reg passed m = m.slot ≡ slot
 IsThere program _ reg passed m = ⊥
 
--- the value of a register at the machine to which a run comes is from a source: the run was there, and each step since
+-- the value of a register at the machine that a run reaches is from a source: the run was there, and each step since
 -- then left the register alone
 abbrev pub ComesFrom : Program → Source → ℕ → List Machine → Machine → Type 0
 ComesFrom program source reg [] m = IsThere program source reg [] m
 ComesFrom program source reg (before ∷ earlier) m = IsThere program source reg (before ∷ earlier) m
     ⊎ (LeavesAlone program reg before m × ComesFrom program source reg earlier before)
 
--- a source that is told of a register before a slot holds on runs: of each that comes there
+-- a source of a register's value before a slot holds on runs: on each that reaches the slot
 abbrev pub IsSourceBefore : Program → (slot reg : ℕ) → Source → Type 0
 IsSourceBefore program slot reg source = (passed : List Machine) (m : Machine) → ComesTo program passed m
     → m.slot ≡ slot → ComesFrom program source reg passed m
 
--- what is told of where the values of a program's registers come from holds on its runs
+-- the sources of the values of a program's registers hold on its runs
 pub record SourcesHold (program : Program) : Type 0 where
   pub before : (slot reg : ℕ) → IsSourceBefore program slot reg (source_before program slot reg)
 

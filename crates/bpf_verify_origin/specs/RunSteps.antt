@@ -12,8 +12,8 @@ use Rattle.bpf_verify_origin.specs.Runs.{RunsTo}
 abbrev pub AreWords : List ℕ → Type 0
 AreWords words = AllByRecursion (λ (word : ℕ). word < 2 ^ 64) words
 
--- where a run comes to a machine, and steps lead from there to another, over the maps' words, a run that passed all of
--- that comes to it too; and the words stay words
+-- if a run reaches a machine, and steps lead from there to another, over the maps' words, the run goes on to that one;
+-- and the words stay below 2 ^ 64
 abbrev pub StepsAreRuns : Type 0
 StepsAreRuns = (program : Program) → AreInsns program.insns → (passed : List Machine) (m : Machine)
     → RunsTo program passed m → (words : List ℕ) → AreWords words

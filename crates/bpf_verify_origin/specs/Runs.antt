@@ -27,31 +27,31 @@ abbrev pub Enters : StepOutcome → Machine → Type 0
 Enters (Loops call next) m = (index : ℕ) × (index < call.n) × (m ≡ callback_entry call index)
 Enters _ m = ⊥
 
--- a run comes to a machine by those that it passed, the latest first: main starts, at any argument, and each step goes
+-- a run reaches a machine by those that it passed, the latest first: main starts, at any argument, and each step goes
 -- on or enters a callback
 abbrev pub RunsTo : Program → List Machine → Machine → Type 0
 RunsTo program [] m = (argument : ℕ) × (argument < 2 ^ 64) × (m ≡ main_entry argument)
 RunsTo program (before ∷ earlier) m = (GoesOnTo (step program before) m ⊎ Enters (step program before) m)
     × RunsTo program earlier before
 
--- a run comes to a machine, having passed only slots before the first fault
+-- a run reaches a machine, having passed only slots before the first fault
 pub record ComesTo (program : Program) (passed : List Machine) (m : Machine) : Type 0 where
   pub run : RunsTo program passed m
   pub early : AllByRecursion (λ (before : Machine). before.slot < passed_slots program) passed
 
--- what is known before a slot holds on runs: it contains each machine at which one comes to the slot, and where nothing
--- is known none comes
+-- what is known before a slot holds on runs: it contains each machine with which a run reaches the slot; if nothing is
+-- known, no run reaches it
 abbrev pub HoldsBefore : Program → ℕ → Option State → Type 0
 HoldsBefore program slot known = (passed : List Machine) (m : Machine) → ComesTo program passed m → m.slot ≡ slot
     → ContainedIf known m
 
--- the same of what is known on the edges from one slot to another, where the run comes from there
+-- what is known on the edges from one slot to another holds on the runs that go from the first to the second
 abbrev pub HoldsBetween : Program → (from to : ℕ) → Option State → Type 0
 HoldsBetween program from to known = (before : Machine) (earlier : List Machine) (m : Machine)
     → ComesTo program (before ∷ earlier) m → before.slot ≡ from → m.slot ≡ to → ContainedIf known m
 
--- what is known of a program's slots holds on its runs: before each slot to which one comes an instruction starts and
--- the abstract state contains the machine, and so does that on the edges by which it came there
+-- what is known of a program's slots holds on its runs: an instruction starts at each slot that a run reaches, and the
+-- abstract state before the slot contains the machine, and so does that on the edges by which the run reached it
 pub record StatesHold (program : Program) : Type 0 where
   pub before : WithinLimits program (slot_count program.insns) → (passed : List Machine) (m : Machine)
       → ComesTo program passed m → ContainedBefore program m

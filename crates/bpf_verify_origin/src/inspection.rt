@@ -121,7 +121,7 @@ impl Inspection {
     }
 
     /// The abstract state before a slot, up to the first fault where an instruction starts; None where no edge
-    /// leads there. A run that comes there is within it.
+    /// leads there. A run that reaches the slot is within it.
     pub fn state(&self, slot: u32) -> Option<State>
         ensures passed { IfSome result (λ state. IsStateBefore self.now slot state) }
         ensures whole { IsPassedTo self.now slot → result ≡ state_before self.now slot }
@@ -138,7 +138,7 @@ impl Inspection {
     }
 
     /// The abstract state on the edges from one slot, where an instruction starts before the first fault, to
-    /// another; None where none leads there. A run that comes to the one from the other is within it.
+    /// another; None if none leads there. A run that goes from the first slot to the second is within it.
     pub fn edge(&self, from: u32, to: u32) -> Option<State>
         ensures passed { IfSome result (λ state. IsStateBetween self.now from to state) }
         ensures whole { IsPassedTo self.now from → result ≡ state_between self.now from to }
@@ -157,8 +157,8 @@ impl Inspection {
     }
 
     /// The edges out of a slot before the first fault, with the abstract states on them; no edges where no instruction
-    /// starts there, from the first fault on, and where the slot isn't reached. A run that comes to another slot
-    /// from there is within the abstract state on the edges to that one.
+    /// starts there, from the first fault on, and where the slot isn't reached. A run that goes from the slot
+    /// to another is within the abstract state on the edges to that other.
     pub fn flow(&self, slot: u32) -> Outflow
         ensures is { result ≡ flow_passed self.now slot }
         ensures runs { (to : ℕ) → HoldsBetween self.now slot to (received_all to None result) }
@@ -180,7 +180,7 @@ impl Inspection {
         inflow_in(self.inflows.as_slice(), slot)
     }
 
-    /// Where the value of a register before a slot comes from, also on each run that comes there.
+    /// Where the value of a register before a slot comes from, also on each run that reaches the slot.
     pub fn source(&self, slot: u32, reg: Reg) -> Source
         ensures is { result ≡ source_before self.now slot reg }
         ensures runs { IsSourceBefore self.now slot reg result }

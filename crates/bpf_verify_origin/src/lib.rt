@@ -1,6 +1,6 @@
-//! What the verifier knows of a program, told: its first fault, the abstract state before each instruction up
-//! to that fault, what is on each edge, and where the value of a register comes from. What is told so is true of
-//! each run of the machine up to there: laws say it, and nothing of them runs.
+//! What the verifier knows of a program: its first fault, the abstract state before each instruction up
+//! to that fault, the state on each edge, and where the value of a register comes from. Laws state that all
+//! this holds on each run of the machine up to that fault. They are for proofs alone.
 //!
 //! ```text
 //! let inspection = inspect(alloc, unit)?;

@@ -14,7 +14,7 @@ use std::alloc::Global;
 use std::marker::Model;
 use std::ptr::null_mut;
 
-/// A machine behind a pointer, or none.
+/// An owning pointer to a machine, or none.
 #[repr(C)]
 pub struct Held {
     at: *mut u8,

@@ -1,5 +1,5 @@
-//! The library for C: machines behind handles. `include/bpfspec.h` declares its calls, and docs/C_LIBRARY.md says what
-//! each is for. A handle is moved, and no two calls have it at once.
+//! The library for C: handles that own machines. `include/bpfspec.h` declares its calls, and docs/C_LIBRARY.md says
+//! what each is for. A handle is moved, and no two calls have it at once.
 #![tactic(auto)]
 
 mod calls;

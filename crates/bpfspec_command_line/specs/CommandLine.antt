@@ -68,7 +68,7 @@ blocks_rule = valued_rule (codes "blocks") (codes "4")
 abbrev pub way_rule : Rule
 way_rule = valued_rule (codes "way") (codes "pays")
 
--- a command that is told so, whose arguments are its own
+-- a command with this description, whose arguments are its own
 pub record IsCommand (app : App) (command : Command) : Type 0 where
   pub app_is : app_of command ≡ app
   pub own : (out-Command command).has_globals ≡ false
@@ -84,7 +84,7 @@ AreArgs [] [] = Unit {0}
 AreArgs (rule ∷ rules) (arg ∷ args) = IsArg rule arg × AreArgs rules args
 AreArgs _ _ = ⊥
 
--- commands that are told so, one by one
+-- commands with these descriptions, one by one
 abbrev pub AreCommands : List App → List Command → Type 0
 AreCommands [] [] = Unit {0}
 AreCommands (app ∷ apps) (command ∷ commands) = IsCommand app command × AreCommands apps commands

@@ -1,4 +1,4 @@
-//! Why a command line asks for no job, as it is told.
+//! Why a command line asks for no job, as it is printed.
 
 ghost use Rattle.std.specs.Prelude.{◌≡◌, ◌↔◌, IsTrue, IfOk, true, false};
 ghost use Rattle.std.specs.IoError.{error_kind};
@@ -39,7 +39,7 @@ fn fault_of(alloc: Global, error: &clap::Error) -> LineFault
     }
 }
 
-/// The fault of words that are wrong in a way that clap doesn't judge, told as clap tells its own: `Usage` with this
+/// The fault of words that are wrong in a way that clap doesn't check, printed as clap's own are: `Usage` with this
 /// text and the command's usage, or `Memory`.
 fn own_fault(alloc: Global, command: &mut Command<'_>, wrong: &str) -> LineFault
     ensures { is_help result ≡ false }
@@ -53,7 +53,7 @@ fn own_fault(alloc: Global, command: &mut Command<'_>, wrong: &str) -> LineFault
     }
 }
 
-/// What is told of an option whose value is none of those that are wanted.
+/// The message for an option whose value is none of those that are wanted.
 fn other_value(
     alloc: Global,
     matches: &ArgMatches<'_>,
@@ -65,7 +65,7 @@ fn other_value(
     format!(in alloc; "invalid value '{given}' for '{option}': not {wanted}")
 }
 
-/// What is told of the first option whose value clap takes and the program doesn't.
+/// The message for the first option whose value clap takes and the program doesn't.
 fn wrong_value(alloc: Global, matches: &ArgMatches<'_>) -> Result<String, AllocError> {
     if argument(matches).is_none() {
         let numbers = "a number from 0 to 18446744073709551615";
@@ -74,7 +74,7 @@ fn wrong_value(alloc: Global, matches: &ArgMatches<'_>) -> Result<String, AllocE
     other_value(alloc, matches, "test", "--test <TEST>", "flow or lrpd")
 }
 
-/// What is told of the first option of `run` whose value clap takes and the program doesn't.
+/// The message for the first option of `run` whose value clap takes and the program doesn't.
 fn wrong_plan(alloc: Global, matches: &ArgMatches<'_>) -> Result<String, AllocError> {
     if workers_of(matches).is_none() {
         return other_value(
@@ -100,7 +100,7 @@ fn wrong_plan(alloc: Global, matches: &ArgMatches<'_>) -> Result<String, AllocEr
     wrong_value(alloc, matches)
 }
 
-/// The fault of a value of the subcommand that has this name, told with its usage.
+/// The fault of a value of the subcommand that has this name, printed with that subcommand's usage.
 fn subcommand_fault(
     alloc: Global,
     command: Command<'_>,
@@ -160,7 +160,7 @@ pub(crate) fn value_fault(alloc: Global, matches: &ArgMatches<'_>) -> Result<Lin
     )
 }
 
-/// The fault of words that are wrong in such a way, told with the usage of the whole program.
+/// The fault of words that are wrong as this text says, printed with the usage of the whole program.
 fn program_fault(alloc: Global, wrong: &str) -> LineFault
     ensures { is_help result ≡ false }
 {

@@ -19,7 +19,7 @@ pub enum UnitForm {
 /// What is done with an input.
 #[derive(Clone, Copy, Debug)]
 pub enum Mode {
-    /// Tells whether a unit of this form is accepted.
+    /// Reports whether a unit of this form is accepted.
     Verify {
         form: UnitForm,
     },
@@ -29,7 +29,7 @@ pub enum Mode {
         arg: u64,
     },
     /// Runs a unit of this form in order up to its first valid loop call, with this argument, and replays
-    /// that loop, which is judged by this test.
+    /// that loop, which is checked for conflicts by this test.
     Replay {
         form: UnitForm,
         arg: u64,
@@ -73,12 +73,12 @@ pub enum Job {
     Facts(Ask),
 }
 
-/// A job, and whether more is told of it.
+/// A job, and whether statistics of it are printed.
 #[derive(Clone, Copy, Debug)]
 pub struct Request {
     /// The job.
     pub job: Job,
-    /// Whether it is told on standard error how the loops of a run went.
+    /// Whether to print on standard error how the loops of a run were executed.
     pub stats: bool,
 }
 

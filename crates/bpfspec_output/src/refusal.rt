@@ -1,4 +1,4 @@
-//! Why an input has no result, and the line that tells it.
+//! Why an input has no result, and the line that says so.
 
 ghost use Rattle.std.specs.Prelude.{◌≡◌, ◌++◌, IfOk, OnOk};
 ghost use Rattle.std.specs.String.{string_bytes};
@@ -12,7 +12,7 @@ use bpf_verify_model::Rule;
 use loop_core_model::{ReplayFault, SplitFault};
 use std::alloc::{AllocError, Global};
 
-/// The line that tells that memory ran out.
+/// The line printed if memory ran out.
 pub const MEMORY_LINE: &[u8] = b"refused memory\n";
 
 /// A section of an input.

@@ -2,7 +2,7 @@
 use Rattle.std.specs.Prelude.{ℕ, ℤ, Bool, true, false, List, ◌++◌, codes, Option, Some, None}
 use Rattle.std.specs.Fmt.{decimal, signed_decimal}
 
--- a name, behind the field before
+-- a field's name, after the comma that separates it from the field before
 abbrev pub key : List ℕ → List ℕ
 key name = codes ",\"" ++ name ++ codes "\":"
 

@@ -1,4 +1,4 @@
-//! What is printed of a run beside its answer: which way each of its loops went, and how long it took.
+//! What is printed of a run besides its answer: the strategy and time of each loop, and the time of the program.
 
 use bpfspec_ways::{reason_of, write_count, write_way};
 use spec_run::{LoopStats, Stats};
@@ -15,7 +15,7 @@ fn print_time(out: &mut String, time: Option<Duration>) -> Result<(), AllocError
     write!(out, "{millis}.{micros:03} ms")
 }
 
-/// Adds how many iterations a loop was called for, and before that how many there were where one broke it.
+/// Adds how many iterations a loop was called for, and before that how many there were if one broke it.
 fn print_iterations(out: &mut String, told: &LoopStats) -> Result<(), AllocError> {
     if told.answer < told.called_for {
         write!(out, "{} of ", told.answer)?;

@@ -10,7 +10,7 @@
 //! let gathered = gather(alloc, &program, &call, &maps, &split, blocks, Test::Flow)?;
 //! // gathered.verdict() is Verdict::Parallel, gathered.answer() 8, and gathered.element(0) what the loop leaves there
 //! let pages = gathered.left_pages(alloc)?;
-//! drop(gathered);                                                         // the maps were lent to it
+//! drop(gathered);                                                         // it borrowed the maps
 //! let mut ordered = maps.try_copy(alloc)?;
 //! let answer = in_order(&program, &call, &mut ordered);                   // 8 too
 //! store_pages(&mut maps, &pages);                                         // the maps are as those in order

@@ -1,4 +1,4 @@
--- A batch that is folded into a block site by site, and what that comes to lane by lane.
+-- A batch that is folded into a block site by site, and the result of that lane by lane.
 use Rattle.std.specs.Prelude.{◌≡◌, ℕ, Bool, true, false, ◌==◌, ◌&&◌, if◌then◌else◌}
 use Rattle.std.specs.Prelude.{List, [], ◌∷◌, ◌++◌, map, Option, Some, None}
 use Rattle.std.specs.List.{AllPairs, list_any}

@@ -24,7 +24,7 @@ impl<'l, 'a> SpeculativeLoop<'l, 'a> {
     /// Runs the block of a number, which the split has: its iterations from its start on, up to the first that
     /// returns 1, or all, each on the start maps. The gate's `turn` is called for each of them before it.
     ///
-    /// It fails where there is no memory.
+    /// It fails if there is no memory.
     pub fn run_block<G: Gate>(&self, number: u32, gate: &G) -> Result<Block<'a>, AllocError>
         requires { number < blocks_of self.now.bounds }
         ensures { IfOk result (λ b. IsBlockOf self.now number (shown b)) }
@@ -33,7 +33,7 @@ impl<'l, 'a> SpeculativeLoop<'l, 'a> {
         self.run_block_in(workspace, number, gate)
     }
 
-    /// The same in a workspace that is for the loop.
+    /// Runs the block of a number, as `run_block` does, in a workspace that is for the loop.
     pub fn run_block_in<G: Gate>(
         &self,
         workspace: BlockWorkspace,

@@ -1,6 +1,6 @@
 //! Blocks of a speculative loop: the iterations of an interval, each on the loop's start words, and what is kept of
-//! them. Iterations that may go together do, up to 128 at a time: what they did is
-//! folded in site by site, where that comes to the same as one iteration after another.
+//! them. Iterations that can be run in lockstep are, up to 128 at a time. Their accesses are
+//! folded in site by site, if the result is that of one iteration after another.
 #![tactic(auto)]
 
 mod batching;

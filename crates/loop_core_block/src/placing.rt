@@ -58,7 +58,7 @@ fn are_placed(copy: &Private, entries: &[Entry], lanes: u32) -> bool
     true
 }
 
-/// The same of one site.
+/// Whether all pages that lanes may touch by a site are placed. It may say no if these are more pages than lanes.
 fn is_site_placed(copy: &Private, elements: Elements, lanes: u32) -> bool
     requires some { 0 < lanes }
     requires room { lanes ≤ 128 }
@@ -73,7 +73,8 @@ fn is_site_placed(copy: &Private, elements: Elements, lanes: u32) -> bool
     }
 }
 
-/// The same of elements by steps from a first one.
+/// Whether the pages of lanes' elements, by steps from a first one, are placed. It may say no if these are more pages
+/// than lanes.
 fn are_steps_placed(copy: &Private, first: u32, step: Stride, lanes: u32) -> bool
     requires some { 0 < lanes }
     requires room { lanes ≤ 128 }
@@ -108,7 +109,8 @@ fn last_step_down(first: u32, step: u32, lanes: u32) -> u32
     u64::from(first).saturating_sub(u64::from(lanes - 1) * u64::from(step)) as u32
 }
 
-/// The same as of a site, of the elements from one to another.
+/// Whether the pages of the elements from one to another are placed. It says no at once if the elements don't fit in as
+/// many pages as there are lanes.
 fn is_range_placed(copy: &Private, low: u32, high: u32, lanes: u32) -> bool
     requires room { lanes ≤ 128 }
     ensures { result ≡ true → ArePlaced (copy_of copy.now) low high }

@@ -56,7 +56,7 @@ pub fn most_instructions(program: &Verified, slot: u32) -> u32
     ensures enough { most_from program.now slot ≤ result }
     ensures few { result ≤ 4096 }
 {
-    // This tells the proof that the program is accepted.
+    // For the proof: the program is accepted.
     let _unit = program.unit();
     for function in 1..=program.callbacks() {
         if program.start(function) == slot {
@@ -80,7 +80,7 @@ impl<'c, 'a> Runner<'c, 'a> {
         ensures test { test_of result.planes.tested ≡ of.now.test }
         ensures none { (first : ℕ) → RunnerHasRun first first [] result }
     {
-        // This tells the proof how many words the maps have.
+        // For the proof: the maps have as many words as their sizes add up to.
         let _sizes = of.start.sizes();
         let BlockWorkspace { copy, planes } = workspace;
         Runner {
@@ -92,8 +92,8 @@ impl<'c, 'a> Runner<'c, 'a> {
     }
 
     /// Runs the iterations from a first index up to, and not with, another, or up to the first that breaks.
-    /// Returns the index at which it broke. The gate's `turn` is called before each iteration; where iterations go
-    /// together, for each of them before the first.
+    /// Returns the index at which it broke. The gate's `turn` is called before each iteration; if iterations run
+    /// in lockstep, for each of them before the first.
     pub(crate) fn run<G: Gate>(
         &mut self,
         of: &SpeculativeLoop<'c, 'a>,
@@ -111,17 +111,17 @@ impl<'c, 'a> Runner<'c, 'a> {
         if first > 0 {
             return self.in_batches(of, first, past, MOST, gate);
         }
-        // A loop that breaks at its first iteration is told of before what batches need is cleared, so that other
-        // workers begin fewer blocks in vain.
+        // The first iteration runs alone: if it breaks, other workers see that before what batches need is cleared, and
+        // begin fewer blocks in vain.
         if let Some(broke) = self.one_by_one(of.alloc, first, first + 1, gate)? {
             return Ok(Some(broke));
         }
         self.in_batches(of, first + 1, past, MOST - 1, gate)
     }
 
-    /// The same, in batches of iterations that go together where they can, and else one by one: then up to four
-    /// times as many as the last time before a batch is tried again. The first batch is of at most so many lanes, each
-    /// after it of at most 128.
+    /// Runs these iterations as `run` does, in batches in lockstep if they can be, and else one by one: then up to four
+    /// times as many as the last time before a batch is tried again. The first batch has at most so many lanes, each
+    /// after it at most 128.
     #[inline(never)]
     fn in_batches<G: Gate>(
         &mut self,

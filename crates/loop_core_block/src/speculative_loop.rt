@@ -8,8 +8,8 @@ use loop_core_split::Split;
 use std::alloc::Global;
 use std::marker::Model;
 
-/// A loop that is run speculatively, lent to all that work on it: a loop call that main of this program made, the maps
-/// that it starts on, which are of the program's sizes, a split of its iterations, and the test that judges it.
+/// A loop that is run speculatively, borrowed by all that work on it: a loop call that main of this program made, the
+/// maps that it starts on, which are of the program's sizes, a split of its iterations, and the test that judges it.
 #[derive(Drop)]
 pub struct SpeculativeLoop<'l, 'a> {
     /// Where its blocks, and what is gathered of them, are kept.
@@ -18,7 +18,7 @@ pub struct SpeculativeLoop<'l, 'a> {
     pub program: &'l Verified,
     /// The call: a callback, and how often it is called.
     pub call: &'l LoopCall,
-    /// The maps as they are at the call. They don't change while they are lent.
+    /// The maps as they are at the call. They don't change while they are borrowed.
     pub start: &'a Maps,
     /// The blocks of its iterations.
     pub split: &'l Split,

@@ -35,7 +35,7 @@ order_from least summaries number first (past ∷ bounds) =
     else with_place (position_from (λ (s : Summary). s.number == number) 0 summaries)
     (order_from least summaries (number + 1) past bounds)
 
--- the same of a whole split
+-- the places of the blocks of a whole split that don't start past the least break, if all of them are there
 abbrev pub order_told : Option ℕ → List Summary → List ℕ → Option (List ℕ)
 order_told least summaries [] = Some []
 order_told least summaries (first ∷ bounds) = order_from least summaries 0 first bounds

@@ -29,7 +29,7 @@ pub struct CarriedOut {
     pub answer: u32,
 }
 
-/// What a loop comes to.
+/// The outcome of a loop.
 #[derive(Drop)]
 pub struct LoopOutcome {
     /// Whether it passed the test.
@@ -41,8 +41,8 @@ pub struct LoopOutcome {
 }
 
 impl Decision {
-    /// Does to the maps what was decided of a loop call that main of this program made, from these maps, which are of
-    /// the program's sizes: they are as the loop leaves them. It was decided by this test.
+    /// Applies to the maps the decision by this test on a loop call on them that main of this program made: they are
+    /// then as the loop leaves them. The maps are of the program's sizes.
     pub fn carry_out(
         self,
         program: &Verified,
@@ -70,7 +70,7 @@ impl Decision {
         }
     }
 
-    /// Does the same to a copy of the maps, which stay as they are.
+    /// Applies the decision, as `carry_out` does, to a copy of the maps, which stay as they are.
     pub fn carry_out_on_copy(
         self,
         alloc: Global,

@@ -130,7 +130,7 @@ impl<'a> Gathered<'a> {
         left_in_turn(alloc, self, &numbers)
     }
 
-    /// The same, worked out by several threads where enough pages were touched.
+    /// What `left_pages` returns, worked out by several threads if enough pages were touched.
     pub fn left_pages_in_threads<R: Threads + Sync>(
         &self,
         rt: &R,

@@ -1,4 +1,4 @@
-//! Blocks of a speculative loop, gathered: which of them count, their verdict on the loop, and what it comes to.
+//! Blocks of a speculative loop, gathered: which of them count, their verdict on the loop, and its outcome.
 #![tactic(auto)]
 
 mod decision;

@@ -1,4 +1,4 @@
-//! What a gathered loop comes to.
+//! The outcome of a gathered loop.
 
 ghost use Rattle.std.specs.Prelude.{◌≡◌, IfOk};
 ghost use Rattle.bpf_verify_sound.specs.Soundness.{OverApproximatesCall};
@@ -12,9 +12,9 @@ use bpf_verify::Verified;
 use loop_core_model::{Test, Verdict};
 use std::alloc::{AllocError, Global};
 
-/// What a loop call comes to that main of this program made, and whose blocks were gathered for this test: after a
-/// pass, what the blocks give; else the loop is run in order on a copy of the start maps, which are of the program's
-/// sizes. They don't change.
+/// The outcome of a loop call that main of this program made, and whose blocks were gathered for this test: after a
+/// pass, what the blocks give; else the loop is run in order on a copy of the start maps. These are of the program's
+/// sizes, and don't change.
 #[tactic(auto, using(crate::proofs::PassLaws::passes_so))]
 pub fn commit_or_rerun(
     alloc: Global,

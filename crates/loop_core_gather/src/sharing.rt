@@ -55,7 +55,7 @@ pub(crate) fn left_in_turn(
     Ok(pages)
 }
 
-/// The same, worked out by several threads: each page by one of them.
+/// The pages of these numbers, as `left_in_turn` returns them, worked out by several threads: each page by one of them.
 pub(crate) fn left_in_threads<R: Threads + Sync>(
     rt: &R,
     alloc: Global,

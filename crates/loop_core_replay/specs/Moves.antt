@@ -29,19 +29,19 @@ abbrev pub after_transition : Standing → (number : ℕ) → WorkerTransition �
 after_transition standing number move =
     record { shared = move.shared; workers = slice_set standing.workers number move.worker }
 
--- the event is enabled: whatever breaks it moves the worker so
+-- the event is enabled: whatever breaks, it moves the worker so
 pub record IsTransition (bounds : List ℕ) (kind : EventKind) (worker : Worker) (shared : Shared)
     (move : WorkerTransition) : Type 0 where
   pub fits : TransitionFits bounds move
   pub moves : (breaks : ℕ → Bool) (runs : List ℕ) → transition breaks bounds kind (schedule_worker worker)
       (shared_of shared runs) ≡ Some (transition_result move runs)
 
--- the same, or it is this iteration's turn
+-- whatever breaks, the event moves the worker so; or it is the turn of this iteration
 abbrev pub IsAskedFor : List ℕ → EventKind → Worker → Shared → Asked → Type 0
 IsAskedFor bounds kind worker shared (Moves move) = IsTransition bounds kind worker shared move
 IsAskedFor bounds kind worker shared (Iteration block index) = (kind ≡ kinds.Turn) × (worker ≡ Running block index)
 
--- it isn't, whatever breaks
+-- the event isn't enabled, whatever breaks
 abbrev pub IsNeverEnabled : List ℕ → EventKind → Worker → Shared → Type 0
 IsNeverEnabled bounds kind worker shared =
     (breaks : ℕ → Bool) (runs : List ℕ) → transition breaks bounds kind (schedule_worker worker) (shared_of shared runs)

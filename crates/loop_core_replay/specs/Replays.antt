@@ -16,7 +16,7 @@ use Rattle.loop_core_block.specs.Loops.{LoopOf}
 use Rattle.loop_core_block.specs.LoopBlocks.{IsBlockOf}
 use Rattle.loop_core_block.specs.Shown.{shown}
 
--- the blocks that are under way, by number, and those that were run, the latest first
+-- the blocks that are active, by number, and those that were run, the latest first
 pub record BlocksOf : Type 0 where
   pub under_way : List (Option Block)
   pub ran : List Block
@@ -49,7 +49,7 @@ pub record AreBlocks (s : LoopOf) (blocks : BlocksOf) : Type 0 where
   pub under_way : (number : ℕ) → IfBlockOf s number (slice_index_or blocks.under_way number None)
   pub ran : AllByRecursion (λ b. IsBlockOf s (shown b).number (shown b)) blocks.ran
 
--- a block is under way
+-- a block is active
 pub record IsUnderWay (blocks : BlocksOf) (number : ℕ) : Type 0 where
   pub within : number < length blocks.under_way
   pub there : is_some (slice_index_or blocks.under_way number None) ≡ true

@@ -1,4 +1,4 @@
--- Workers and what they share, as they stand while a list of events goes by.
+-- Workers and what they share, while a list of events goes by.
 use Rattle.std.specs.Prelude.{ℕ, ◌<◌, ◌≤◌, List, map, slice_index_or}
 use Rattle.loop_core_model.specs.Intervals.{blocks_of, end_of}
 use Rattle.loop_core_model.specs.Events as events

@@ -29,7 +29,7 @@ IsStepOf ran steps.Done = ran ≡ None
 IsStepOf ran (steps.Ran block) = ran ≡ Some block
 IsStepOf ran (steps.Turn turn) = ⊥
 
--- the block that it tells is one of the split's
+-- the block that a step names is one of the split's
 abbrev pub StepFits : List ℕ → Step → Type 0
 StepFits bounds steps.Done = Unit {0}
 StepFits bounds (steps.Ran block) = block < blocks_of bounds

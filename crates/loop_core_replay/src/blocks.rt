@@ -10,7 +10,7 @@ use loop_core_split::{NoGate, Split};
 use std::alloc::{AllocError, Global};
 use std::marker::Model;
 
-/// The blocks that a replay runs. A block is run as a whole when a worker comes to its first iteration; then the worker
+/// The blocks that a replay runs. A block is run as a whole when a worker reaches its first iteration; then the worker
 /// has its turns.
 #[derive(Drop)]
 pub(crate) struct Blocks<'a> {
@@ -44,7 +44,7 @@ impl<'a> Blocks<'a> {
         })
     }
 
-    /// Where a block breaks, which is under way then.
+    /// Where a block breaks, which is active then.
     pub(crate) fn begin(
         &mut self,
         of: &SpeculativeLoop<'_, 'a>,
@@ -66,7 +66,7 @@ impl<'a> Blocks<'a> {
         Ok(broke)
     }
 
-    /// A worker has run this block, which is under way.
+    /// A worker has run this block, which is active.
     pub(crate) fn end(&mut self, number: u32) -> Result<(), AllocError>
         requires { IsUnderWay self.old number }
         ensures { OnOk result ((l : LoopOf) → AreBlocks l self.old → BlockHasRun l number self.old self.new) }

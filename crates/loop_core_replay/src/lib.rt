@@ -1,4 +1,4 @@
-//! The replay of a list of events: what a speculative loop comes to where its workers do what the list says, or the
+//! The replay of a list of events: the outcome of a speculative loop whose workers do what the list says, or the
 //! first fault of a list that is no schedule.
 //!
 //! ```text

@@ -19,7 +19,7 @@ use loop_core_split::Split;
 use std::alloc::Global;
 
 /// Replays a list of events on a loop call that main of this program made: its workers do what the list says, on the
-/// blocks of this split. Gives what the loop comes to from these maps, which stay as they are. The maps are of the
+/// blocks of this split. Returns the loop's outcome from these maps, which stay as they are. The maps are of the
 /// program's sizes, and the split is of the call's iterations.
 ///
 /// A list that is no schedule is refused by its first fault: E1 (`NoSuchWorker`) a worker above 15, E2 (`NotEnabled`)

@@ -103,8 +103,8 @@ impl Workers {
         }
     }
 
-    /// Does a turn that `begin` told, whose iteration broke or not, and returns the block where it was run to its
-    /// break or its end with it. The split is the one that these workers share.
+    /// Does a turn that `begin` returned, whose iteration broke or not. Returns the block if the turn ran it to its
+    /// break or its end. The split is the one that these workers share.
     pub fn finish(&mut self, split: &Split, turn: PendingIteration, broke: bool) -> Option<u32>
         requires fits { WorkersFit split.now self.old }
         requires before { IsBefore self.old turn }

@@ -1,7 +1,7 @@
 //! Gates: what a test may put before the blocks and the iterations of a loop.
 
-/// What a worker calls as it runs a loop. Each call returns, and tells the worker nothing: whatever a gate
-/// does, the loop comes to the same.
+/// What a worker calls as it runs a loop. Each call returns, and gives the worker nothing: whatever a gate
+/// does, the loop's outcome is the same.
 pub trait Gate: Sync {
     /// A worker has claimed the block of this number, and looks next.
     fn begin(&self, block: u32);

@@ -14,7 +14,7 @@ use Rattle.bpf_step_ir.specs.declared.plain_op.PlainOp.TheVariants.{Lookup, Call
 use Rattle.bpf_step_ir.specs.PlainRun.{op_of}
 use Rattle.loop_core_model.specs.Actions.{is_same}
 
--- an atomic operation applies this operator, and doesn't tell what was there
+-- an atomic operation applies this operator, and doesn't load the old value
 abbrev pub is_simple_by : Op → AtomicOp → Bool
 is_simple_by op (Simple simple) = is_same op (map_operator simple)
 is_simple_by op (Fetch simple) = false
@@ -26,7 +26,7 @@ abbrev pub is_whole_by : Op → Width → AtomicOp → Bool
 is_whole_by op W32 atomic = false
 is_whole_by op W64 atomic = is_simple_by op atomic
 
--- an operation accesses no element of the maps, or reduces a whole one by this operator without telling what was there
+-- an operation accesses no element of the maps, or reduces a whole one by this operator without loading the old value
 abbrev pub keeps_to : Op → PlainOp → Bool
 keeps_to op (LoadElement width extension dst base offset) = false
 keeps_to op (StoreElement width base offset value) = false
@@ -50,8 +50,8 @@ keeps_to op (CallLoop callback ctx) = true
 abbrev pub is_between : (from past slot : ℕ) → Bool
 is_between from past slot = nat_le from slot && nat_lt slot past
 
--- an operation at one of these slots leads to these alone: it ends the run, or jumps to one of them, or goes on behind
--- itself
+-- an operation at one of these slots leads to these alone: it ends the run, or jumps to one of them, or falls
+-- through to one of them
 abbrev pub stays_within : (from past slot : ℕ) → PlainOp → Bool
 stays_within from past slot Stop = true
 stays_within from past slot Exit = true

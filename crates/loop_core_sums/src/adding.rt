@@ -30,7 +30,7 @@ impl<'l> SumLoop<'l> {
             → RanTo self.now.program self.now.call from to maps.old maps.new result }
     {
         for sum in sums {
-            // These tell the proof that words are below 2^64, and how many there are.
+            // For the proof: words are below 2^64, and `maps` and `sum.maps` have as many as their sizes add up to.
             let _words = maps.words();
             let _sizes = maps.sizes();
             let _others = sum.maps.sizes();

@@ -24,7 +24,7 @@ pub(crate) fn clear(maps: &mut Maps, op: Op)
     ensures { maps.new ≡ identity_maps op maps.old.sizes }
 {
     let identity = identity_of(op);
-    // It tells the proof how many words there are.
+    // For the proof: the maps have as many words as their sizes add up to.
     let _sizes = maps.sizes();
     let elements = maps.words().len() as u32;
     for e in 0..elements {

@@ -48,14 +48,14 @@ impl<'l> SumLoop<'l> {
         law_of_operators();
         law_of_accepted_runs();
         law_of_accepted_programs();
-        // These tell the proof that the program is accepted, and of how many words its maps are.
+        // For the proof (`_unit`, `_words`): the program is accepted; the sum's maps have at most 65,536 words.
         let _unit = self.program.unit();
         clear(&mut sum.maps, self.op);
         let _words = sum.maps.words();
         sum.broke = range_in_order(self.program, self.call, from, to, &mut sum.maps);
     }
 
-    /// Adds up the iterations of a share of a round in the same way.
+    /// Adds up the iterations of a share of a round, as `run` does those of a range.
     pub fn run_share(&self, sum: &mut PartialSum, round: &Round, share: u32)
         requires fit { IsSumFor self.now sum.old }
         requires within { round.now.to ≤ self.now.call.n }

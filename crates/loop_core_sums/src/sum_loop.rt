@@ -48,7 +48,7 @@ impl<'l> SumLoop<'l> {
         law_of_sum_operations();
         law_of_plain_iterations();
         let (ops, _fast) = program.operations();
-        // It tells the proof of the frame that iterations see.
+        // For the proof: each byte of the frame that iterations see has a value.
         let _frame = call.frame();
         let start = call.callback();
         let past = function_end(program, start, ops.len() as u32);
@@ -62,7 +62,7 @@ impl<'l> SumLoop<'l> {
     {
         law_of_accepted_runs();
         law_of_accepted_programs();
-        // It tells the proof that the program is accepted.
+        // For the proof: the program is accepted.
         let _unit = self.program.unit();
     }
 }

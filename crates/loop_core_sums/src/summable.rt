@@ -7,8 +7,8 @@ use crate::operators::is_whole_by;
 use array_maps::Op;
 use bpf_step_ir::PlainOp;
 
-/// Whether an operation accesses no element of the maps, or reduces a whole one by this operator without telling what
-/// was there.
+/// Whether an operation accesses no element of the maps, or reduces a whole one by this operator without loading the
+/// old value.
 pub(crate) fn keeps_to(op: Op, at: &PlainOp) -> bool
     ensures { result ≡ keeps_to op at.now }
 {

@@ -10,9 +10,9 @@ use crate::summable::{keeps_to, stays_within};
 use array_maps::Op;
 use bpf_step_ir::PlainOp;
 
-/// Tells by which operator the operations of the slots from one up to, and not with, another add up: each of them
-/// accesses no element of the maps, or reduces a whole one by this operator without telling what was there, and leads
-/// to these slots alone. Where none of them accesses an element, that is `Add`. `None` where they don't.
+/// The operator by which the operations of the slots from one up to, and not with, another add up: each of them
+/// accesses no element of the maps, or reduces a whole one by this operator without loading the old value, and leads
+/// to these slots alone. It is `Add` if none of them accesses an element. `None` if they don't add up.
 pub fn sum_operator(ops: &[PlainOp], from: u32, past: u32) -> Option<Op>
     requires slots { length ops.now ≤ 4096 }
     requires within { past ≤ length ops.now }
@@ -34,7 +34,7 @@ pub fn sum_operator(ops: &[PlainOp], from: u32, past: u32) -> Option<Op>
     None
 }
 
-/// Whether they add up by this operator.
+/// Whether the operations of these slots add up by this operator.
 fn add_up(op: Op, ops: &[PlainOp], from: u32, past: u32) -> bool
     requires slots { length ops.now ≤ 4096 }
     requires within { past ≤ length ops.now }
@@ -48,7 +48,7 @@ fn add_up(op: Op, ops: &[PlainOp], from: u32, past: u32) -> bool
     true
 }
 
-/// Whether the operation at a slot does.
+/// Whether the operation at a slot keeps to reduces of whole elements by this operator, and leads to these slots alone.
 fn is_sum(op: Op, at: &PlainOp, slot: u32, from: u32, past: u32) -> bool
     requires low { slot < 4096 }
     ensures { IsTrue result ↔ IsSumOp op from past slot at.now }

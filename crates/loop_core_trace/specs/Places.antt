@@ -9,7 +9,7 @@ use Rattle.loop_core_model.specs.Actions.{is_write, writes, is_plain_write}
 use Rattle.loop_core_trace.specs.declared.slots.FirstReduce.{FirstReduce}
 use Rattle.loop_core_trace.specs.Operators.{operator_of, reduces_alike, AreAlike}
 
--- on these words an iteration comes to the instruction at a slot, after these accesses
+-- on these words an iteration reaches the instruction at a slot, after these accesses
 pub record ComesTo (program : Program) (call : LoopCall) (index : ℕ) (words : List ℕ) (slot : ℕ)
     (before : List Access) : Type 0 where
   pub count : ℕ

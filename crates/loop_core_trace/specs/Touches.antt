@@ -27,7 +27,7 @@ abbrev pub operator_at : Width → SimpleOp → Op
 operator_at W32 op = half_operator op
 operator_at W64 op = map_operator op
 
--- the operator of a change, where it tells nothing of what was there
+-- the operator of a change, if it doesn't load the old value
 abbrev pub operator_of_change : Width → AtomicOp → Option Op
 operator_of_change width (Simple op) = Some (operator_at width op)
 operator_of_change width (Fetch op) = None
@@ -99,7 +99,7 @@ abbrev pub slots_here : Option Touch → (element slot : ℕ) → Slots → Slot
 slots_here None element slot slots = slots
 slots_here (Some touch) element slot slots = if touch.element == element then slots_after slots touch slot else slots
 
--- a journal with the word that stands at an access's element
+-- a journal with the word of an access's element added
 abbrev pub noted : Option Touch → List ℕ → List Note → List Note
 noted None words journal = journal
 noted (Some touch) words journal = journal ++ record { element = touch.element; word = slice_index words touch.element }

@@ -1,4 +1,4 @@
--- What is told of an iteration that was followed at one element.
+-- What a trace says of an iteration that was followed at one element.
 use Rattle.std.specs.Prelude.{◌≡◌, ℕ, true, false, List, Option, Some, None}
 use Rattle.array_maps.specs.Accesses.{Access, actions_at}
 use Rattle.bpf_insn_types.specs.Program.{Program}
@@ -24,7 +24,7 @@ ReadIs program call index words element accesses None = exposed (actions_at elem
 ReadIs program call index words element accesses (Some slot) =
     (exposed (actions_at element accesses) ≡ true) × ExposedReadAt program call index words element slot
 
--- the reduce that is told, if one is, is its first access of the element
+-- the reduce that a trace has, if it has one, is the iteration's first access of the element
 abbrev pub ReduceIs : Program → LoopCall → (index : ℕ) → List ℕ → (element : ℕ) → Option FirstReduce → Type 0
 ReduceIs program call index words element None = Unit {0}
 ReduceIs program call index words element (Some first) = FirstReduceAt program call index words element first
@@ -36,7 +36,7 @@ OtherIs program call index words element accesses first None = AreAlike first (a
 OtherIs program call index words element accesses first (Some slot) =
     OtherAccessAt program call index words element first slot
 
--- all of them
+-- all slots of a trace at the element are so
 pub record AreSlots (program : Program) (call : LoopCall) (index : ℕ) (words : List ℕ) (element : ℕ)
     (accesses : List Access) (slots : Slots) : Type 0 where
   pub write : WriteIs program call index words element accesses slots.write

@@ -50,7 +50,7 @@ fn follow(
     law_of_steps();
     law_of_operations();
     law_of_accepted_runs();
-    // These tell the proof how many words the maps have, and that they are below 2^64.
+    // For the proof: the maps have as many words as their sizes add up to, each below 2^64.
     let _sizes = maps.sizes();
     Store::words_fit(maps);
     let (ops, _) = program.operations();
@@ -79,8 +79,8 @@ fn follow(
     unreachable!()
 }
 
-/// Follows the iteration of an index below n, of a loop call that main of this program made, on these maps, and tells
-/// its slots at an element. The maps are of the program's sizes, and are left as they were; where there was no memory
+/// Follows the iteration of an index below n, of a loop call that main of this program made, on these maps, and returns
+/// its slots at an element. The maps are of the program's sizes, and are left as they were; if there was no memory,
 /// they may be any of those sizes.
 pub fn trace_iteration(
     alloc: Global,

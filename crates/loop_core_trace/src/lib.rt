@@ -1,5 +1,5 @@
-//! Follows single iterations of a loop call, one operation after another, and tells the slots at which they access an
-//! element and return. It is slow: a tool for explanations.
+//! Follows single iterations of a loop call, one operation after another, and finds the slots at which they access
+//! an element and return. It is slow: a tool for explanations.
 //!
 //! ```text
 //! let mut maps = start.try_copy(alloc)?;

@@ -24,7 +24,7 @@ use Rattle.loop_core_witness.specs.declared.kind.Kind.TheVariants.{FirstWrite, E
 use Rattle.loop_core_witness.specs.declared.survey.Stretch.{Stretch}
 use Rattle.loop_core_witness.specs.declared.survey.Survey.{Survey}
 
--- no iteration does what is looked for at an element, as planes for the LRPD test tell: none writes it; none has an
+-- no iteration does what is looked for at an element, as planes for the LRPD test show: none writes it; none has an
 -- exposed read of it
 abbrev pub lacks_kind : Kind → LrpdPlanes → ℕ → Bool
 lacks_kind FirstWrite planes e = not (bit_of planes.written.items e)
@@ -35,7 +35,7 @@ abbrev pub lacks_tested : Kind → Tested → ℕ → Bool
 lacks_tested kind (Lrpd planes) e = lacks_kind kind planes e
 lacks_tested kind (Flow planes) e = false
 
--- and of an element that the planes don't have nothing is told
+-- no iteration does so, as planes of either test show; nothing is known of an element that the planes don't have
 abbrev pub lacks : Kind → Planes → ℕ → Bool
 lacks kind planes e = nat_lt e planes.elements && lacks_tested kind planes.tested e
 
@@ -58,7 +58,7 @@ abbrev pub is_quiet : Option Op → Planes → ℕ → Bool
 is_quiet None planes e = lacks FirstWrite planes e && lacks ExposedRead planes e
 is_quiet (Some op) planes e = reduces_alone op planes e
 
--- the iterations of a stretch, each run on these words: all of them end, none breaks, and the planes stand for them
+-- the iterations of a stretch, each run on these words: all of them end, none breaks, and the planes represent them
 pub record IsStretch (program : Program) (call : LoopCall) (words : List ℕ) (stretch : Stretch) : Type 0 where
   pub ran : List Iterated
   pub told : block_run program 4096 call words stretch.first stretch.past ≡ Ended ran

@@ -25,7 +25,7 @@ fn up_to_break(call: &LoopCall, broke: Option<Place>) -> u32
 }
 
 /// How many iterations count of a loop call that main of this program made on the start maps, which are of the
-/// program's sizes; `broke` is what `find_break` told of them.
+/// program's sizes; `broke` is what `find_break` returned for them.
 pub(crate) fn counted_by(
     program: &Verified,
     call: &LoopCall,
@@ -39,7 +39,7 @@ pub(crate) fn counted_by(
 {
     law_of_accepted_programs();
     law_of_accepted_runs();
-    // These tell the proof that the program is accepted, and what words the maps have.
+    // For the proof: the program is accepted; the maps have as many words as their sizes add up to, each below 2^64.
     let _unit = program.unit();
     let _sizes = start.sizes();
     Store::words_fit(start);

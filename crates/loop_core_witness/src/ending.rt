@@ -80,8 +80,8 @@ fn end_of_reduction(search: &Search<'_>) -> Result<Option<Place>, AllocError>
 
 /// The access by which an element isn't reduction-only: of the counted iterations of a loop call that main of this
 /// program made, each run on the start maps, the first access of the element that isn't a reduce by the operator of the
-/// first one. `None` where the element is reduction-only, or isn't accessed. The start maps are of the program's sizes,
-/// `broke` is what `find_break` told of them, and the survey is of the call on them.
+/// first one. `None` if the element is reduction-only, or isn't accessed. The start maps are of the program's sizes,
+/// `broke` is what `find_break` returned for them, and the survey is of the call on them.
 pub fn find_end_of_reduction(
     alloc: Global,
     program: &Verified,

@@ -20,7 +20,7 @@ use bpf_verify::Verified;
 use loop_core_model::Test;
 use std::alloc::{AllocError, Global};
 
-/// The least pair by the flow test: the least writer, and the first reader behind it.
+/// The least pair by the flow test: the least writer, and the first reader after it.
 fn flow_pair(search: &Search<'_>) -> Result<Option<Witness>, AllocError>
     requires { IsSearch search.now }
     ensures { IfOk result (FindsPair search.now Flow) }
@@ -72,7 +72,7 @@ fn least_pair(search: &Search<'_>, test: Test) -> Result<Option<Witness>, AllocE
 
 /// Of the counted iterations of a loop call that main of this program made, each run on the start maps, the two that
 /// fail a test at an element, where two do: of all such pairs the one with the least reader, and of these the one with
-/// the least writer. The start maps are of the program's sizes, `broke` is what `find_break` told of them, and the
+/// the least writer. The start maps are of the program's sizes, `broke` is what `find_break` returned for them, and the
 /// survey is of the call on them.
 pub fn find_pair(
     alloc: Global,

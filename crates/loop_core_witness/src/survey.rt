@@ -29,7 +29,7 @@ pub struct Survey {
     pub stretches: Vec<Stretch>,
 }
 
-/// Whether no iteration does what is looked for at an element, as planes tell.
+/// Whether no iteration does what is looked for at an element, as planes show.
 fn lacks_kind(kind: Kind, planes: &LrpdPlanes, e: u32) -> bool
     requires { LrpdHave planes.now e }
     ensures { result ≡ lacks_kind kind planes.now e }
@@ -40,7 +40,7 @@ fn lacks_kind(kind: Kind, planes: &LrpdPlanes, e: u32) -> bool
     }
 }
 
-/// Whether an iteration reduces an element by an operator that isn't this one, as planes tell.
+/// Whether an iteration reduces an element by an operator that isn't this one, as planes show.
 fn reduces_by_other(planes: &OperatorPlanes, op: Op, e: u32) -> bool
     requires { EachPlane (λ words. e / 64 < length words) planes.now }
     ensures { result ≡ reduces_by_other planes.now op e }
@@ -57,7 +57,7 @@ impl Stretch {
     ghost use Rattle.shadow_marks.specs.Standing.{ArePlanes};
     ghost use Rattle.loop_core_witness.specs.Surveys.{lacks, reduces_alone, is_quiet};
 
-    /// Whether none of its iterations does what is looked for at an element, as its planes tell.
+    /// Whether none of its iterations does what is looked for at an element, as its planes show.
     pub(crate) fn lacks(&self, kind: Kind, element: u32) -> bool
         requires { ArePlanes self.now.planes }
         ensures { result ≡ lacks kind self.now.planes element }
@@ -71,7 +71,7 @@ impl Stretch {
         }
     }
 
-    /// Whether its iterations do nothing at an element but reduce it by an operator, as its planes tell.
+    /// Whether its iterations do nothing at an element but reduce it by an operator, as its planes show.
     fn reduces_alone(&self, op: Op, element: u32) -> bool
         requires { ArePlanes self.now.planes }
         ensures { result ≡ reduces_alone op self.now.planes element }
@@ -83,7 +83,7 @@ impl Stretch {
             && !reduces_by_other(&self.planes.operators, op, element)
     }
 
-    /// Whether its iterations don't end a reduction of an element by an operator, as its planes tell; where there was
+    /// Whether its iterations don't end a reduction of an element by an operator, as its planes show; if there was
     /// none yet, whether they don't access the element.
     pub(crate) fn is_quiet(&self, op: Option<Op>, element: u32) -> bool
         requires { ArePlanes self.now.planes }

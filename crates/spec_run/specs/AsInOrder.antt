@@ -17,7 +17,7 @@ abbrev pub IsReportByTest : Test → Program → (argument : ℕ) → (old new :
 IsReportByTest test program argument old new report =
     IsReportOf (report_by test program 4096 argument old.words) program argument old new report
 
--- The headline: run gives exactly the return value, maps and report of the program run in order, or refuses for want of
+-- The main theorem: run gives exactly the return value, maps and report of the program run in order, or runs out of
 -- memory and leaves the maps unchanged, for every number of workers, split and schedule. Of the plan the test alone
 -- occurs in what it gives, and of a schedule nothing does. No iteration is stuck, speculative ones included, and each
 -- ends within the count that the verifier reports
@@ -26,7 +26,7 @@ pub record RunsAsInOrder (program : Program) (argument : ℕ) (plan : Plan) (old
   -- a report, the return value in it and the new maps are exactly those of the program run in order, and its
   -- iterations end
   pub gives : IfOk result (λ report. IsReportByTest plan.test program argument old new report)
-  -- where the maps are of the program's sizes and the plan is within its limits, it refuses for want of memory alone
+  -- if the maps are of the program's sizes and the plan is within its limits, it fails only when memory runs out
   pub refuses : IfErr result (λ refusal. old.sizes ≡ program.sizes → IsPlan plan → refusal ≡ Memory)
   -- a refusal leaves the maps unchanged
   pub unchanged : OnErr result (new ≡ old)

@@ -52,7 +52,8 @@ pub fn run<R: Threads + Sync, G: Gate>(
     )
 }
 
-/// Does the same, and notifies an observer of the program and of its loop calls, from the calling thread.
+/// Runs the program as `run` does, and notifies an observer of the program and of its loop calls, from the calling
+/// thread.
 pub fn run_observed<R: Threads + Sync, G: Gate, O: Observer>(
     rt: &R,
     alloc: Global,
@@ -76,7 +77,7 @@ pub fn run_observed<R: Threads + Sync, G: Gate, O: Observer>(
     keep_freed_memory(alloc);
     let mut left = maps.try_copy(alloc)?;
     law_of_filled_calls();
-    // This tells the proof that the program is accepted.
+    // For the proof: the program is accepted.
     let _unit = program.unit();
     let run_call = |call: &LoopCall, maps: &mut Maps, workspace: &mut Workspace| -> Result<
         LoopAnswer,

@@ -42,7 +42,7 @@ pub fn find_conflicts(
     requires sizes { start.now.sizes ≡ program.now.sizes }
     ensures { IfOk result (AreConflicts test program.now call.now start.now.words most) }
 {
-    // This tells the proof how many words there are at most.
+    // For the proof: there are at most 65,536 words.
     let _words = start.words();
     let split = one_block(call.n());
     let block = run_block(alloc, program, call, start, &split, 0, &NoGate, test)?;

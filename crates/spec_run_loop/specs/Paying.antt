@@ -6,11 +6,11 @@ use Rattle.bpf_verify_sound.specs.Soundness.{most_from}
 use Rattle.loop_core_split.specs.declared.plan.Plan.{Plan}
 use Rattle.spec_run_loop.specs.Jobs.{JobOf}
 
--- what an iteration that runs by blocks costs beside its instructions
+-- what an iteration that runs by blocks costs besides its instructions
 abbrev pub bookkeeping : ℕ
 bookkeeping = 30
 
--- what an iteration on private copies costs beside its instructions, compared with one on the maps
+-- what an iteration on private copies costs besides its instructions, compared with one on the maps
 abbrev pub copying : ℕ
 copying = 60
 

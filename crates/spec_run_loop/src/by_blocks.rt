@@ -72,8 +72,7 @@ fn speculate_by_workers<'a, R: Threads + Sync, G: Gate>(
         return Err(AllocError);
     };
     let (seats, blocks) = run_workers(rt, of, &board, seats, gate)?;
-    // The tally tells the proof that no block is lacking. The least break is read off the blocks, as where there was no
-    // board.
+    // For the proof: by the tally no block is missing. The least break is read off the blocks, as without a board.
     let Ok(_tally) = board.gather(seats) else {
         unreachable!()
     };

@@ -37,8 +37,8 @@ impl LoopAnswer {
     }
 }
 
-/// Does to the maps what was decided of a loop call that was watched, and given up after this progress: where it
-/// doesn't pass, it continues in order from there. The maps and the log are as it left them.
+/// Applies to the maps the decision on a loop call whose watched run was abandoned after this progress: if the call
+/// doesn't pass, it continues in order from there. The maps and the log are as the watched run left them.
 pub(crate) fn carry_out_from(
     decision: Decision,
     job: &LoopJob,

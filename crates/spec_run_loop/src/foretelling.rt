@@ -17,7 +17,7 @@ fn watched_course(job: &LoopJob, otherwise: &BlockPlan, start: &Maps) -> Result<
     requires sizes { start.now.sizes ≡ job.now.program.sizes }
     ensures { IfOk result (IsWatchedCourse job.now start.now.words otherwise.now) }
 {
-    // These tell the proof how many words the maps have, and that they are below 2^64.
+    // For the proof: the maps have as many words as their sizes add up to, each below 2^64.
     let _sizes = start.sizes();
     let _words = start.words();
     let mut maps = start.try_copy(job.alloc)?;

@@ -6,7 +6,7 @@ use loop_core_split::Plan;
 use std::alloc::Global;
 use std::marker::Model;
 
-/// A loop call that main of a program made, and the plan by which it is run: lent to all that work on it.
+/// A loop call that main of a program made, and the plan by which it is run: borrowed by all that work on it.
 #[derive(Drop)]
 pub struct LoopJob<'l> {
     /// Where what is run of it is kept.

@@ -12,13 +12,14 @@ use loop_core_block::most_instructions;
 use loop_core_event::MAX_WORKERS;
 use loop_core_split::Plan;
 
-/// What a speculative iteration costs beside its instructions, as many of them: its accesses are marked and kept apart.
+/// What a speculative iteration costs besides its own instructions, in instructions: its accesses are marked and kept
+/// apart.
 const BOOKKEEPING: u64 = 30;
 
 /// How many instructions are worth a thread: to start it and wait for it takes as long.
 const SHARE: u64 = 2_000_000;
 
-/// What an element costs each worker and each block, as many instructions: its marks and its copy are made in memory
+/// What an element costs each worker and each block, in instructions: its marks and its copy are made in memory
 /// that is new, merged and committed. So a loop of few iterations over many elements is bound by memory.
 const ELEMENT: u64 = 1_000;
 
@@ -28,8 +29,8 @@ const VISITS: u32 = 32;
 /// A loop of fewer shares is run by the calling thread alone.
 const LEAST_SHARES: u64 = 4;
 
-/// What an iteration on a private copy of the maps costs beside its instructions, as many of them, where it is compared
-/// with one on the maps themselves.
+/// What an iteration on a private copy of the maps costs besides its own instructions, in instructions, compared with
+/// one on the maps themselves.
 const COPYING: u64 = 60;
 
 /// How many workers are taken to be at work at once: a system has as many processors, or more.
@@ -57,7 +58,7 @@ pub(crate) fn work_in_order(job: &LoopJob) -> u64
     u64::from(job.call.n()) * instructions(job)
 }
 
-/// The same of one that runs by blocks, with its bookkeeping.
+/// How many instructions a loop that runs by blocks is to do at most, with its bookkeeping.
 pub(crate) fn work_by_blocks(job: &LoopJob) -> u64
     ensures { result ≡ work_by_blocks job.now }
 {

@@ -56,7 +56,7 @@ pub(crate) fn run_sums<R: Threads + Sync>(
     ensures kept { OnErr result (maps.new ≡ maps.old) }
 {
     of.law_of_passing();
-    // These tell the proof how many words the maps have, and that they are below 2^64.
+    // For the proof: the maps have as many words as their sizes add up to, each below 2^64.
     let _sizes = maps.sizes();
     let _words = maps.words();
     let course = Course::Sums { workers };

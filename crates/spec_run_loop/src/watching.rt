@@ -39,7 +39,7 @@ pub(crate) fn run_watched<R: Threads + Sync, G: Gate>(
     ensures course { IfOk result (λ a. IsWatchedCourse job.now maps.old.words otherwise.now a.course) }
     ensures kept { OnErr result (maps.new ≡ maps.old) }
 {
-    // These tell the proof how many words the maps have, and that they are below 2^64.
+    // For the proof: the maps have as many words as their sizes add up to, each below 2^64.
     let _sizes = maps.sizes();
     let _words = maps.words();
     let mut log = workspace.take_log(job.alloc, elements_of(maps))?;

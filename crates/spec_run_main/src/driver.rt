@@ -28,7 +28,7 @@ pub fn run_main<L: LoopRunner>(
 {
     law_of_accepted_runs();
     law_of_accepted_programs();
-    // These tell the proof that the program is accepted, and what words the maps have.
+    // For the proof: the program is accepted; the maps have as many words as their sizes add up to, each below 2^64.
     let _unit = program.unit();
     let _sizes = maps.sizes();
     Store::words_fit(maps);

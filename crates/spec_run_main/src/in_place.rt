@@ -14,7 +14,7 @@ use loop_core_model::{LoopReport, Verdict};
 use loop_core_sequential::in_order;
 use std::convert::Infallible;
 
-/// What a run in place gives beside the maps.
+/// What a run in place returns, besides the maps that it changes.
 #[derive(Clone, Copy)]
 pub struct RanInPlace {
     /// The program's return value.

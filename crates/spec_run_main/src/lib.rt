@@ -1,4 +1,4 @@
-//! Runs main of an accepted program over array maps to its end. What is done of its loop calls, a runner says.
+//! Runs main of an accepted program over array maps to its end. A runner runs and records its loop calls.
 //!
 //! ```text
 //! let ret = run_main(&program, &mut maps, 0, &mut runner)?;  // its loop calls went to the runner, in order

@@ -21,7 +21,7 @@ abbrev pub first_valid : ℕ → List LoopMade → Option ValidLoop
 first_valid number [] = None
 first_valid number (made ∷ loops) = this_or_later number made.words (first_valid (number + 1) loops) made.call
 
--- the same of a program that finished, whose loop calls are numbered from this number
+-- the first valid loop call of a program that finished, whose loop calls are numbered from this number
 abbrev pub first_of : ℕ → Finished → Option ValidLoop
 first_of number f = first_valid number f.loops
 

@@ -1,4 +1,4 @@
--- What the replay of a program's first valid loop call comes to.
+-- The outcome of the replay of a program's first valid loop call.
 use Rattle.std.specs.Prelude.{◌≡◌, ℕ, pos, List, Option, Some, None, Result, Ok, Err}
 use Rattle.bpf_insn_types.specs.Program.{Program}
 use Rattle.bpf_step_model.specs.Run.{BoundedResult, Ended, mapped}
@@ -36,7 +36,7 @@ abbrev pub of_schedule : ValidLoop → Result (BoundedResult Outcome) ReplayFaul
 of_schedule valid (Err fault) = Err (Schedule fault)
 of_schedule valid (Ok outcome) = Ok (mapped (with_outcome valid) outcome)
 
--- the same where the bounds are a split of it
+-- what the schedule gives, if the bounds are a split of the loop; else the split's fault
 abbrev pub of_split : Result (BoundedResult LoopReplay) ReplayRefusal → Option SplitFault
     → Result (BoundedResult LoopReplay) ReplayRefusal
 of_split scheduled (Some fault) = Err (Split fault)
@@ -55,7 +55,7 @@ abbrev pub ended_or_refused : {A : Type 0} → Result A ReplayRefusal → Result
 ended_or_refused (Ok value) = Ok (Ended value)
 ended_or_refused (Err refusal) = Err refusal
 
--- from these words a program comes to its first valid loop, or to its end, and the replay to this
+-- from these words a program reaches its first valid loop call, or its end, and its replay has this outcome
 pub record ReplaysFrom (test : Test) (program : Program) (argument : ℕ) (words bounds : List ℕ) (events : List Event)
     (comes : Result LoopReplay ReplayRefusal) : Type 0 where
   pub valid : Option ValidLoop

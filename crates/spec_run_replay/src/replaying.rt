@@ -58,7 +58,7 @@ fn iterations_end(program: &Verified)
 {
     law_of_accepted_runs();
     law_of_accepted_programs();
-    // This tells the proof that the program is accepted.
+    // For the proof: the program is accepted.
     let _unit = program.unit();
 }
 
@@ -94,7 +94,7 @@ pub fn replay(
         Err(fault) => return Err(NoReplay::Refused(ReplayRefusal::Split(fault))),
     };
     law_of_filled_calls();
-    // This tells the proof that the program is accepted.
+    // For the proof: the program is accepted.
     let _unit = program.unit();
     match replay_loop(alloc, program, &first.call, &maps, &split, events, test) {
         Ok(outcome) => Ok(Replayed {

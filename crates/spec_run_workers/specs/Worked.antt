@@ -10,8 +10,8 @@ use Rattle.loop_board.specs.Seats.{SeatRecord}
 use Rattle.loop_core_block.specs.Blocks.{BlockOf}
 use Rattle.loop_core_block.specs.Ran.{RecordsRun}
 
--- of the blocks drawn, in order, and of what the look after each answered: the numbers of those that are run, which are
--- all that don't start past that answer
+-- of the blocks claimed, in order, and of what the look after each answered: the numbers of those that are run, which
+-- are all that don't start past that answer
 abbrev pub runs_of : List ℕ → (draws looks : List ℕ) → List ℕ
 runs_of bounds [] looks = []
 runs_of bounds (number ∷ draws) [] = []
@@ -33,14 +33,14 @@ pub record StandsIn (bounds : List ℕ) (b : BlockOf) : Type 0 where
   pub first : b.first ≡ start_of bounds b.number
   pub past : b.past ≡ end_of bounds b.number
 
--- a seat of the same board that drew, saw and posted this more, and nothing else
+-- a seat of the same board that claimed, saw and posted this more, and nothing else
 pub record DidMore (old new : SeatRecord) (draws looks posts : List ℕ) : Type 0 where
   pub board : new.board ≡ old.board
   pub drew : new.history.draws ≡ old.history.draws ++ draws
   pub saw : new.history.looks ≡ old.history.looks ++ looks
   pub posted : new.history.posts ≡ old.history.posts ++ posts
 
--- a whole worker: it looked once after each block that it drew, ran those that don't start past the answer, in order,
+-- a whole worker: it looked once after each block claimed, ran those that don't start past the answer, in order,
 -- posted their breaks, and found no more block
 pub record Worked (bounds : List ℕ) (old new : SeatRecord) (blocks : List BlockOf) : Type 0 where
   pub draws : List ℕ
@@ -51,7 +51,7 @@ pub record Worked (bounds : List ℕ) (old new : SeatRecord) (blocks : List Bloc
   pub intervals : AllByRecursion (StandsIn bounds) blocks
   pub drained : new.history.found_none ≡ true
 
--- a worker that met a want of memory at the last block that it drew: it looked once after each block; of those before
+-- a worker that ran out of memory at the last block that it claimed: it looked once after each block; of those before
 -- the last it ran those that don't start past the answer, in order; the last doesn't start past its answer, and either
 -- it wasn't run, or it was run and couldn't be kept; what was posted is the breaks of those that were run
 pub record WorkerStopped (test : Test) (program : Program) (call : LoopCall) (words : List ℕ) (bounds : List ℕ)
@@ -71,7 +71,7 @@ pub record WorkerStopped (test : Test) (program : Program) (call : LoopCall) (wo
   pub ran : AllByRecursion (RecordsRun test program call words) blocks
   pub kept : new.history.found_none ≡ old.history.found_none
 
--- what a worker does with one block that it drew: it looks once, runs the block unless it starts past the answer, and
+-- what a worker does with a block claimed: it looks once, runs the block unless it starts past the answer, and
 -- posts its break; `taken` is the block, where it was run
 pub record Took (test : Test) (program : Program) (call : LoopCall) (words : List ℕ) (bounds : List ℕ) (number : ℕ)
     (old new : SeatRecord) (taken : List BlockOf) : Type 0 where
@@ -82,7 +82,7 @@ pub record Took (test : Test) (program : Program) (call : LoopCall) (words : Lis
   pub intervals : AllByRecursion (StandsIn bounds) taken
   pub ran : AllByRecursion (RecordsRun test program call words) taken
 
--- what a worker does with one block that it drew, where there is no memory to run it: it looks once, the block doesn't
+-- what a worker does with one block that it claimed, if there is no memory to run it: it looks once, the block doesn't
 -- start past the answer, and nothing is posted
 pub record NotRun (bounds : List ℕ) (number : ℕ) (old new : SeatRecord) : Type 0 where
   pub answer : ℕ

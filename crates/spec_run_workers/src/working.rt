@@ -12,8 +12,8 @@ use loop_core_block::{Block, SpeculativeLoop};
 use loop_core_split::Gate;
 use std::alloc::AllocError;
 
-/// What a worker does with a block that it drew: it looks, and unless the block starts past the least break
-/// that it sees, runs the block and posts its break. `None` where it skips the block. Where there is no memory to
+/// What a worker does with a block that it claimed: it looks, and unless the block starts past the least break
+/// that it sees, runs the block and posts its break. `None` if it skips the block. If there is no memory to
 /// run the block, it posts nothing.
 fn take<'a, G: Gate>(
     of: &SpeculativeLoop<'_, 'a>,
@@ -38,13 +38,13 @@ fn take<'a, G: Gate>(
     Ok(Some(block))
 }
 
-/// One whole worker of a loop. It draws a block, calls the gate's `begin`, and looks; unless the block starts past the
+/// One whole worker of a loop. It claims a block, calls the gate's `begin`, and looks; unless the block starts past the
 /// least break that it sees, it runs the block on the start maps and posts its break; and so on until no block is left.
 /// It gives the blocks that it ran, in order, and waits for nobody.
 ///
-/// Where a growth is refused, as it runs a block or keeps it, it draws no more; the seat and the board keep what was
-/// drawn, seen and posted, which is the breaks of the blocks that were run. The board has as many blocks as the loop's
-/// split, and the seat is one of it.
+/// If memory runs out while it runs a block or keeps it, it claims no more. The seat and the board keep what was
+/// claimed, seen and posted; the posts are the breaks of the blocks that were run. The board has as many blocks as the
+/// loop's split, and the seat is one of the board's.
 pub fn work<'a, G: Gate>(
     of: &SpeculativeLoop<'_, 'a>,
     board: &Board,

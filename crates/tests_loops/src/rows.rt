@@ -56,7 +56,7 @@ fn maps_of(alloc: Global, program: &Verified, values: &str) -> Option<Maps>
     }
 }
 
-/// The program of a row and its maps; `None` where they are none, or for want of memory.
+/// The program of a row and its maps; `None` if the program is refused, the maps don't fit it, or memory ran out.
 pub fn read_row(alloc: Global, row: &str) -> Option<Row>
     ensures { IfSome result (λ made. made.maps.sizes ≡ made.program.sizes) }
 {
@@ -74,7 +74,7 @@ pub fn first_call(program: &Verified, maps: &mut Maps) -> Option<LoopCall>
     ensures sizes { maps.new.sizes ≡ program.now.sizes }
     ensures known { IfSome result (OverApproximatesCall program.now) }
 {
-    // These tell the proof that the program is accepted, and how many words the maps have.
+    // For the proof: the program is accepted, and how many words the maps have.
     let _unit = program.unit();
     let _sizes = maps.sizes();
     let mut main = Main::new(program, 0);
@@ -84,7 +84,7 @@ pub fn first_call(program: &Verified, maps: &mut Maps) -> Option<LoopCall>
     }
 }
 
-/// The first loop of a row's program; `None` where main makes no valid loop call first, or for want of memory.
+/// The first loop of a row's program; `None` if main makes no valid loop call first, or if memory ran out.
 pub fn first_loop(alloc: Global, row: &Row) -> Option<FirstLoop>
     requires { row.now.maps.sizes ≡ row.now.program.sizes }
     ensures known { IfSome result (λ first. OverApproximatesCall row.now.program first.call) }

@@ -24,7 +24,7 @@ pub struct Stage {
     pub split: Split,
 }
 
-/// The first loop of a row, in n even blocks; `None` where there is none, or for want of memory.
+/// The first loop of a row, in n even blocks; `None` if there is none, or if memory ran out.
 pub fn stage_of(alloc: Global, row: &str, blocks: u32) -> Option<Stage>
     ensures stage { IfSome result IsStage }
 {
@@ -102,7 +102,7 @@ pub fn gathered<'a>(
     )
 }
 
-/// What the loop comes to: its blocks are run and gathered, and it is committed or run in order.
+/// The loop's outcome: all blocks are run and gathered, then committed, or the loop is rerun in order.
 pub fn outcome_of(alloc: Global, stage: &Stage, test: Test) -> Result<LoopOutcome, GatherError>
     requires { IsStage stage.now }
 {

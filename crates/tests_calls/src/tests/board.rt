@@ -1,4 +1,4 @@
-//! Boards in one thread and in several, their limits, and refused growths.
+//! Boards in one thread and in several, their limits, and failed allocations.
 
 ghost use Rattle.std.specs.Prelude.{◌≡◌, ◌≤◌, replicate, IfOk};
 ghost use Rattle.loop_board.specs.Seats.{new_seat};
@@ -43,7 +43,7 @@ fn limits_are_refused(rt: HostRuntime) -> Result<(), Fail> {
     Ok(())
 }
 
-/// A board of two blocks and two workers, by a second try where a growth was refused. Gather takes no memory.
+/// A board of two blocks and two workers, by a second try if an allocation failed. `gather` allocates nothing.
 fn board_of_two(alloc: Global) -> Result<(Board, Vec<BoardSeat>), BoardError>
     ensures { IfOk result (λ made. made.1.items ≡ replicate 2 (new_seat made.0)) }
 {

@@ -1,4 +1,4 @@
-//! Under `rt try --test --fail-alloc N` each growth is refused in turn: out of memory is then the answer, and no
+//! Under `rt try --test --fail-alloc N` each allocation fails in turn: the error is then out of memory, and no
 //! other refusal.
 
 use crate::tests::asserts::assert_same;
@@ -86,7 +86,7 @@ fn of_maps(rt: HostRuntime) {
 /// A program with one callback.
 const PROGRAM: &str = "maps 1\nldcode r2, cb\nmov64 r0, 7\nexit\ncb:\nmov64 r0, 0\nexit\n";
 
-/// The program of a text; `None` for want of memory.
+/// The program of a text; `None` if memory ran out.
 fn program_of(rt: &impl Abort, alloc: Global, text: &str) -> Option<Verified> {
     match parse_unit(alloc, text) {
         Ok(unit) => accepted(rt, alloc, unit),

@@ -1,4 +1,4 @@
-//! Maps through their trait, and refused growths.
+//! Maps through their trait, and failed allocations.
 
 ghost use Rattle.std.specs.Prelude.{◌≡◌, ℕ, ◌<◌, ◌≤◌, ◌∷◌, [], length, map, IfOk};
 ghost use Rattle.std.specs.List.{All};
@@ -18,7 +18,7 @@ fn values_of(maps: &Maps) -> [u64; 3]
     [maps.get(0, 0), maps.get(1, 0), maps.get(1, 1)]
 }
 
-/// Where a growth was refused, a second try has the memory.
+/// Maps of 1 and 2 elements, by a second try if an allocation failed.
 fn made(alloc: Global) -> Result<Maps, MapsError>
     ensures { IfOk result (λ maps. maps.sizes ≡ 1 ∷ 2 ∷ []) }
 {
@@ -28,7 +28,7 @@ fn made(alloc: Global) -> Result<Maps, MapsError>
     }
 }
 
-// Where a copy's growth was refused, the maps are as before.
+// If a copy's allocation failed, the maps are as before.
 #[test]
 fn a_refused_growth_leaves_nothing_behind(rt: HostRuntime) -> Result<(), Fail> {
     let mut maps = made(rt.alloc())?;

@@ -1,4 +1,4 @@
-//! The blocks of a loop: what they come to together, and workers that share them.
+//! The blocks of a loop: their outcome when gathered, and workers that share them.
 
 mod examples;
 mod growths;

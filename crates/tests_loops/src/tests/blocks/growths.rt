@@ -1,5 +1,5 @@
-//! Under `rt try --test --fail-alloc N` each growth is refused in turn: the maps that were lent are then as they were,
-//! and a second try has the memory.
+//! Under `rt try --test --fail-alloc N` each allocation fails in turn: the borrowed maps are then unchanged, and a
+//! second try succeeds.
 
 ghost use Rattle.std.specs.Prelude.{IfSome};
 ghost use Rattle.tests_loops.specs.Stages.{IsStage};
@@ -11,7 +11,7 @@ use std::alloc::Global;
 use std::process::Abort;
 use std::test::Fail;
 
-/// A row with a loop in n blocks, the words of its maps, and what the loop comes to.
+/// A row with a loop in n blocks, the words of its maps, and the loop's outcome.
 #[derive(Clone, Copy)]
 struct Case {
     row: &'static str,
@@ -42,7 +42,7 @@ const COPIES_ON: Case = Case {
     left: &[9, 9, 9, 9, 9],
 };
 
-/// The loop of a case, by a second try where there was no memory at the first.
+/// The loop of a case, by a second try if memory ran out at the first.
 fn stage_at_last(alloc: Global, case: &Case) -> Option<Stage>
     ensures { IfSome result IsStage }
 {
@@ -52,8 +52,8 @@ fn stage_at_last(alloc: Global, case: &Case) -> Option<Stage>
     }
 }
 
-/// Runs a loop's blocks, gathers them, and commits them or runs it in order, again where memory was refused, and asserts
-/// what it comes to.
+/// Runs a loop's blocks, gathers them, and commits them or runs the loop in order, once more if memory ran out. Asserts
+/// the outcome, and that the borrowed maps are unchanged.
 fn comes_to(rt: &impl Abort, alloc: Global, case: &Case, test: Test) -> Result<(), Fail> {
     let stage = stage_at_last(alloc, case).ok_or("a row has a loop")?;
     let mut told = outcome_of(alloc, &stage, test);

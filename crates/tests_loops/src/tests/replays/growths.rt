@@ -1,5 +1,5 @@
-//! Under `rt try --test --fail-alloc N` each growth is refused in turn: the maps that were lent are then as they were,
-//! and a second try has the memory.
+//! Under `rt try --test --fail-alloc N` each allocation fails in turn: the borrowed maps are then unchanged, and a
+//! second try succeeds.
 
 ghost use Rattle.std.specs.Prelude.{◌≤◌};
 
@@ -31,7 +31,7 @@ fn events_of(alloc: Global, row: &Row, length: u32) -> Result<Vec<Event>, AllocE
     Ok(events)
 }
 
-/// Replays a list of events, by a second try where there was no memory at the first.
+/// Replays a list of events, by a second try if memory ran out at the first.
 fn is_still(
     rt: &impl Abort,
     alloc: Global,

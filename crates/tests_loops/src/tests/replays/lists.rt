@@ -52,7 +52,7 @@ fn lists_of(length: usize) -> u32 {
     }
 }
 
-/// What the table says of a list: it comes to what the row says, or its fault.
+/// The expected result of the replay of a list: the fault that the table finds, or else the row's outcome.
 fn said_of(row: &Row, events: &[Event]) -> Result<bool, ReplayError> {
     match Table::new(row.bounds, row.breaks).fault(events) {
         None => Ok(true),

@@ -1,9 +1,9 @@
-//! Loops with one map, and what they come to.
+//! Loops with one map, and their outcomes.
 
 use loop_core_model::Verdict;
 
-/// A unit, whose lines ` | ` parts, with the words of its map and the bounds of its loop's blocks; which iterations
-/// break on these words; and what the loop comes to.
+/// A unit, its lines separated by ` | `; the words of its map and the bounds of its loop's blocks; which iterations
+/// break on these words; and the loop's outcome.
 #[derive(Clone, Copy)]
 pub struct Row {
     pub unit: &'static str,

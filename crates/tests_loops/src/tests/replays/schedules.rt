@@ -11,8 +11,8 @@ use std::alloc::{AllocError, Global};
 use std::process::Abort;
 use std::test::Fail;
 
-/// Has workers 0 and 1 proceed as the bits of a word say, the lowest first, and returns whether they have ended then.
-/// Where one of them should proceed that has stopped they haven't.
+/// Has workers 0 and 1 proceed as the bits of a word say, the lowest first, and returns whether both have ended then.
+/// If a worker that has stopped should proceed, returns false.
 pub(crate) fn goes_on(
     row: &Row,
     word: u32,
@@ -34,7 +34,7 @@ pub(crate) fn goes_on(
     Ok(table.has_ended())
 }
 
-/// Replays each list that has ended, asserts what it comes to, and how many there are. None is longer than 17 events:
+/// Replays each schedule that ends, and asserts its outcome and how many there are. None is longer than 17 events:
 /// three for each of four blocks, a post, and a claim and a stop of each worker.
 fn schedules_agree(
     rt: &impl Abort,

@@ -93,7 +93,7 @@ impl Stage {
         self.maps.words()
     }
 
-    /// Whether a list of events comes to what the row says.
+    /// Whether the replay of a list of events has the row's outcome.
     pub fn comes_to(
         &self,
         alloc: Global,

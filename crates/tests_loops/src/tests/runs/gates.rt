@@ -1,5 +1,5 @@
-//! Workers that are held until others have come. By contract a loop comes to the same however it is run: that workers
-//! run at once, that they pass the gate, and that they skip what lies after a break that they see, is seen here alone.
+//! Workers that are held until others have arrived. By contract a loop has the same outcome however it is run. Only
+//! here is it shown that workers run at once, pass the gate, and skip what lies after a break that they see.
 
 use crate::meeting::{Holds, MeetingGate};
 use crate::rows::{first_loop, read_row};

@@ -1,5 +1,5 @@
-//! Under `rt try --test --fail-alloc N` each growth is refused in turn: the maps are then as they were, and a second
-//! try has the memory.
+//! Under `rt try --test --fail-alloc N` each allocation fails in turn: the maps are then unchanged, and a second try
+//! succeeds.
 
 use crate::meeting::{Holds, MeetingGate};
 use crate::rows::{Row, read_row};
@@ -11,7 +11,7 @@ use std::process::Abort;
 use std::test::Fail;
 use std::thread::Threads;
 
-/// A row with the words of its maps, and what comes of it: its return value, its loops, and the words after it.
+/// A row with the words of its maps, and the outcome of its run: return value, loops, and the words afterwards.
 #[derive(Clone, Copy)]
 struct Case {
     row: &'static str,
@@ -75,7 +75,7 @@ const PLAN: Plan = Plan {
     policy: Policy::Blocks,
 };
 
-/// A row, by a second try where there was no memory at the first.
+/// A row, by a second try if memory ran out at the first.
 fn row_of(alloc: Global, case: &Case) -> Result<Row, Fail> {
     let row = match read_row(alloc, case.row) {
         None => read_row(alloc, case.row),
@@ -102,7 +102,7 @@ fn is_run(rt: &impl Abort, case: &Case, report: &Report, maps: &Maps) {
     assert_eq!(rt; maps.words(), case.left);
 }
 
-/// Runs a case by workers in threads, again where memory was refused.
+/// Runs a case with workers in threads, once more if memory ran out.
 fn runs_at_last<R: Threads + Sync + Abort, G: Gate>(
     rt: &R,
     alloc: Global,
@@ -140,7 +140,7 @@ fn maps_stay_where_a_worker_past_the_break_is_refused(rt: HostRuntime) -> Result
     runs_at_last(&rt, rt.alloc(), &BREAKS_AT_5, &gate)
 }
 
-/// The same in order.
+/// Two loops run in order, on one thread.
 #[test]
 fn maps_stay_where_order_is_refused(rt: HostRuntime) -> Result<(), Fail> {
     let alloc = rt.alloc();
