@@ -36,7 +36,7 @@ PARTS = (  # the slowest first
     Part("causes", re.compile(r'"spec_run_explain::'), "-O2"),
     REST,
     Part("words", re.compile(r'"bpfspec_command_line::'), "-Oz"),
-    Part("batches", re.compile(r'"bpf_step_batch::batch::Batch::run"'), "-O3", True),
+    Part("batches", re.compile(r'"row_run::batch::Batch::run"'), "-O3", True),
 )
 
 

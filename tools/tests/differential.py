@@ -6,7 +6,9 @@
 Each program of tools/tests/c, of examples/from_c and of what is named is compiled by gcc and by clang at -O1, -O2 and
 -Os for each instruction set that this clang knows. The unit runs by `order`, and by `run` with several workers. With
 --quick it is compiled for v2 at one of these levels and for v3 at the next one, by turns, and runs with one argument.
-The status is 1 where anything differs, is refused or ends by a trap.
+It counts the loop calls whose callback has a list of row operations, by which iterations may go together: no contract
+says that it has. The status is 1 where anything differs, is refused or ends by a trap, or where fewer than 60 in 100 of
+the loop calls that ran have a list: callbacks of more than 110 instructions often need more rows than there are.
 """
 
 from __future__ import annotations
@@ -30,6 +32,7 @@ from oracle.units import make_ready  # noqa: E402
 
 ARGUMENTS = (0, 7)
 QUICK_ARGUMENTS = (7,)
+LEAST_LISTS = 0.6  # of all loop calls
 FOLDERS = (TESTS / "c", REPOSITORY / "examples" / "from_c")
 
 
@@ -61,7 +64,12 @@ def main() -> int:
         f"{len(sources)} programs, {len(judged)} builds, {count[Outcome.DIFFERS]} differ, "
         f"{count[Outcome.TRAPPED]} trapped, {count[Outcome.REFUSED]} refused"
     )
-    return 1 if count[Outcome.SAME] < len(judged) else 0
+    lists = [has_list for one in judged for _, has_list in one.lists]
+    for one in judged:
+        if without := [slot for slot, has_list in one.lists if not has_list]:
+            print(f"no list: {one.name} {one.build}: calls at {', '.join(map(str, without))}")
+    print(f"{sum(lists)} of {len(lists)} loop calls have a list")
+    return 1 if count[Outcome.SAME] < len(judged) or sum(lists) < LEAST_LISTS * len(lists) else 0
 
 
 def compare(source: Path, tried: list[Build], arguments: tuple[int, ...]) -> list[Judged]:

@@ -15,6 +15,7 @@ pub mod halves;
 pub mod maps;
 mod runs;
 pub mod store;
+pub mod word_change;
 pub mod words;
 
 pub use access::{Half, Op, Part, Rmw, each_element};
@@ -22,4 +23,5 @@ pub use changes::{combine, exchange};
 pub use halves::{half_of, part_of, with_half};
 pub use maps::{Maps, MapsError};
 pub use store::Store;
+pub use word_change::WordChange;
 pub use words::are_words;

@@ -9,6 +9,7 @@ ghost use Rattle.array_maps.specs.MapList.{MapList, AreWords, base_of, zero_maps
 
 use crate::access::Op;
 use crate::runs::{store_each, update_each};
+use crate::word_change::WordChange;
 use crate::words::are_words;
 use bpf_insn_types::{MAX_ELEMENTS, elements_of};
 use std::alloc::{AllocError, Global};
@@ -166,6 +167,16 @@ impl Maps {
     {
         are_words(words.as_slice());
         self.words = words;
+    }
+
+    /// Changes the words of all elements in place.
+    pub fn change<C: WordChange>(&mut self, change: &C)
+        requires { C.wants change.now self.old.words }
+        ensures sizes { self.new.sizes ≡ self.old.sizes }
+        ensures words { C.makes change.now self.old.words self.new.words }
+    {
+        change.apply(&mut self.words);
+        are_words(self.words.as_slice());
     }
 
     /// A copy.

@@ -4,7 +4,7 @@ use Rattle.bpf_text_lex.specs.Words.{words_of}
 use Rattle.bpf_text_lex.specs.declared.text_error.TextError.{TextError}
 use Rattle.bpf_insn_types.specs.Outcome.{RefusalMatches}
 use Rattle.bpf_text_lex.specs.Refusals.{at_line, ◌>>=◌, text_refusal}
-use Rattle.loop_core_event.specs.declared.event.Event.{Event}
+use Rattle.loop_core_model.specs.declared.event.Event.{Event}
 use Rattle.bpf_text_lex.proofs.RefusalLaws.{bind_fails}
 use Rattle.bpf_text.specs.EventsText.{events_of, events_behind}
 

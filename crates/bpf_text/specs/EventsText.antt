@@ -12,9 +12,9 @@ use Rattle.bpf_text_lex.specs.declared.text_error.TextError.{TextError}
 use Rattle.bpf_text_lex.specs.declared.text_error.TextError.TheVariants as errors
 use Rattle.bpf_text_lex.specs.Refusals.{at_line, with_first_item, ◌>>=◌}
 use Rattle.bpf_text_lex.specs.Fields.{fields_of, field_of}
-use Rattle.loop_core_event.specs.declared.event.EventKind.{EventKind}
-use Rattle.loop_core_event.specs.declared.event.EventKind.TheVariants as kind
-use Rattle.loop_core_event.specs.declared.event.Event.{Event}
+use Rattle.loop_core_model.specs.declared.event.EventKind.{EventKind}
+use Rattle.loop_core_model.specs.declared.event.EventKind.TheVariants as kind
+use Rattle.loop_core_model.specs.declared.event.Event.{Event}
 
 -- the kind that a letter denotes
 abbrev pub event_kind_at : ℕ → Option EventKind

@@ -13,7 +13,7 @@ use bpf_text_lex::{
     Lines, MAX_TEXT, NumberError, TextError, TextFault, Words, is_number, next_word, read_number,
     read_u32_fields,
 };
-use loop_core_event::{Event, EventKind};
+use loop_core_model::{Event, EventKind};
 use std::alloc::Global;
 
 /// The kind that a letter denotes.
@@ -125,7 +125,8 @@ fn read_lines(alloc: Global, lines: Lines<'_>) -> Result<Vec<Event>, TextError>
 #[tactic(auto, unfolding(crate::specs::EventsText::schedule_of))]
 fn read_schedule(alloc: Global, text: &[u8]) -> Result<(Vec<u32>, Vec<Event>), TextError>
     requires { length text.now ≤ 1048576 }
-    ensures { MatchesUnlessMemory text_refusal (λ x. (x.0.items, x.1.items)) result (schedule_of (contents_of text.now)) }
+    ensures { MatchesUnlessMemory text_refusal (λ x. (x.0.items, x.1.items)) result
+        (schedule_of (contents_of text.now)) }
 {
     let mut lines = Lines::of(text);
     let Some(head) = lines.next() else {

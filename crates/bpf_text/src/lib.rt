@@ -29,6 +29,6 @@ pub use bpf_text_lex::{TextError, TextFault};
 pub use events::parse_events;
 pub use hex_printing::write_hex;
 pub use hex_reading::{HexUnit, read_hex};
-pub use loop_core_event::{Event, EventKind};
+pub use loop_core_model::{Event, EventKind};
 pub use maps::parse_maps;
 pub use maps_print::print_maps;

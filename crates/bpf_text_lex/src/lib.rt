@@ -1,7 +1,7 @@
-//! What all texts share, as bytes: lines, words, numbers and names; refusals; lines of numbers; and
-//! the lines of a unit, each with one spelling: the first line, read and printed, and a line for each
-//! instruction, a mnemonic and its operands. A text's blanks are the space and the tab and nothing
-//! else: a carriage return is a byte of its line like any other.
+//! What all texts share: lines, words, numbers, names, refusals and printed instructions. Lines of
+//! numbers and the first line of a unit are read. A unit's lines are printed, each with one spelling:
+//! the first line, and a line for each instruction, a mnemonic and its operands. A text's blanks are
+//! the space and the tab and nothing else: a carriage return is a byte of its line like any other.
 #![tactic(auto)]
 
 mod fields;

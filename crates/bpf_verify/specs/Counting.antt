@@ -1,5 +1,6 @@
 -- The most instructions from each slot on.
 use Rattle.std.specs.Prelude.{◌≡◌, ℕ, ◌<◌, List, length, map, ◌∷◌, slice_index_or, None}
+use Rattle.std.specs.List.{All}
 use Rattle.bpf_insn_types.specs.declared.insn.Insn.{Insn}
 use Rattle.bpf_insn_types.specs.Limits.{AreSizes}
 use Rattle.bpf_insn_types.specs.Values.{AreInsns}
@@ -10,6 +11,8 @@ use Rattle.bpf_step_ir.specs.declared.plain_op.PlainOp.{PlainOp}
 use Rattle.bpf_step_ir.specs.Translation.{AreOps}
 use Rattle.bpf_step_fuse.specs.declared.fast_op.FastOp.{FastOp}
 use Rattle.bpf_step_fuse.specs.Parts.{AreFast}
+use Rattle.bpf_verify.specs.declared.callback_rows.CallbackRows.{CallbackRows}
+use Rattle.bpf_verify.specs.Rows.{AreRows}
 
 -- the number at an index of a list, and 0 past its end
 abbrev pub most_at : List ℕ → ℕ → ℕ
@@ -20,9 +23,9 @@ pub record AreLongest (insns : List Insn) (counts : List ℕ) : Type 0 where
   pub at : (slot : ℕ) → slice_index_or counts slot 0 ≡ longest insns (slot_count insns) slot
 
 -- what an accepted unit is kept with: its numbers fit, and it has where its callbacks start, the most instructions of
--- each function, an operation for each slot, and those that run
+-- each function, an operation for each slot, those that run, and callbacks as lists
 pub record IsVerifiedProgram (program : Program) (starts counts : List ℕ) (ops : List PlainOp)
-    (fast : List FastOp) : Type 0 where
+    (fast : List FastOp) (rows : List CallbackRows) : Type 0 where
   pub accepted : first_fault program ≡ None
   pub insns_fit : AreInsns program.insns
   pub sizes_fit : AreSizes program.sizes
@@ -31,3 +34,4 @@ pub record IsVerifiedProgram (program : Program) (starts counts : List ℕ) (ops
   pub few : length starts < 4097
   pub ops_are : AreOps program ops
   pub fast_are : AreFast ops fast
+  pub rows_are : All (AreRows ops) rows

@@ -4,6 +4,7 @@ ghost use Rattle.std.specs.Prelude.{◌≡◌, IfOk, IfErr};
 ghost use Rattle.bpf_verify_model.specs.Accepted.{first_fault, Accepted, WithinLimits};
 ghost use Rattle.bpf_verify.specs.Passing.{IsFault};
 
+use crate::callback_rows::rows_of;
 use crate::counting::counts_of;
 use crate::error::VerifyError;
 use crate::fields::insns_fit;
@@ -63,11 +64,13 @@ pub fn verify(alloc: Global, unit: Unit) -> Result<Verified, VerifyError>
     let fast = fused(alloc, &ops)?;
     let counts = counts_of(alloc, &unit.insns, count, &layout.starts)?;
     insns_fit(&unit.insns);
+    let rows = rows_of(alloc, &ops, &layout.starts)?;
     Ok(Verified {
         unit,
         starts: layout.starts,
         counts,
         ops,
         fast,
+        rows,
     })
 }

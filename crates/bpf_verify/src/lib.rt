@@ -10,6 +10,7 @@
 #![tactic(auto)]
 
 mod accepting;
+mod callback_rows;
 mod counting;
 mod error;
 mod fields;
@@ -22,6 +23,7 @@ mod verified;
 
 pub use accepting::verify;
 pub use bpf_verify_model::Rule;
+pub use callback_rows::CallbackRows;
 pub use error::VerifyError;
 pub use states::states_before;
 pub use verified::Verified;

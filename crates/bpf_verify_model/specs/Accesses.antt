@@ -12,7 +12,7 @@ use Rattle.bpf_verify_model.specs.declared.state.State.{State}
 use Rattle.bpf_verify_model.specs.declared.memory_access.MemoryAccess.{MemoryAccess}
 use Rattle.bpf_verify_model.specs.declared.memory_access.AccessKind.{AccessKind}
 use Rattle.bpf_verify_model.specs.declared.memory_access.AccessKind.TheVariants.{Reads, Writes, Changes}
-use Rattle.bpf_verify_written.specs.Written.{all_written}
+use Rattle.bpf_verify_model.specs.Written.{all_written}
 
 -- the access of memory that an instruction makes, if it makes one (RFC 9669, section 5)
 abbrev pub memory_access_of : Insn → Option MemoryAccess

@@ -38,7 +38,7 @@ use Rattle.bpf_verify_model.specs.declared.state.State.{State}
 use Rattle.bpf_verify_model.specs.declared.outflow.Edge.{Edge}
 use Rattle.bpf_verify_model.specs.declared.outflow.Outflow.{Outflow}
 use Rattle.bpf_verify_model.specs.declared.outflow.BranchStates.{BranchStates}
-use Rattle.bpf_verify_written.specs.Written.{none_written, written_from}
+use Rattle.bpf_verify_model.specs.Written.{none_written, written_from}
 use Rattle.bpf_verify_model.specs.States.{known_register, with_known, starting_registers}
 use Rattle.bpf_verify_model.specs.Values.{known_operand, known_of_number, known_result}
 use Rattle.bpf_verify_model.specs.Helpers.{helper_called}

@@ -1,3 +1,6 @@
+pub mod Written
+pub mod Words
+pub mod WordsBack
 pub mod RuleNumbers
 pub mod States
 pub mod Values

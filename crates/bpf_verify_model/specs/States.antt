@@ -3,7 +3,7 @@ use Rattle.std.specs.Prelude.{ℕ, ◌==◌, Bool, if◌then◌else◌, List, ma
 use Rattle.std.specs.Prelude.{slice_set, zip, Option, Some, None}
 use Rattle.bpf_insn_types.specs.declared.insn.Width.TheVariants.{W64}
 use Rattle.value_range.specs.Spans.{top, join}
-use Rattle.bpf_verify_written.specs.Written.{none_written, joined_written}
+use Rattle.bpf_verify_model.specs.Written.{none_written, joined_written}
 use Rattle.bpf_verify_model.specs.declared.abstract_value.AbstractValue.{AbstractValue}
 use Rattle.bpf_verify_model.specs.declared.abstract_value.AbstractValue.TheVariants.{Unwritten, Number, Frame, Ctx}
 use Rattle.bpf_verify_model.specs.declared.abstract_value.AbstractValue.TheVariants.{Map, Area, AreaOrNull, Code}

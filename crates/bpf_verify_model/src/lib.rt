@@ -1,7 +1,8 @@
-//! The verifier's definitions: the abstract state of registers and frames before a slot, the rules that an
-//! instruction breaks by the abstract state, what flows from it to later slots, which programs are
-//! accepted, and how many instructions a function takes at most. They stand in `specs/`, and here the
-//! types that they speak of; the verifier's code is in the crates above.
+//! The verifier's definitions: the abstract state of registers and frames before a slot, with the bytes
+//! of a frame that are written; the rules that an instruction breaks by the abstract state; what flows
+//! from it to later slots; which programs are accepted; and how many instructions a function takes at
+//! most. They stand in `specs/`, and here the types that they speak of; the verifier's code is in the
+//! crates above.
 #![tactic(auto)]
 
 mod abstract_value;
@@ -12,6 +13,7 @@ mod outflow;
 mod registers;
 mod rule;
 mod state;
+mod written;
 
 pub use abstract_value::AbstractValue;
 pub use helper::Helper;
@@ -21,3 +23,4 @@ pub use outflow::{BranchStates, Edge, Outflow};
 pub use registers::{Registers, reg};
 pub use rule::Rule;
 pub use state::State;
+pub use written::WrittenBytes;

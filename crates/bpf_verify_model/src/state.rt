@@ -5,8 +5,8 @@ ghost use Rattle.bpf_verify_model.specs.States.{known_register, with_known};
 
 use crate::abstract_value::AbstractValue;
 use crate::registers::Registers;
+use crate::written::WrittenBytes;
 use bpf_insn_types::Reg;
-use bpf_verify_written::WrittenBytes;
 
 /// The abstract state before a slot: each register, the written bytes of the own frame, and in a callback
 /// those of main's frame at the call.

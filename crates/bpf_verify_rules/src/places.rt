@@ -6,8 +6,7 @@ ghost use Rattle.bpf_verify_model.specs.Accesses.{misses_alignment, is_outside_f
 ghost use Rattle.bpf_verify_model.specs.Accesses.{lacks_bytes, caller_lacks, has_unwritten_byte, is_ctx};
 
 use bpf_insn_types::FRAME_BYTES;
-use bpf_verify_model::{AbstractValue, State};
-use bpf_verify_written::WrittenBytes;
+use bpf_verify_model::{AbstractValue, State, WrittenBytes};
 use value_range::Range;
 
 /// Whether it is the address of memory, as V16 asks of the base of an access.

@@ -8,7 +8,7 @@ use Rattle.std.proofs.Math.Nat.{pow-suc}
 use Rattle.std.proofs.lemmas.List.{length-take-le, length-drop, length-append, take-append-drop}
 use Rattle.std.proofs.lemmas.List.{append_assoc, length-replicate}
 use Rattle.std.proofs.lemmas.List.Folds.{drop_split}
-use Rattle.bpf_verify_written.specs.Written.{all_written, written_from}
+use Rattle.bpf_verify_model.specs.Written.{all_written, written_from}
 use Rattle.bpf_step_model.specs.State.{Bytes}
 use Rattle.bpf_step_model.specs.Memory.{with_low_byte, number_of, number_at, written_at}
 use Rattle.bpf_verify_sound.specs.Containment.{IsWritten, AreWritten}

@@ -5,7 +5,7 @@ use Rattle.std.proofs.lemmas.Bool.Decides.{nat_tests}
 use Rattle.std.proofs.Common.{arith}
 use Rattle.value_range.specs.Spans.{Span, Contains, join}
 use Rattle.value_range.proofs.SpanLaws.{join-first, join-second}
-use Rattle.bpf_verify_written.specs.Written.{joined_written}
+use Rattle.bpf_verify_model.specs.Written.{joined_written}
 use Rattle.bpf_verify_model.specs.declared.abstract_value.AbstractValue.{AbstractValue}
 use Rattle.bpf_verify_model.specs.declared.abstract_value.AbstractValue.TheVariants as known
 use Rattle.bpf_verify_model.specs.declared.state.State.{State}

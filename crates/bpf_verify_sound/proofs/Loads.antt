@@ -19,7 +19,7 @@ use Rattle.array_maps.specs.Halves.{half_of, part_of}
 use Rattle.value_range.specs.Spans.{top}
 use Rattle.value_range.proofs.SpanLaws.{norm-contains, top-contains}
 use Rattle.value_range.proofs.Multiples.{multiple-zero}
-use Rattle.bpf_verify_written.specs.Written.{all_written}
+use Rattle.bpf_verify_model.specs.Written.{all_written}
 use Rattle.bpf_verify_model.specs.declared.abstract_value.AbstractValue.{AbstractValue}
 use Rattle.bpf_verify_model.specs.declared.abstract_value.AbstractValue.TheVariants as known
 use Rattle.bpf_verify_model.specs.declared.memory_access.MemoryAccess.{MemoryAccess}

@@ -1,7 +1,7 @@
 -- A loop call goes on within the abstract states, and so do its iterations start.
 use Rattle.std.proofs.Common.{◌≡◌, ℕ, zero, suc, ◌+◌, ◌-◌, ◌%◌, ◌^◌, ◌<◌, ◌≤◌, inr, Bool, true, false, not, ◌||◌}
 use Rattle.std.proofs.Common.{replicate, Option, Some, None, is_some, refl, sym, ap, ◌∙◌, subst, arith}
-use Rattle.std.specs.Prelude.{ℤ, negsuc, nat_lt, ◌==◌, if◌then◌else◌}
+use Rattle.std.specs.Prelude.{negsuc, nat_lt, ◌==◌, if◌then◌else◌}
 use Rattle.std.proofs.lemmas.Bool.Decides.{nat_tests}
 use Rattle.bpf_insn_types.specs.declared.insn.Width.TheVariants.{W32, W64}
 use Rattle.bpf_insn_types.specs.declared.insn.AluOp.TheVariants.{Mov}
@@ -13,7 +13,7 @@ use Rattle.value_range.specs.declared.operation.Operation.TheVariants.{Alu as Al
 use Rattle.value_range.specs.AluRows.{meant, span_of}
 use Rattle.value_range.proofs.SpanLaws.{norm-contains, top-contains, exact-contains}
 use Rattle.value_range.proofs.Multiples.{multiple-zero}
-use Rattle.bpf_verify_written.specs.Written.{none_written}
+use Rattle.bpf_verify_model.specs.Written.{none_written}
 use Rattle.bpf_verify_model.specs.declared.abstract_value.AbstractValue.{AbstractValue}
 use Rattle.bpf_verify_model.specs.declared.abstract_value.AbstractValue.TheVariants as known
 use Rattle.bpf_verify_model.specs.declared.helper.Helper.TheVariants.{Loop}

@@ -9,7 +9,7 @@ use Rattle.bpf_insn_types.specs.Program.{Program, leads_to}
 use Rattle.bpf_insn_types.specs.Words.{word_of}
 use Rattle.array_maps.specs.declared.access.Part.{Part}
 use Rattle.array_maps.specs.declared.access.Part.TheVariants.{Whole, Half as Of}
-use Rattle.bpf_verify_written.specs.Written.{written_from}
+use Rattle.bpf_verify_model.specs.Written.{written_from}
 use Rattle.bpf_verify_model.specs.declared.abstract_value.AbstractValue.{AbstractValue}
 use Rattle.bpf_verify_model.specs.declared.abstract_value.AbstractValue.TheVariants as known
 use Rattle.bpf_verify_model.specs.declared.memory_access.MemoryAccess.{MemoryAccess}

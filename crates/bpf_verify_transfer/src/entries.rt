@@ -5,8 +5,7 @@ ghost use Rattle.bpf_verify_model.specs.States.{known_main_entry};
 ghost use Rattle.bpf_verify_model.specs.Flow.{most_iterations, known_index, known_ctx, known_callback_entry};
 
 use bpf_insn_types::{AluOp, MAX_ITERATIONS, Width};
-use bpf_verify_model::{AbstractValue, Registers, State, reg};
-use bpf_verify_written::WrittenBytes;
+use bpf_verify_model::{AbstractValue, Registers, State, WrittenBytes, reg};
 use value_range::{Operation, Range, alu, exact, norm, top};
 
 /// Main as it starts: its argument is any number.

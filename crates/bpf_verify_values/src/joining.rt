@@ -6,8 +6,7 @@ ghost use Rattle.bpf_verify_model.specs.declared.abstract_value.AbstractValue.Th
 ghost use Rattle.bpf_verify_model.specs.declared.abstract_value.AbstractValue.TheVariants.{Code};
 ghost use Rattle.bpf_verify_model.specs.States.{joined_values, joined_registers, joined_callers, joined_states};
 
-use bpf_verify_model::{AbstractValue, Registers, State, reg};
-use bpf_verify_written::WrittenBytes;
+use bpf_verify_model::{AbstractValue, Registers, State, WrittenBytes, reg};
 use value_range::{Range, join};
 
 /// The join of a register's abstract values.

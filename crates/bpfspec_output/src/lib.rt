@@ -1,6 +1,6 @@
-//! What the program reads and writes: its streams, of which all bytes are read or written; and what is
-//! printed of an accepted program, of a program that ran, of a loop that was replayed, and of a
-//! refusal.
+//! The program's streams, and what is printed of programs, runs, loops and refusals. All bytes of a
+//! stream are read or written, and failed calls are counted. Printed are what the verifier accepted, a
+//! program that ran, a loop that was replayed, and a refusal.
 //!
 //!     let functions = [Function { start: 0, count: 2 }];
 //!     let text = print_accepted(alloc, &functions)?;

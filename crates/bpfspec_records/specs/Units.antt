@@ -7,7 +7,7 @@ use Rattle.bpf_insn_types.specs.declared.insn.Insn.TheVariants.{Load, LoadSx, At
 use Rattle.bpf_insn_types.specs.Sizes.{bytes_of, atomic_bytes}
 use Rattle.bpf_insn_types.specs.Slots.{slots_of}
 use Rattle.bpf_insn_types.specs.Program.{Program, insn_at}
-use Rattle.bpf_verify_written.specs.Written.{all_written, none_written}
+use Rattle.bpf_verify_model.specs.Written.{all_written, none_written}
 use Rattle.bpf_verify_model.specs.declared.abstract_value.AbstractValue.{AbstractValue}
 use Rattle.bpf_verify_model.specs.declared.abstract_value.AbstractValue.TheVariants.{Frame, Ctx}
 use Rattle.bpf_verify_model.specs.declared.helper.Helper.{Helper}

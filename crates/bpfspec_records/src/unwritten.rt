@@ -7,9 +7,8 @@ ghost use Rattle.bpfspec_records.specs.Units.{place_records, unread_records};
 use crate::adding::add;
 use crate::records::{FrameOf, Record};
 use bpf_insn_types::{Insn, Reg};
-use bpf_verify_model::{AbstractValue, Helper, State, reg};
+use bpf_verify_model::{AbstractValue, Helper, State, WrittenBytes, reg};
 use bpf_verify_values::{atomic_bytes, bytes_of, helper_of};
-use bpf_verify_written::WrittenBytes;
 use std::alloc::AllocError;
 
 /// A read of memory: n bytes at a base register and an offset.

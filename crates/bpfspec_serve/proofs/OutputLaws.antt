@@ -14,7 +14,7 @@ use Rattle.bpf_verify_model.specs.Accepted.{first_fault}
 use Rattle.bpf_verify_model.specs.declared.rule.Rule.{Rule}
 use Rattle.loop_core_model.specs.Report.{Reported}
 use Rattle.bpfspec_output.specs.ReportText.{replay_text, report_text}
-use Rattle.loop_core_event.specs.declared.event.Event.{Event}
+use Rattle.loop_core_model.specs.declared.event.Event.{Event}
 use Rattle.loop_core_model.specs.declared.loop_test.Test.{Test}
 use Rattle.spec_run_replay.specs.declared.replaying.Replayed.{Replayed}
 use Rattle.spec_run_replay.specs.ProgramReplay.{LoopReplay}

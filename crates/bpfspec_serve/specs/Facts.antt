@@ -6,7 +6,7 @@ use Rattle.array_maps.specs.MapList.{MapList}
 use Rattle.bpf_insn_types.specs.declared.insn.Insn.{Insn}
 use Rattle.bpf_insn_types.specs.Program.{Program, callback_starts}
 use Rattle.bpf_text.specs.EventsText.{events_text}
-use Rattle.loop_core_event.specs.declared.event.Event.{Event}
+use Rattle.loop_core_model.specs.declared.event.Event.{Event}
 use Rattle.spec_run_replay.specs.ProgramReplay.{LoopReplay}
 use Rattle.spec_run_explain.specs.declared.explained.Explained.{Explained}
 use Rattle.spec_run_explain.specs.Programs.{IsProgramExplained}

@@ -21,7 +21,7 @@ use Rattle.array_maps.specs.MapList.{lengths}
 use Rattle.bpf_step_model.specs.Run.{BoundedResult, Ended}
 use Rattle.loop_core_model.specs.declared.loop_test.Test.{Test}
 use Rattle.loop_core_model.specs.Report.{Reported, report, report_in_order}
-use Rattle.loop_core_event.specs.declared.event.Event.{Event}
+use Rattle.loop_core_model.specs.declared.event.Event.{Event}
 use Rattle.spec_run_replay.specs.declared.replaying.Replayed.{Replayed}
 use Rattle.spec_run_replay.specs.declared.replaying.ReplayRefusal.{ReplayRefusal}
 use Rattle.spec_run_replay.specs.declared.replaying.ReplayRefusal.TheVariants as replays

@@ -19,7 +19,7 @@ use bpf_text::{print_unit, write_hex};
 use bpf_verify::Verified;
 use bpfspec_command_line::{Mode, Plan, Test, UnitForm};
 use bpfspec_output::{Function, Refusal, print_accepted, print_replay, print_report};
-use loop_core_event::Event;
+use loop_core_model::Event;
 use loop_core_split::Gate;
 use spec_run::{Observer, RunError, run_in_order, run_observed};
 use spec_run_replay::{NoReplay, ReplayRefusal, Replayed, replay};

@@ -16,7 +16,7 @@ use bpf_text::{TextError, TextFault, parse_events, parse_maps, parse_unit, read_
 use bpf_verify::{Verified, VerifyError, verify};
 use bpfspec_command_line::UnitForm;
 use bpfspec_output::{Refusal, Section};
-use loop_core_event::Event;
+use loop_core_model::Event;
 use std::alloc::Global;
 use std::str;
 

@@ -29,7 +29,7 @@ fn print_loop(out: &mut String, told: &LoopStats) -> Result<(), AllocError> {
     print_iterations(out, told)?;
     out.push_str(", ")?;
     write_way(out, told.course, told.verdict)?;
-    out.push_str(", ")?;
+    out.push_str(if told.has_list { ", list, " } else { ", " })?;
     print_time(out, told.time)?;
     out.push_str(": ")?;
     out.push_str(reason_of(told.course))?;

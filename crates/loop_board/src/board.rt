@@ -12,7 +12,7 @@ use crate::gathering::{close, join};
 use crate::rule::{BoardTable, Claim, Look, Post};
 use crate::seat::BoardSeat;
 use crate::view::Extent;
-use loop_core_event::{MAX_BLOCKS, MAX_WORKERS};
+use loop_core_model::{MAX_BLOCKS, MAX_WORKERS};
 use std::alloc::Global;
 use std::marker::Model;
 

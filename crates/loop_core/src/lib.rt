@@ -18,11 +18,10 @@
 #![tactic(auto)]
 
 pub use loop_core_block::{Block, BlockWorkspace, SpeculativeLoop, run_block};
-pub use loop_core_event::{Event, EventKind};
 pub use loop_core_gather::{
     GatherError, GatherFault, Gathered, LeftPage, LoopOutcome, commit_or_rerun, gather, store_pages,
 };
-pub use loop_core_model::{Test, Verdict};
+pub use loop_core_model::{Event, EventKind, Test, Verdict};
 pub use loop_core_replay::{ReplayError, ReplayFault, replay_loop};
 pub use loop_core_sequential::in_order;
 pub use loop_core_split::{Gate, NoGate, Split, SplitError};

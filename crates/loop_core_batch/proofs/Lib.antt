@@ -1,7 +1,3 @@
-pub mod BatchLaws
-pub mod Meeting
-pub mod SiteLaws
 pub mod Swapping
-pub mod ApplyLaws
 pub mod Sparing
 pub mod EffectLaws

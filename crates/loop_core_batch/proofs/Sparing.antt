@@ -1,7 +1,6 @@
 -- What effects leave of an element, and of its halves.
 use Rattle.std.proofs.Common.{◌≡◌, ◌≢◌, ℕ, zero, suc, ◌+◌, ◌*◌, ◌%◌, ◌/◌, ◌^◌, ◌<◌, Bool, true, false, List, length}
 use Rattle.std.proofs.Common.{inl, inr, [], ◌∷◌, set, get_or, refl, sym, ◌∙◌, ap, subst, arith}
-use Rattle.std.specs.Prelude.{Option, Some, None, IfSome}
 use Rattle.std.specs.List.{AllByRecursion}
 use Rattle.std.proofs.lemmas.Bool.{cases_eq}
 use Rattle.std.proofs.lemmas.List.{get_or-set_other, set-get_or}
@@ -13,11 +12,10 @@ use Rattle.array_maps.specs.Halves.{half_of, with_half, part_of}
 use Rattle.array_maps.specs.Accesses.{left_by, words_after_all}
 use Rattle.array_maps.specs.MapList.{AreWords}
 use Rattle.array_maps.proofs.ElementLaws.{length-words_after_all}
-use Rattle.loop_core_batch.specs.declared.elements.Elements.{Elements}
-use Rattle.loop_core_batch.specs.Sites.{MayAccess, MayMeet, HalvesMeet, kind_leaves}
+use Rattle.loop_core_batch.specs.Kinds.{kind_leaves}
 use Rattle.loop_core_batch.specs.Effects.{Deed, Load, Store, Fetch, Replace, Apply, action_on, kind_of_deed, deed_part}
 use Rattle.loop_core_batch.specs.Effects.{Effect, words_after_effect, accesses_on, words_after_effects, EffectLog}
-use Rattle.loop_core_batch.specs.Effects.{effects_of, words_after_each_lane, half_number, IsOfHalf}
+use Rattle.loop_core_batch.specs.Effects.{effects_of, words_after_each_lane}
 use Rattle.loop_core_batch.proofs.Swapping.{changed_at}
 
 -- accesses leave what the effects leave
@@ -91,13 +89,6 @@ fits_for Whole word below = tt
 fits_for (Of Low) word below = tt
 fits_for (Of High) word below = below
 
--- so does one of which the upper half is that of such a word
-pub fits_by_half : (half : Half) (word other : ℕ) → half_of half word ≡ half_of half other → other < 2 ^ 64
-    → FitsFor (Of half) word
-unfolding half_of
-fits_by_half Low word other same below = tt
-fits_by_half High word other same below = omega (arith, same, below)
-
 -- of such a word a part stays, and it stays one
 abbrev pub Kept : (part : Part) (word left : ℕ) → Type 0
 Kept part word left = (part_of part left ≡ part_of part word) × FitsFor part left
@@ -143,7 +134,7 @@ deed_spares (Replace High number fetches) half High differ is leaves word below 
     let same : half ≡ High = cc in absurd (differ same)
 
 -- what is so of a word and of what it becomes is so where it stands in a list
-at_place : (P : (word left : ℕ) → Type 0) (change : ℕ → ℕ) (words : List ℕ) (e : ℕ) → P 0 0
+pub at_place : (P : (word left : ℕ) → Type 0) (change : ℕ → ℕ) (words : List ℕ) (e : ℕ) → P 0 0
     → P (get_or words e 0) (change (get_or words e 0)) → P (get_or words e 0) (get_or (changed_at change e words) e 0)
 at_place P change [] e none some = none
 at_place P change (word ∷ words) zero none some = some
@@ -219,44 +210,3 @@ deeds_exchange (Replace High n f) (Replace Low m g) half other differ is other_i
     sym (both_replaced word m n)
 deeds_exchange (Replace High n f) (Replace High m g) half other differ is other_is leaves other_leaves word =
     let same : half ≡ other = cc in absurd (differ same)
-
--- effects of one element, at sites of which the earlier lane's and the later one's may not meet, are of two halves
-pub unmet_halves : (lanes : ℕ) (a b : Effect) (earlier later : ℕ) → earlier < later → later < lanes
-    → (firsts seconds : Elements) (halves others : Option Elements) → a.element ≡ b.element
-    → MayAccess firsts earlier a.element → MayAccess seconds later b.element → IfSome halves (IsOfHalf earlier a)
-    → IfSome others (IsOfHalf later b) → ¬ (MayMeet firsts seconds lanes × HalvesMeet halves others lanes)
-    → (Goal : Type 0)
-    → ((half other : Half) → half ≢ other → deed_part a.deed ≡ Of half → deed_part b.deed ≡ Of other → Goal) → Goal
-unmet_halves lanes a b earlier later order within firsts seconds halves others same may other_may of_half of_other
-    unmet Goal goal = go halves others of_half of_other unmet
-  where
-    meet : MayMeet firsts seconds lanes
-    meet = record {
-      earlier = earlier;
-      later = later;
-      element = a.element;
-      in_order = order;
-      within = within;
-      by_first = may;
-      by_second = subst (MayAccess seconds later) (sym same) other_may;
-    }
-
-    go : (one two : Option Elements) → IfSome one (IsOfHalf earlier a) → IfSome two (IsOfHalf later b)
-        → ¬ (MayMeet firsts seconds lanes × HalvesMeet one two lanes) → Goal
-    go None None is is_other none = absurd (none (meet, tt))
-    go None (Some two) is is_other none = absurd (none (meet, tt))
-    go (Some one) None is is_other none = absurd (none (meet, tt))
-    go (Some one) (Some two) is is_other none =
-        goal is.half is_other.half (λ alike. none (
-          meet,
-          record {
-            earlier = earlier;
-            later = later;
-            element = half_number a.element is.half;
-            in_order = order;
-            within = within;
-            by_first = is.may;
-            by_second = subst (λ (e : ℕ). MayAccess two later (half_number e is.half)) (sym same)
-                (subst (λ (half : Half). MayAccess two later (half_number b.element half)) (sym alike) is_other.may);
-          },
-        )) is.alone is_other.alone

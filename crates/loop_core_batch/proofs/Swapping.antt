@@ -1,24 +1,18 @@
--- Two accesses that may change places.
+-- Two changes of words that may change places.
 use Rattle.std.proofs.Common.{◌≡◌, ◌≢◌, ℕ, zero, suc, Bool, true, false, List, []}
 use Rattle.std.proofs.Common.{◌∷◌, set, get_or, refl, sym, ◌∙◌, ap, subst, ◌+◌}
 use Rattle.std.specs.Prelude.{◌==◌, ◌%◌, ◌^◌}
 use Rattle.std.proofs.Math.Nat.{add_comm}
 use Rattle.std.proofs.lemmas.Bool.{eqb-true, eqb-false}
 use Rattle.std.proofs.lemmas.Nat.{or_comm, and_comm, xor_comm}
-use Rattle.std.proofs.lemmas.List.{get_or-set_other, set_comm, set-get_or}
+use Rattle.std.proofs.lemmas.List.{get_or-set_other, set_comm}
 use Rattle.bpf_insn_types.specs.Words.{alu}
 use Rattle.array_maps.specs.declared.access.Op.{Op}
 use Rattle.array_maps.specs.declared.access.Op.TheVariants.{Add, Or, And, Xor, AddH}
-use Rattle.array_maps.specs.Accesses.{Action, Read, Write, ReadWrite, Reduce, Access, combined, left_by, words_after}
+use Rattle.array_maps.specs.Accesses.{combined}
 use Rattle.array_maps.specs.Halves.{of_halves, half_of, halves_added}
 use Rattle.array_maps.specs.declared.access.Half.TheVariants.{Low, High}
-use Rattle.loop_core_model.specs.Actions.{is_write}
 use Rattle.loop_core_model.specs.Kept.{OperatorsAssociate}
-use Rattle.loop_core_batch.specs.BySite.{combined_to, SumsAtOnce}
-
--- they leave the same in either order
-abbrev pub Swap : Access → Access → Type 0
-Swap a b = (words : List ℕ) → words_after a (words_after b words) ≡ words_after b (words_after a words)
 
 -- a word of a list changed
 abbrev pub changed_at : (ℕ → ℕ) → ℕ → List ℕ → List ℕ
@@ -41,27 +35,6 @@ other_place f g words d e apart =
     ∙ set_comm words e d y x (λ same. apart (sym same))
     ∙ sym (ap (λ (w : ℕ). set (set words d x) e (g w)) (get_or-set_other words d e x 0 (λ same. apart (sym same))))
 
--- accesses of different elements
-pub apart_swap : (a b : Access) → a.element ≢ b.element → Swap a b
-apart_swap a b apart words = other_place (left_by a.action) (left_by b.action) words a.element b.element apart
-
--- an access that writes nothing
-unwritten : (action : Action) (word : ℕ) → is_write action ≡ false → left_by action word ≡ word
-unwritten (Read saw) word h = refl
-unwritten (Write left) word h = absurd (cc)
-unwritten (ReadWrite saw left) word h = absurd (cc)
-unwritten (Reduce op operand) word h = absurd (cc)
-
-keeps : (a : Access) → is_write a.action ≡ false → (words : List ℕ) → words_after a words ≡ words
-keeps a h words = ap (set words a.element) (unwritten a.action (get_or words a.element 0) h)
-    ∙ set-get_or words a.element 0
-
-pub first_keeps : (a b : Access) → is_write a.action ≡ false → Swap a b
-first_keeps a b h words = keeps a h (words_after b words) ∙ sym (ap (words_after b) (keeps a h words))
-
-pub second_keeps : (a b : Access) → is_write b.action ≡ false → Swap a b
-second_keeps a b h words = ap (words_after a) (keeps b h words) ∙ sym (keeps b h (words_after a words))
-
 -- reduces by one operator
 combined_comm : (op : Op) (a b : ℕ) → combined op a b ≡ combined op b a
 unfolding combined alu halves_added
@@ -78,8 +51,9 @@ in_either_order : OperatorsAssociate → (op : Op) (word x y : ℕ) → combined
 in_either_order laws op word x y = laws.each op word x y ∙ ap (combined op word) (combined_comm op x y)
     ∙ sym (laws.each op word y x)
 
-pub reduces_swap : OperatorsAssociate → (op : Op) (d e x y : ℕ) → Swap (record { element = d; action = Reduce op x })
-    (record { element = e; action = Reduce op y })
+pub reduces_swap : OperatorsAssociate → (op : Op) (d e x y : ℕ) (words : List ℕ)
+    → changed_at (λ (word : ℕ). combined op word x) d (changed_at (λ (word : ℕ). combined op word y) e words)
+    ≡ changed_at (λ (word : ℕ). combined op word y) e (changed_at (λ (word : ℕ). combined op word x) d words)
 reduces_swap laws op d e x y words = go (d == e) refl
   where
     go : (same : Bool) → (d == e) ≡ same →
@@ -94,22 +68,3 @@ reduces_swap laws op d e x y words = go (d == e) refl
         (eqb-true d e same)
         (same_place (λ (word : ℕ). combined op word x) (λ (word : ℕ). combined op word y)
         (λ word. in_either_order laws op word y x) words d)
-
--- two changes at one place, at once
-at_once : (f g both : ℕ → ℕ) → ((word : ℕ) → f (g word) ≡ both word) → (words : List ℕ) (e : ℕ)
-    → changed_at f e (changed_at g e words) ≡ changed_at both e words
-at_once f g both same [] e = refl
-at_once f g both same (word ∷ words) zero = ap (λ (w : ℕ). w ∷ words) (same word)
-at_once f g both same (word ∷ words) (suc e) = ap (λ (ws : List ℕ). word ∷ ws) (at_once f g both same words e)
-
--- so of the reduces of all lanes
-pub sums_at_once : OperatorsAssociate → SumsAtOnce
-sums_at_once laws op element operands zero words = refl
-sums_at_once laws op element operands (suc last) words =
-    let so_far : ℕ = combined_to op operands last in
-    let next : ℕ = operands (suc last) in
-    ap (words_after (record { element = element; action = Reduce op next })) (sums_at_once laws op element operands last
-    words)
-    ∙ at_once (λ (word : ℕ). combined op word next) (λ (word : ℕ). combined op word so_far)
-    (λ (word : ℕ). combined op word (combined op so_far next))
-    (λ word. laws.each op word so_far next) words element

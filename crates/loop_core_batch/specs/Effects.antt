@@ -1,8 +1,8 @@
 -- What the lanes of a batch do on any words: each deed of a lane is at one element, and what is done there may depend on
 -- the word that stands there.
-use Rattle.std.specs.Prelude.{◌≡◌, ℕ, zero, suc, ◌+◌, ◌*◌, ◌<◌, Bool, true, false, List, [], ◌∷◌, length, slice_index}
-use Rattle.std.specs.Prelude.{Option, Some, None, IfSome}
-use Rattle.std.specs.List.{All, AllByRecursion, AllZip}
+use Rattle.std.specs.Prelude.{◌≡◌, ℕ, zero, suc, ◌+◌, ◌*◌, Bool, true, false, List, [], ◌∷◌, length, slice_index}
+use Rattle.std.specs.Prelude.{Option, Some, None}
+use Rattle.std.specs.List.{AllByRecursion}
 use Rattle.array_maps.specs.declared.access.Half.{Half}
 use Rattle.array_maps.specs.declared.access.Half.TheVariants.{Low, High}
 use Rattle.array_maps.specs.declared.access.Op.{Op}
@@ -12,9 +12,6 @@ use Rattle.array_maps.specs.Halves.{part_of, with_half}
 use Rattle.array_maps.specs.Accesses.{Action, Read, Write, ReadWrite, Reduce as Reduces, Access, words_after}
 use Rattle.loop_core_model.specs.declared.access.Access.{Access as Kind}
 use Rattle.loop_core_model.specs.declared.access.Access.TheVariants.{Read as Reads, Write as Writes, Both, Reduce}
-use Rattle.loop_core_batch.specs.declared.site.Site.{Site}
-use Rattle.loop_core_batch.specs.declared.elements.Elements.{Elements}
-use Rattle.loop_core_batch.specs.Sites.{MayAccess, SitesMeet, kind_leaves}
 
 -- the word of an element is loaded, or a half of it; another is stored; it is loaded and another stored, as by a fetch;
 -- a half of it is replaced, which a fetch loads; or an operator is applied to it
@@ -118,22 +115,6 @@ words_after_each_lane log zero words = words
 words_after_each_lane log (suc lanes) words =
     words_after_effects (effects_of log lanes) (words_after_each_lane log lanes words)
 
--- accesses of this kind load the word: where they read and write it, they do if they fetch it
-abbrev pub kind_loads : Kind → (fetches : Bool) → Bool
-kind_loads Reads fetches = true
-kind_loads Writes fetches = false
-kind_loads Both fetches = fetches
-kind_loads (Reduce op) fetches = false
-
--- those at a site do
-abbrev pub site_loads : Site → Bool
-site_loads site = kind_loads site.kind site.fetches
-
--- where those at a site read and write the word, they leave another in its place: they fetch the word, and not a half
-abbrev pub leaves_another : Option Elements → (fetches : Bool) → Bool
-leaves_another None fetches = fetches
-leaves_another (Some halves) fetches = false
-
 -- on other words the same is loaded: where it loads a half of a word, that half alone has to be the same
 abbrev pub SameIfLoaded : (words now : List ℕ) → Effect → Type 0
 SameIfLoaded words now effect = deed_loads effect.deed ≡ true
@@ -149,31 +130,3 @@ pub record LoadsSame (words now : List ℕ) (effects : List Effect) : Type 0 whe
 abbrev pub half_number : (element : ℕ) → Half → ℕ
 half_number element Low = 2 * element
 half_number element High = 2 * element + 1
-
--- an effect is of a half alone, one of those that its lane may access
-pub record IsOfHalf (lane : ℕ) (effect : Effect) (halves : Elements) : Type 0 where
-  pub half : Half
-  pub alone : deed_part effect.deed ≡ Of half
-  pub may : MayAccess halves lane (half_number effect.element half)
-
--- a lane's effect is what its site tells: of its kind, with a load where that loads, at one of its elements, and of one
--- of its halves where it tells these
-pub record IsEffectAtSite (site : Site) (lane : ℕ) (effect : Effect) : Type 0 where
-  pub kind : kind_of_deed effect.deed ≡ site.kind
-  pub loads : deed_loads effect.deed ≡ site_loads site
-  pub element : MayAccess site.elements lane effect.element
-  pub halves : IfSome site.halves (IsOfHalf lane effect)
-
--- the sites tell of each effect of n lanes
-abbrev pub IsEffectLogOf : (lanes : ℕ) → List Site → EffectLog → Type 0
-IsEffectLogOf lanes sites log = AllZip (λ site (at : ℕ → Option Effect). (lane : ℕ) → lane < lanes
-    → IfSome (at lane) (IsEffectAtSite site lane)) sites log
-
--- no lane may load at one site what an earlier one may write at the other
-abbrev pub Unloaded : (lanes : ℕ) (reader writer : Site) → Type 0
-Unloaded lanes reader writer = kind_leaves writer.kind ≡ true → site_loads reader ≡ true
-    → ¬ (SitesMeet lanes writer reader)
-
--- no site's writes may be loaded at any of them
-abbrev pub AllUnloaded : (lanes : ℕ) → List Site → Type 0
-AllUnloaded lanes sites = All (λ reader. All (λ writer. Unloaded lanes reader writer) sites) sites

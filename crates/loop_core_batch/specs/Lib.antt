@@ -1,7 +1,3 @@
-pub mod Lanes
-pub mod Strides
-pub mod Sites
-pub mod BySite
-pub mod LoopByBatch
+pub mod Kinds
 pub mod Effects
 pub mod LoopByEffects

@@ -1,16 +1,4 @@
-pub mod FoldLaws
-pub mod FoldedLaws
-pub mod Grid
-pub mod KeptLanes
-pub mod LaneLaws
-pub mod MarkedLanes
 pub mod MostLaws
 pub mod OneMoreLaws
-pub mod PageLanes
-pub mod PairLaws
-pub mod RepeatLaws
 pub mod RunLaws
-pub mod SiteLaws
 pub mod SplitEnds
-pub mod RunSites
-pub mod WholeLaws

@@ -78,8 +78,3 @@ module _ (law : AccessesFollow) (old new : Runner) (index need : ℕ) (begun run
     broke_is = is;
     has_run = has_run;
   }
-
--- effects of accesses by another name
-pub effects_of : (begun run : Private) (a b : List Access) → a ≡ b → Effects AccessEffect begun b run
-    → Effects AccessEffect begun a run
-effects_of begun run a b same effects = subst (λ (l : List Access). Effects AccessEffect begun l run) (sym same) effects

@@ -2,10 +2,6 @@ pub mod Blocks
 pub mod Shown
 pub mod Ran
 pub mod Loops
-pub mod Whole
-pub mod Batches
-pub mod Folding
-pub mod Placing
 pub mod Runs
 pub mod LoopBlocks
 pub mod Unmarked

@@ -1,5 +1,5 @@
 -- What a runner has run.
-use Rattle.std.specs.Prelude.{◌≡◌, ℕ, ◌+◌, ◌≤◌, Bool, true, false, ◌==◌, List, [], ◌∷◌, ◌++◌, length, Option, None}
+use Rattle.std.specs.Prelude.{◌≡◌, ℕ, ◌+◌, ◌≤◌, Bool, ◌==◌, List, [], ◌∷◌, ◌++◌, length, Option}
 use Rattle.std.specs.List.{sum}
 use Rattle.bpf_step_model.specs.Run.{Ended}
 use Rattle.bpf_step_model.specs.Iteration.{Iterated, iteration}
@@ -11,7 +11,6 @@ use Rattle.private_copy.specs.Copies.{CopyRecords}
 use Rattle.private_copy.specs.Shown.{copy_of}
 use Rattle.private_copy.specs.Visits.{visits_of}
 use Rattle.loop_core_block.specs.declared.runner.Runner.{Runner}
-use Rattle.loop_core_block.specs.Loops.{LoopOf}
 
 -- the words that each iteration begins with
 abbrev pub start_words : Runner → List ℕ
@@ -24,20 +23,6 @@ pub record IsReady (r : Runner) : Type 0 where
   pub count : length (start_words r) ≡ sum r.callback.program.sizes
   pub enough : most_from r.callback.program r.callback.call.callback ≤ r.most
   pub few : r.most ≤ 4096
-
--- it is for a loop, on its start words
-pub record IsOf (l : LoopOf) (r : Runner) : Type 0 where
-  pub program : r.callback.program ≡ l.program
-  pub call : r.callback.call ≡ l.call
-  pub start : start_words r ≡ l.start.words
-
--- it is ready for a loop's iterations from one index up to, and without, another: it is for the loop, whose call has
--- them
-pub record IsReadyFor (l : LoopOf) (from to : ℕ) (r : Runner) : Type 0 where
-  pub ready : IsReady r
-  pub of : IsOf l r
-  pub rising : from ≤ to
-  pub within : to ≤ r.callback.call.n
 
 -- it is for the same loop call, start words and test
 pub record IsSame (old new : Runner) : Type 0 where
@@ -62,22 +47,6 @@ pub record RanOneMore (index : ℕ) (old new : Runner) (broke : Bool) : Type 0 w
   pub broke_is : broke ≡ (iterated.ret == 1)
   pub has_run : (first : ℕ) (ran : List Iterated) → RunnerHasRun first index ran old
       → RunnerHasRun first (index + 1) (ran ++ iterated ∷ []) new
-
--- The iterations from one index up to, and without, another were run too, on the start words: up to the first that
--- breaks, or all.
-pub record RanMore (from to : ℕ) (old new : Runner) (broke : Option ℕ) : Type 0 where
-  pub same : IsSame old new
-  pub ran : List Iterated
-  pub told : block_run old.callback.program 4096 old.callback.call (start_words old) from to ≡ Ended ran
-  pub broke_is : broke ≡ break_from from ran
-  pub all : broke ≡ None → from + length ran ≡ to
-  pub has_run : (first : ℕ) (before : List Iterated) → RunnerHasRun first from before old
-      → RunnerHasRun first (from + length ran) (before ++ ran) new
-
--- they were run together, where they could be
-abbrev pub RanTogether : (from to : ℕ) → (old new : Runner) → Bool → Type 0
-RanTogether from to old new true = RanMore from to old new None
-RanTogether from to old new false = new ≡ old
 
 -- the block of an interval was run on the start words, where none was run before
 pub record RanUpTo (first past : ℕ) (old new : Runner) (broke : Option ℕ) : Type 0 where

@@ -47,7 +47,7 @@ impl<'l, 'a> SpeculativeLoop<'l, 'a> {
         let first = self.split.start(number);
         let past = self.split.end(number);
         let mut runner = Runner::in_workspace(self, workspace);
-        let broke = runner.run(self, first, past, gate)?;
+        let broke = runner.run(self.alloc, first, past, gate)?;
         let Runner { copy, planes, .. } = runner;
         Ok(Block {
             number,

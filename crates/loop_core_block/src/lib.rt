@@ -1,16 +1,10 @@
-//! Blocks of a speculative loop: the iterations of an interval, each on the loop's start words, and what is kept of
-//! them. Iterations that can be run in lockstep are, up to 128 at a time. Their accesses are
-//! folded in site by site, if the result is that of one iteration after another.
+//! Blocks of a speculative loop: the iterations of an interval, one after another, each on the loop's start words, and
+//! what is kept of them.
 #![tactic(auto)]
 
-mod batching;
 mod block;
 mod block_run;
-mod folding;
-mod placing;
-mod repeating;
 mod runner;
-mod site_folds;
 mod speculative_loop;
 mod workspace;
 

@@ -9,7 +9,7 @@ use Rattle.std.proofs.lemmas.List.{ext_get_or, drop_more, length-set, length-tak
 use Rattle.array_maps.specs.Accesses.{Write, words_after_run}
 use Rattle.array_maps.specs.MapList.{MapList}
 use Rattle.private_copy.specs.Touched.{has_page}
-use Rattle.loop_core_sequential.proofs.ApplyLaws.{both_parts}
+use Rattle.loop_core_sequential.proofs.MapEffects.{both_parts}
 use Rattle.loop_core_gather.specs.declared.storing.LeftPage.{LeftPage}
 use Rattle.loop_core_gather.specs.Pages.{numbers_of, AreLeft, SetsPage}
 use Rattle.loop_core_gather.proofs.PageLaws.{at_own}

@@ -7,8 +7,7 @@ ghost use Rattle.loop_core_gather.specs.Counting.{told_fault, Counts};
 
 use crate::summary::Summary;
 use arrayvec::ArrayVec;
-use loop_core_event::MAX_BLOCKS;
-use loop_core_model::GatherFault;
+use loop_core_model::{GatherFault, MAX_BLOCKS};
 use loop_core_split::{Split, is_late, lesser};
 
 /// This many places of blocks at most.

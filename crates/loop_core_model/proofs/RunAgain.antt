@@ -5,7 +5,7 @@ use Rattle.std.proofs.Common.{length, Option, Some, None, refl, sym, ◌∙◌, 
 use Rattle.std.specs.Prelude.{slice_get, slice_index, if◌then◌else◌, ◌==◌}
 use Rattle.std.proofs.lemmas.Bool.{eqb-true, eq-eqb}
 use Rattle.std.proofs.lemmas.Option.{slice_get_within, slice_get-get_or, get_or_from_slice_get}
-use Rattle.array_maps.specs.Accesses.{Action, Read, Write, ReadWrite, Reduce, Access, left_by, Saw}
+use Rattle.array_maps.specs.Accesses.{Action, Access, Saw}
 use Rattle.array_maps.specs.Accesses.{SawEach, actions_at, words_after, words_after_all}
 use Rattle.array_maps.proofs.ElementLaws.{length-words_after, element_after_all}
 use Rattle.bpf_insn_types.specs.Program.{Program}

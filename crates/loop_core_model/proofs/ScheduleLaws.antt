@@ -17,7 +17,7 @@ use Rattle.loop_core_model.specs.Split.{falls, split_fault}
 use Rattle.loop_core_model.specs.Gather.{Block, starts_late, block_numbered, least_of}
 use Rattle.loop_core_model.specs.Gather.{lacks_some, twice, stands_in, gather_fault}
 use Rattle.loop_core_model.proofs.GatherLaws.{blocks_gather}
-use Rattle.loop_core_event.specs.declared.event.Event.{Event}
+use Rattle.loop_core_model.specs.declared.event.Event.{Event}
 use Rattle.loop_core_model.specs.declared.replay_fault.ReplayFault.{ReplayFault}
 use Rattle.loop_core_model.specs.declared.replay_fault.ReplayFault.TheVariants as faults
 use Rattle.loop_core_model.specs.Intervals.{blocks_of, start_of}

@@ -7,8 +7,8 @@ use Rattle.std.proofs.Math.Nat.{min-le_right, min_comm}
 use Rattle.loop_core_model.specs.LeastBreak.{lesser}
 use Rattle.loop_core_model.specs.Split.{falls}
 use Rattle.loop_core_model.specs.Gather.{starts_late}
-use Rattle.loop_core_event.specs.declared.event.EventKind.{EventKind}
-use Rattle.loop_core_event.specs.declared.event.EventKind.TheVariants.{Claim, Look, Turn, Post, Stop}
+use Rattle.loop_core_model.specs.declared.event.EventKind.{EventKind}
+use Rattle.loop_core_model.specs.declared.event.EventKind.TheVariants.{Claim, Look, Turn, Post, Stop}
 use Rattle.loop_core_model.specs.Intervals.{blocks_of, start_of, end_of}
 use Rattle.loop_core_model.specs.Events.{Worker, Idle, Holding, Running, Posting, Drained, Stopped}
 use Rattle.loop_core_model.specs.Events.{Shared, Moved, becomes, having_run, posts, transition}

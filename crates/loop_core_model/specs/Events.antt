@@ -3,8 +3,8 @@
 use Rattle.std.specs.Prelude.{ℕ, ◌+◌, ◌==◌, nat_lt, Bool, if◌then◌else◌, List, ◌∷◌, Option, Some, None}
 use Rattle.loop_core_model.specs.LeastBreak.{lesser}
 use Rattle.loop_core_model.specs.Gather.{starts_late}
-use Rattle.loop_core_event.specs.declared.event.EventKind.{EventKind}
-use Rattle.loop_core_event.specs.declared.event.EventKind.TheVariants.{Claim, Look, Turn, Post, Stop}
+use Rattle.loop_core_model.specs.declared.event.EventKind.{EventKind}
+use Rattle.loop_core_model.specs.declared.event.EventKind.TheVariants.{Claim, Look, Turn, Post, Stop}
 use Rattle.loop_core_model.specs.Intervals.{blocks_of, start_of, end_of}
 
 -- what a worker is doing: it holds a block that it hasn't begun, runs one and has this index before it, has a break to

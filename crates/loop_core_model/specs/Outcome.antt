@@ -9,7 +9,7 @@ use Rattle.loop_core_model.specs.declared.loop_test.Test.{Test}
 use Rattle.loop_core_model.specs.declared.verdict.Verdict.{Verdict}
 use Rattle.loop_core_model.specs.LeastBreak.{is_break}
 use Rattle.loop_core_model.specs.Report.{verdict}
-use Rattle.loop_core_event.specs.declared.event.Event.{Event}
+use Rattle.loop_core_model.specs.declared.event.Event.{Event}
 use Rattle.loop_core_model.specs.declared.replay_fault.ReplayFault.{ReplayFault}
 use Rattle.loop_core_model.specs.Schedule.{ScheduleState, replay}
 

@@ -13,8 +13,8 @@ use Rattle.bpf_step_model.specs.Lines.{mov, element_address}
 use Rattle.bpf_step_model.specs.LoopRows.{looping, worked_call, skip_unless, shift_right}
 use Rattle.loop_core_model.specs.declared.loop_test.Test.{Test}
 use Rattle.loop_core_model.specs.declared.verdict.Verdict.TheVariants.{Parallel, Conflict}
-use Rattle.loop_core_event.specs.declared.event.EventKind.TheVariants.{Claim, Look, Turn, Post, Stop}
-use Rattle.loop_core_event.specs.declared.event.Event.{Event}
+use Rattle.loop_core_model.specs.declared.event.EventKind.TheVariants.{Claim, Look, Turn, Post, Stop}
+use Rattle.loop_core_model.specs.declared.event.Event.{Event}
 use Rattle.loop_core_model.specs.declared.replay_fault.ReplayFault.{ReplayFault}
 use Rattle.loop_core_model.specs.declared.replay_fault.ReplayFault.TheVariants as faults
 use Rattle.loop_core_model.specs.Events.{Shared}

@@ -6,7 +6,7 @@ use Rattle.bpf_step_model.specs.State.{LoopCall}
 use Rattle.loop_core_model.specs.LeastBreak.{least_break}
 use Rattle.loop_core_model.specs.Split.{split_fault}
 use Rattle.loop_core_model.specs.Gather.{Block, IsRunOf, least_of, stands_in, gather_fault}
-use Rattle.loop_core_event.specs.declared.event.Event.{Event}
+use Rattle.loop_core_model.specs.declared.event.Event.{Event}
 use Rattle.loop_core_model.specs.Intervals.{blocks_of}
 use Rattle.loop_core_model.specs.Events.{Shared}
 use Rattle.loop_core_model.specs.Schedule.{ScheduleState, replay}

@@ -1,42 +1,45 @@
 //! Speculative loops, as definitions and laws. What counts, what conflicts, what is committed, and the law that a loop
 //! which passes is the loop in order. What has to be kept of iterations at an element, so that its conflict is known by
 //! either test: flags while an iteration runs, and marks of those that ended. A loop in blocks, and what is kept of
-//! each. What workers may do and when, and the outcome of a loop, which depends on none of it. Nothing runs here: each
-//! function's contract is a law.
+//! each. What workers may do and when, one atomic step each, and the outcome of a loop, which depends on none of it.
+//! How many workers and blocks there may be. Nothing runs here: each function's contract is a law.
 #![tactic(auto)]
 
 pub mod access;
+pub mod event;
 pub mod faults;
+mod limits;
 pub mod loop_test;
 pub mod pages;
 pub mod replay_fault;
 pub mod verdict;
 
 ghost use Rattle.loop_core_model.specs.Block.{ScansFollow};
-ghost use Rattle.loop_core_model.specs.Gather.{BlocksGather};
-ghost use Rattle.loop_core_model.specs.Kept.{OperatorsAssociate, CommitsOfKept};
-ghost use Rattle.loop_core_model.specs.Split.{EvenIsSplit};
-ghost use Rattle.loop_core_model.specs.Flags.{FlagsFollowKinds};
-ghost use Rattle.loop_core_model.specs.MarkLaw.{MarksTell, FirstIsNumber, MarksMerge};
-ghost use Rattle.loop_core_model.specs.Planes.{PlaneHasElements, PlaneJudges};
-ghost use Rattle.loop_core_model.specs.Conflict.{FailsByPair, FlowPassesMore};
-ghost use Rattle.loop_core_model.specs.Law.{LoopLaw};
-ghost use Rattle.loop_core_model.specs.Scan.{CountedAreScanned};
-ghost use Rattle.loop_core_model.specs.VerdictBounds.{VerdictsAgree};
-ghost use Rattle.loop_core_model.specs.VerdictRows.{VerdictRows};
 ghost use Rattle.loop_core_model.specs.BlockRows.{BlockRows};
+ghost use Rattle.loop_core_model.specs.Conflict.{FailsByPair, FlowPassesMore};
+ghost use Rattle.loop_core_model.specs.Flags.{FlagsFollowKinds};
+ghost use Rattle.loop_core_model.specs.Gather.{BlocksGather};
 ghost use Rattle.loop_core_model.specs.GatherRows.{GatherRows};
+ghost use Rattle.loop_core_model.specs.Kept.{OperatorsAssociate, CommitsOfKept};
 ghost use Rattle.loop_core_model.specs.KeptLaw.{KeptBlocksTell};
+ghost use Rattle.loop_core_model.specs.Law.{LoopLaw};
+ghost use Rattle.loop_core_model.specs.MarkLaw.{MarksTell, FirstIsNumber, MarksMerge};
 ghost use Rattle.loop_core_model.specs.OutcomeLaw.{OutcomeByTest};
 ghost use Rattle.loop_core_model.specs.PlaneRows.{PlaneRows};
+ghost use Rattle.loop_core_model.specs.Planes.{PlaneHasElements, PlaneJudges};
 ghost use Rattle.loop_core_model.specs.ReplayRows.{ReplayRows};
+ghost use Rattle.loop_core_model.specs.Scan.{CountedAreScanned};
 ghost use Rattle.loop_core_model.specs.ScheduleLaw.{EndedSchedulesComplete};
+ghost use Rattle.loop_core_model.specs.Split.{EvenIsSplit};
 ghost use Rattle.loop_core_model.specs.SplitLaw.{SplitsPartition};
 ghost use Rattle.loop_core_model.specs.SplitRows.{SplitRows};
+ghost use Rattle.loop_core_model.specs.VerdictBounds.{VerdictsAgree};
+ghost use Rattle.loop_core_model.specs.VerdictRows.{VerdictRows};
 
 pub use access::Access;
+pub use event::{Event, EventKind};
 pub use faults::{GatherFault, SplitFault};
-pub use loop_core_event::{Event, EventKind};
+pub use limits::{MAX_BLOCKS, MAX_WORKERS};
 pub use loop_test::Test;
 pub use pages::PAGE;
 pub use replay_fault::ReplayFault;

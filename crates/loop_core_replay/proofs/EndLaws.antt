@@ -11,7 +11,7 @@ use Rattle.loop_core_model.specs.Gather as gather
 use Rattle.loop_core_model.specs.Gather.{is_bound, stands_in, gather_fault}
 use Rattle.loop_core_model.specs.Outcome.{Outcome, outcome, unless_fault, replayed}
 use Rattle.loop_core_model.specs.ScheduleLaw.{EndedSchedulesComplete}
-use Rattle.loop_core_event.specs.declared.event.Event.{Event}
+use Rattle.loop_core_model.specs.declared.event.Event.{Event}
 use Rattle.loop_core_block.specs.declared.block.Block.{Block}
 use Rattle.loop_core_block.specs.Blocks.{BlockOf}
 use Rattle.loop_core_block.specs.Ran.{as_gathered, iterations_of, RecordsRun}

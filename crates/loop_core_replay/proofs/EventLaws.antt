@@ -6,8 +6,8 @@ use Rattle.std.specs.Option.{option_to_list}
 use Rattle.std.proofs.lemmas.Bool.{eq-eqb, ne_eqb}
 use Rattle.bpf_step_model.specs.Iteration.{iteration}
 use Rattle.loop_core_model.specs.Gather.{is_bound}
-use Rattle.loop_core_event.specs.declared.event.Event.{Event}
-use Rattle.loop_core_event.specs.declared.event.EventKind.TheVariants as kinds
+use Rattle.loop_core_model.specs.declared.event.Event.{Event}
+use Rattle.loop_core_model.specs.declared.event.EventKind.TheVariants as kinds
 use Rattle.loop_core_model.specs.Intervals.{start_of, end_of}
 use Rattle.loop_core_model.specs.Events.{Running as InBlock}
 use Rattle.loop_core_model.specs.declared.replay_fault.ReplayFault.{ReplayFault}

@@ -5,7 +5,7 @@ use Rattle.std.specs.Prelude.{slice_get, slice_index_or, slice_set, nat_lt}
 use Rattle.std.proofs.lemmas.Bool.{le-ltb, cases_eq}
 use Rattle.std.proofs.lemmas.List.{get_or-set_same, get_or-set_other}
 use Rattle.std.specs.Option.{option_to_list}
-use Rattle.loop_core_event.specs.declared.event.Event.{Event}
+use Rattle.loop_core_model.specs.declared.event.Event.{Event}
 use Rattle.loop_core_model.specs.Events as events
 use Rattle.loop_core_model.specs.Schedule.{if_enabled, after_event}
 use Rattle.loop_core_replay.specs.declared.worker.Worker.{Worker}
@@ -17,7 +17,7 @@ use Rattle.loop_core_replay.specs.declared.worker.Worker.TheVariants.{Running}
 use Rattle.loop_core_replay.specs.declared.worker.Step.{Step}
 use Rattle.loop_core_replay.specs.declared.worker.Step.TheVariants as steps
 use Rattle.loop_core_replay.specs.declared.worker.PendingIteration.{PendingIteration}
-use Rattle.loop_core_event.specs.declared.event.EventKind.TheVariants as kinds
+use Rattle.loop_core_model.specs.declared.event.EventKind.TheVariants as kinds
 use Rattle.loop_core_replay.specs.declared.moves.Asked.{Asked}
 use Rattle.loop_core_replay.specs.declared.moves.Asked.TheVariants.{Moves}
 use Rattle.loop_core_replay.specs.Moves.{TransitionFits, transition_result, after_transition, IsTransition, IsAskedFor}

@@ -1,8 +1,8 @@
 -- What an event asks for.
 use Rattle.std.specs.Prelude.{◌≡◌, ℕ, ◌<◌, ◌≤◌, Bool, List, ◌++◌, slice_set, IfSome, Some, None}
 use Rattle.std.specs.Option.{option_to_list}
-use Rattle.loop_core_event.specs.declared.event.EventKind.{EventKind}
-use Rattle.loop_core_event.specs.declared.event.EventKind.TheVariants as kinds
+use Rattle.loop_core_model.specs.declared.event.EventKind.{EventKind}
+use Rattle.loop_core_model.specs.declared.event.EventKind.TheVariants as kinds
 use Rattle.loop_core_model.specs.Intervals.{blocks_of}
 use Rattle.loop_core_model.specs.Events.{Moved, becomes, transition}
 use Rattle.loop_core_replay.specs.declared.worker.Worker.{Worker}

@@ -1,8 +1,8 @@
 -- What comes of an event, whichever iterations break and whichever blocks were run before.
 use Rattle.std.specs.Prelude.{◌≡◌, ℕ, ◌<◌, Bool, List, [], ◌∷◌, ◌++◌, slice_get, Option, Some, None, Ok, Err}
 use Rattle.std.specs.Option.{option_to_list}
-use Rattle.loop_core_event.specs.declared.event.Event.{Event}
-use Rattle.loop_core_event.specs.declared.event.EventKind.TheVariants as kinds
+use Rattle.loop_core_model.specs.declared.event.Event.{Event}
+use Rattle.loop_core_model.specs.declared.event.EventKind.TheVariants as kinds
 use Rattle.loop_core_model.specs.declared.replay_fault.ReplayFault.{ReplayFault}
 use Rattle.loop_core_model.specs.Intervals.{blocks_of}
 use Rattle.loop_core_model.specs.Schedule.{after_event}

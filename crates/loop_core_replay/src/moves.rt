@@ -7,7 +7,7 @@ ghost use Rattle.loop_core_replay.specs.Standing.{schedule_worker, shared_of, Wo
 ghost use Rattle.loop_core_replay.specs.Moves.{TransitionFits, transition_result, IsAskedFor, IsNeverEnabled};
 
 use crate::worker::{Shared, Worker};
-use loop_core_event::EventKind;
+use loop_core_model::EventKind;
 use loop_core_split::{Split, is_late, lesser};
 
 /// What a worker and what it shares become, and the block that was run to its break or its end with it.

@@ -2,7 +2,7 @@
 
 ghost use Rattle.std.specs.Prelude.{◌≡◌, ◌+◌, ◌<◌, List, length, slice_get, Some, Err, IfOk, IfErr, OnOk};
 ghost use Rattle.loop_core_model.specs.Gather.{is_bound};
-ghost use Rattle.loop_core_event.specs.declared.event.EventKind.TheVariants as kinds;
+ghost use Rattle.loop_core_model.specs.declared.event.EventKind.TheVariants as kinds;
 ghost use Rattle.loop_core_model.specs.Schedule.{replay};
 ghost use Rattle.loop_core_replay.specs.Steps.{IsBefore};
 ghost use Rattle.loop_core_replay.specs.Replays.{loop_breaks, HasCome, IsLeft};
@@ -13,8 +13,7 @@ use crate::laws::law_of_events_in_turn;
 use crate::worker::{PendingIteration, Step};
 use crate::workers::Workers;
 use loop_core_block::{Block, SpeculativeLoop};
-use loop_core_event::Event;
-use loop_core_model::ReplayFault;
+use loop_core_model::{Event, ReplayFault};
 use std::alloc::AllocError;
 use std::marker::Model;
 

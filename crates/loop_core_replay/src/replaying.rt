@@ -12,9 +12,8 @@ use array_maps::Maps;
 use bpf_step::LoopCall;
 use bpf_verify::Verified;
 use loop_core_block::SpeculativeLoop;
-use loop_core_event::Event;
 use loop_core_gather::{GatherError, LoopOutcome, commit_or_rerun, gather};
-use loop_core_model::{ReplayFault, Test, law_of_schedules};
+use loop_core_model::{Event, ReplayFault, Test, law_of_schedules};
 use loop_core_split::Split;
 use std::alloc::Global;
 

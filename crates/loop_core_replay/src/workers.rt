@@ -11,8 +11,7 @@ ghost use Rattle.loop_core_replay.specs.Steps.{IsStepOf, StepFits, StepFollows, 
 
 use crate::moves::{Asked, WorkerTransition, asked_of, iterate};
 use crate::worker::{PendingIteration, Shared, Step, Worker};
-use loop_core_event::{Event, MAX_WORKERS};
-use loop_core_model::ReplayFault;
+use loop_core_model::{Event, MAX_WORKERS, ReplayFault};
 use loop_core_split::Split;
 use std::marker::Model;
 

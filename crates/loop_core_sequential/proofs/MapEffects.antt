@@ -1,5 +1,5 @@
 -- What accesses do to maps.
-use Rattle.std.proofs.Common.{◌≡◌, List, [], ◌∷◌, ap, ◌∙◌}
+use Rattle.std.proofs.Common.{◌≡◌, ℕ, List, [], ◌∷◌, ap, ◌∙◌}
 use Rattle.array_maps.specs.Accesses.{Access, words_after}
 use Rattle.array_maps.specs.MapList.{MapList}
 use Rattle.array_maps.specs.Store.{Effects}
@@ -14,3 +14,9 @@ pub sizes_kept : (old new : MapList) (accesses : List Access) → Effects map_ef
 sizes_kept old new [] effects = ap (λ (maps : MapList). maps.sizes) effects
 sizes_kept old new (access ∷ accesses) effects = sizes_kept effects.0 new accesses effects.2
     ∙ ap (λ (maps : MapList). maps.sizes) effects.1
+
+-- maps are their sizes and their words
+pub both_parts : (maps : MapList) (sizes words : List ℕ) → maps.sizes ≡ sizes → maps.words ≡ words
+    → maps ≡ record { sizes = sizes; words = words }
+both_parts maps sizes words a b = ap (λ (s : List ℕ). record { sizes = s; words = maps.words }) a
+    ∙ ap (λ (ws : List ℕ). record { sizes = sizes; words = ws }) b

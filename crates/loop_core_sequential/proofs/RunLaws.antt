@@ -52,15 +52,6 @@ rest_ran_by run first same from index next to start old now new answer before we
     (ran_by run first same next to now new answer ran)
 
 -- watched iterations do
-pub goes_by : (run first : LoopRun) → run ≡ first → (index next : ℕ) (old new : MapList) (log last : UndoLog)
-    → ((start : MapList) → GoesWatched run.program.now run.call.now index start old log
-    → GoesWatched run.program.now run.call.now next start new last)
-    → (start : MapList) → GoesWatched first.program.now first.call.now index start old log
-    → GoesWatched first.program.now first.call.now next start new last
-goes_by run first same index next old new log last =
-    subst (λ (r : LoopRun). (start : MapList) → GoesWatched r.program.now r.call.now index start old log
-    → GoesWatched r.program.now r.call.now next start new last) same
-
 pub watched_by : (run first : LoopRun) → run ≡ first → (index next : ℕ) (old new : MapList) (log last : UndoLog)
     (watch : Watch)
     → ((start : MapList) → GoesWatched run.program.now run.call.now index start old log
@@ -71,19 +62,17 @@ watched_by run first same index next old new log last watch =
     subst (λ (r : LoopRun). (start : MapList) → GoesWatched r.program.now r.call.now index start old log
     → WatchedTo r.program.now r.call.now next start new last watch) same
 
--- after a batch that left the index where it was
-pub rest_watched_by : (run first : LoopRun) → run ≡ first → (index next to : ℕ) → next ≡ index
+-- after a batch
+pub rest_watched_by : (run first : LoopRun) → run ≡ first → (index next to : ℕ)
     → (old now new : MapList) (log noted last : UndoLog) (watch : Watch)
     → ((start : MapList) → GoesWatched run.program.now run.call.now index start old log
     → GoesWatched run.program.now run.call.now next start now noted)
-    → ((start : MapList) → GoesWatched run.program.now run.call.now index start now noted
+    → ((start : MapList) → GoesWatched run.program.now run.call.now next start now noted
     → WatchedTo run.program.now run.call.now to start new last watch)
     → (start : MapList) → GoesWatched first.program.now first.call.now index start old log
     → WatchedTo first.program.now first.call.now to start new last watch
-rest_watched_by run first same index next to stays old now new log noted last watch goes ran =
-    watched_by run first same index to old new log last watch
-    (λ start before. ran start
-    (subst (λ (i : ℕ). GoesWatched run.program.now run.call.now i start now noted) stays (goes start before)))
+rest_watched_by run first same index next to old now new log noted last watch goes ran =
+    watched_by run first same index to old new log last watch (λ start before. ran start (goes start before))
 
 -- so does the rest of a watched loop
 pub ended_by : (run first : LoopRun) → run ≡ first → (from : ℕ) (start now new : MapList) (log last : UndoLog)

@@ -21,7 +21,7 @@ use Rattle.loop_core_model.specs.LeastBreak.{all_ended, accesses_of_each}
 use Rattle.loop_core_model.specs.Report.{judged, verdict}
 use Rattle.loop_core_model.proofs.Least.{counts_to}
 use Rattle.loop_core_model.specs.Split.{split_fault}
-use Rattle.loop_core_event.specs.declared.event.Event.{Event}
+use Rattle.loop_core_model.specs.declared.event.Event.{Event}
 use Rattle.loop_core_model.specs.Outcome.{Outcome, judged_as, outcome, breaks_at, unless_fault, replayed}
 use Rattle.loop_core_model.specs.Schedule.{replay}
 use Rattle.loop_core_sequential.specs.FilledCalls.{AreOneLoop, FilledCallsAreOneLoop}

@@ -2,9 +2,9 @@
 use Rattle.std.proofs.Common.{◌≡◌, ℕ, ◌+◌, ◌<◌, Bool, List, [], ◌∷◌, Option, Some, None, refl, ap, ◌∙◌, arith}
 use Rattle.std.specs.Prelude.{◌==◌, nat_lt, Result, Ok, Err, if◌then◌else◌}
 use Rattle.loop_core_model.specs.Split.{split_fault}
-use Rattle.loop_core_event.specs.declared.event.Event.{Event}
-use Rattle.loop_core_event.specs.declared.event.EventKind.{EventKind}
-use Rattle.loop_core_event.specs.declared.event.EventKind.TheVariants.{Turn}
+use Rattle.loop_core_model.specs.declared.event.Event.{Event}
+use Rattle.loop_core_model.specs.declared.event.EventKind.{EventKind}
+use Rattle.loop_core_model.specs.declared.event.EventKind.TheVariants.{Turn}
 use Rattle.loop_core_model.specs.declared.replay_fault.ReplayFault.{ReplayFault}
 use Rattle.loop_core_model.specs.declared.replay_fault.ReplayFault.TheVariants as faults
 use Rattle.loop_core_model.specs.Intervals.{blocks_of, end_of}

@@ -1,5 +1,9 @@
 -- The lanes of a batch are iterations of the loop in order.
-use Rattle.std.proofs.Common.{◌≡◌, ℕ, ◌+◌, ◌-◌, ◌<◌, ◌≤◌, List, length, map, Some, refl, sym, ap, subst, ◌∙◌, arith}
+use Rattle.std.proofs.Common.{◌≡◌, ℕ, ◌+◌, ◌-◌, ◌^◌, ◌<◌, ◌≤◌, Bool, List, [], ◌∷◌, length, slice_index}
+use Rattle.std.proofs.Common.{slice_index_or, map, Some, refl, sym, ap}
+use Rattle.std.proofs.Common.{subst, ◌∙◌, arith}
+use Rattle.std.specs.Prelude.{if◌then◌else◌}
+use Rattle.std.specs.List.{All, AllByRecursion}
 use Rattle.std.proofs.lemmas.List.{length-map}
 use Rattle.array_maps.specs.Accesses.{Access, words_after_all}
 use Rattle.array_maps.specs.MapList.{MapList, AreWords}
@@ -11,26 +15,29 @@ use Rattle.bpf_step_model.specs.LoopInOrder.{loop_from}
 use Rattle.bpf_verify_sound.specs.Soundness.{IsSoundProgram, AreMapWords, OverApproximatesCall, callback_count}
 use Rattle.bpf_verify_sound.specs.Soundness.{IterationEnds, EachProgramEnds, EachCountIsSmall}
 use Rattle.bpf_step_ir.specs.declared.plain_op.PlainOp.{PlainOp}
+use Rattle.bpf_step_ir.specs.Plain.{Plain}
+use Rattle.bpf_step_ir.specs.PlainRun.{plain_run}
 use Rattle.bpf_step_ir.specs.Translation.{AreOps}
 use Rattle.bpf_step_ir_sound.specs.Laws.{EachIterationSimulates, plain_exited}
 use Rattle.bpf_step.proofs.Callbacks.{begins}
-use Rattle.bpf_step.proofs.Limits.{few_counts}
-use Rattle.loop_core_batch.specs.BySite.{AllCommute, words_after_sites}
-use Rattle.loop_core_batch.specs.Sites.{AllUnseen}
-use Rattle.loop_core_batch.specs.Effects.{Effect, accesses_on, words_after_effects, words_after_site_effects}
-use Rattle.loop_core_batch.specs.Effects.{AllUnloaded}
-use Rattle.loop_core_batch.specs.LoopByBatch.{EndsInZero, LoopBySites}
-use Rattle.loop_core_batch.specs.LoopByEffects.{LoopByEffects}
+use Rattle.bpf_step.proofs.Limits.{few_counts, few_slots}
+use Rattle.loop_core_batch.specs.Effects.{Effect, EffectLog, accesses_on, effects_of, words_after_effects}
+use Rattle.loop_core_batch.specs.Effects.{words_after_each_lane}
+use Rattle.loop_core_batch.specs.LoopByEffects.{EndsInZero}
+use Rattle.loop_core_batch.specs.LoopByEffects.{GoesOn, LoopByEachLane}
 use Rattle.loop_core_batch.proofs.Sparing.{accesses_leave}
-use Rattle.bpf_step_batch_planes.specs.Registers.{begun_with}
-use Rattle.bpf_step_batch.specs.declared.entry.Entry.{Entry}
-use Rattle.bpf_step_batch.specs.Logs.{site_of, log_by, accesses_by, effects_by, effect_log_by, made_on}
-use Rattle.bpf_step_batch.specs.Logs.{NoneAfterOwn}
-use Rattle.bpf_step_batch.specs.Steps.{machine}
-use Rattle.bpf_step_batch.specs.Batches.{ReturnsZero, AreLanes}
-use Rattle.bpf_step_batch.proofs.LogLaws.{log_of_sites, effects_of_sites}
+use Rattle.bpf_verify.specs.declared.callback_rows.CallbackRows.{CallbackRows}
+use Rattle.bpf_verify.specs.Rows.{AreRowsAt}
+use Rattle.lane_stamps.specs.declared.site.Site.{Site}
+use Rattle.lane_stamps.specs.Sites.{HasRows, IsWithin, LaneRows, log_of}
+use Rattle.lane_stamps.specs.Stamps.{AreRanked, GoTogether, NoneMeets, allowed}
+use Rattle.row_list.specs.declared.row_op.RowOp.{RowOp}
+use Rattle.row_list.specs.Rows.{AreValues, effects_by}
+use Rattle.row_list.specs.Agreement.{AgreesWithValues, EndsWith, SeesBefore}
+use Rattle.row_run.specs.declared.batch.Batch.{Batch}
+use Rattle.row_run.specs.Batches.{AllRan, NoneSeesOwn, batch_log, rows_of, sites_of}
 use Rattle.loop_core_sequential.specs.Rests.{rest_to, RanOn}
-use Rattle.loop_core_sequential.specs.Tries.{LanesAreIterations}
+use Rattle.loop_core_sequential.specs.Lanes.{LanesGoOn, LoadsNoneLeft, RanTogether}
 
 -- iterations that are left, of which lanes are the first
 lanes_left : (past first lanes : ℕ) → first + lanes ≤ past → past - first ≡ lanes + (past - (first + lanes))
@@ -41,32 +48,47 @@ pub frame_long : (program : Program) (call : LoopCall) (bytes : List ℕ) → Ov
     → map Some bytes ≡ call.frame → length bytes ≡ 512
 frame_long program call bytes known same = sym (length-map bytes Some) ∙ ap length same ∙ known.sound.frame.count
 
+-- eleven registers with an index in R1, and 0 in all others
+abbrev registers_at : (index : ℕ) → List ℕ
+registers_at index = 0 ∷ index ∷ 0 ∷ 0 ∷ 0 ∷ 0 ∷ 0 ∷ 0 ∷ 0 ∷ 0 ∷ 0 ∷ []
+
+-- a machine with which an iteration may begin
+abbrev machine_at : (slot index : ℕ) (bytes : List ℕ) → Plain
+machine_at slot index bytes =
+    record { slot = slot; registers = registers_at index; frame = bytes; caller = bytes }
+
 module _ (its : EachIterationSimulates) (program : Program) (sound : IsSoundProgram program) (ops : List PlainOp)
     (are : AreOps program ops) (call : LoopCall) (known : OverApproximatesCall program call) (bytes : List ℕ)
     (long : length bytes ≡ 512) (same : map Some bytes ≡ call.frame) where
-  -- a lane that returns 0 is an iteration
+  -- a run that ends with 0 is an iteration
   iterates : (words : List ℕ) → AreMapWords program words → (index : ℕ) → index < call.n → (accesses : List Access)
-      → (returns : ReturnsZero ops call.callback index bytes words accesses)
+      → (ends : EndsWith ops (machine_at call.callback index bytes) words 0 accesses)
       → iteration program 4096 call index words ≡ Ended (record {
         ret = 0;
-        steps = returns.steps;
+        steps = ends.steps;
         accesses = accesses;
         words = words_after_all accesses words;
       })
-  iterates words fit index below accesses returns =
-      its program sound ops are 4096 call known index below
-      (machine call.callback (begun_with index) bytes bytes)
-      (begins call index call.callback (begun_with index) bytes bytes refl
+  iterates words fit index below accesses ends =
+      let few = ends.few in
+      let count = are.count in
+      let slots = few_slots program sound.accepted in
+      let enough : 4096 ≡ ends.steps + (4096 - ends.steps) = omega (arith, few, count, slots) in
+      its program sound ops are 4096 call known index below (machine_at call.callback index bytes)
+      (begins call index call.callback (registers_at index) bytes bytes refl
       (record { count = refl; given = refl; ctx = refl }) long same)
       words fit
-      ∙ ap (followed plain_exited) (returns.ran bytes long)
+      ∙ ap (followed plain_exited)
+      (ap (λ (bound : ℕ). plain_run ops bound (machine_at call.callback index bytes) words) enough
+      ∙ ends.run (4096 - ends.steps))
 
   -- that goes on
   goes_on : (words : List ℕ) → AreMapWords program words → (index : ℕ) → index < call.n → (accesses : List Access)
-      → ReturnsZero ops call.callback index bytes words accesses → EndsInZero program 4096 call index words accesses
-  goes_on words fit index below accesses returns = record {
-    iterated = record { ret = 0; steps = returns.steps; accesses = accesses; words = words_after_all accesses words };
-    ended = iterates words fit index below accesses returns;
+      → EndsWith ops (machine_at call.callback index bytes) words 0 accesses
+      → EndsInZero program 4096 call index words accesses
+  goes_on words fit index below accesses ends = record {
+    iterated = record { ret = 0; steps = ends.steps; accesses = accesses; words = words_after_all accesses words };
+    ended = iterates words fit index below accesses ends;
     returned = refl;
     made = refl;
   }
@@ -74,105 +96,117 @@ module _ (its : EachIterationSimulates) (program : Program) (sound : IsSoundProg
   -- and leaves words of the maps
   leaves_words : EachProgramEnds → EachCountIsSmall → (words : List ℕ) → AreMapWords program words → (index : ℕ)
       → index < call.n → (effects : List Effect)
-      → ReturnsZero ops call.callback index bytes words (accesses_on words effects)
+      → EndsWith ops (machine_at call.callback index bytes) words 0 (accesses_on words effects)
       → AreWords (words_after_effects effects words)
-  leaves_words ends counts words fit index below effects returns =
+  leaves_words laws counts words fit index below effects ends =
       let ended : IterationEnds program (callback_count program call) (Ended (record {
         ret = 0;
-        steps = returns.steps;
+        steps = ends.steps;
         accesses = accesses_on words effects;
         words = words_after_all (accesses_on words effects) words;
       })) = subst (IterationEnds program (callback_count program call))
-      (iterates words fit index below (accesses_on words effects) returns)
-      (ends.iterations program sound call known 4096 (few_counts counts program call sound.accepted) index below words
+      (iterates words fit index below (accesses_on words effects) ends)
+      (laws.iterations program sound call known 4096 (few_counts counts program call sound.accepted) index below words
       fit) in
       subst AreWords (accesses_leave effects words) ended.2.fit
 
--- so the lanes of a batch are iterations
-pub are_iterations : EachIterationSimulates → EachProgramEnds → EachCountIsSmall → (program : Program)
-    → IsSoundProgram program → (ops : List PlainOp)
-    → AreOps program ops → (call : LoopCall) → OverApproximatesCall program call → (bytes : List ℕ)
-    → map Some bytes ≡ call.frame → (words : List ℕ) → AreMapWords program words → (start first lanes : ℕ)
-    → start ≡ call.callback → first + lanes ≤ call.n → (entries : List Entry)
-    → AreLanes ops start first lanes bytes words entries → LanesAreIterations program call first lanes words entries
-are_iterations its ends counts program sound ops are call known bytes same words fit start first lanes at within entries
-    lanes_are =
-    let long : length bytes ≡ 512 = frame_long program call bytes known same in
-    record {
-      each = λ own lane below.
-          goes_on its program sound ops are call known bytes long same words fit
-          (first + lane) (omega (arith, within, below)) (accesses_by words entries lane)
-          (subst (λ (slot : ℕ). ReturnsZero ops slot (first + lane) bytes words (accesses_by words entries lane)) at
-          (lanes_are.returns own lane below));
-      logged = lanes_are.logged;
-      fit = fit.fit;
-      anywhere = λ lane below now fits loads.
-          let now_fits : AreMapWords program now = record { count = loads.count ∙ fit.count; fit = fits } in
-          let inside : first + lane < call.n = omega (arith, within, below) in
-          let returns : ReturnsZero ops call.callback (first + lane) bytes now (made_on now entries lane) =
-          subst (λ (slot : ℕ). ReturnsZero ops slot (first + lane) bytes now (made_on now entries lane)) at
-          (lanes_are.anywhere lane below now loads) in
-          record {
-            ends = goes_on its program sound ops are call known bytes long same now now_fits (first + lane) inside
-                (made_on now entries lane) returns;
-            fit = leaves_words its program sound ops are call known bytes long same ends counts now now_fits
-                (first + lane) inside (effects_by entries lane) returns;
-          };
+  -- so a lane whose list agrees with the operations is an iteration, if its values are those of a list
+  lane_goes_on : EachProgramEnds → EachCountIsSmall → (list : List RowOp) (result : ℕ)
+      → AgreesWithValues ops call.callback list result → (words values : List ℕ) (index : ℕ) → index < call.n
+      → AreValues list index bytes words values → slice_index values result ≡ 0 → (now : List ℕ)
+      → AreMapWords program now → SeesBefore words now (effects_by list values words)
+      → AllByRecursion (λ effect. effect.element < length now) (effects_by list values words)
+      → GoesOn program 4096 call index now (effects_by list values words)
+  lane_goes_on laws counts list result agrees words values index below values_are returns now fit sees inside =
+      let effects : List Effect = effects_by list values words in
+      let most = known.sound.iterations in
+      let small : index < 2 ^ 32 = omega (arith, below, most) in
+      let ends : EndsWith ops (machine_at call.callback index bytes) now 0 (accesses_on now effects) =
+      subst (λ (ret : ℕ). EndsWith ops (machine_at call.callback index bytes) now ret (accesses_on now effects)) returns
+      (agrees.each index words values now (machine_at call.callback index bytes) values_are small refl refl refl long
+      sees inside) in
+      record {
+        ends = goes_on now fit index below (accesses_on now effects) ends;
+        fit = leaves_words laws counts now fit index below effects ends;
+      }
+
+-- lanes that ran, of which none sees what it left itself, are iterations
+pub lanes_go_on : EachIterationSimulates → EachProgramEnds → EachCountIsSmall → (program : Program)
+    → IsSoundProgram program → (call : LoopCall) → OverApproximatesCall program call → (bytes : List ℕ)
+    → map Some bytes ≡ call.frame → (rows : CallbackRows) → AreRowsAt program call.callback rows
+    → (words : List ℕ) → AreMapWords program words → (first lanes count : ℕ) → count ≤ lanes → first + lanes ≤ call.n
+    → (log : EffectLog) → AllRan rows.list.list.items rows.list.result first lanes bytes words log
+    → NoneSeesOwn log count → LanesGoOn program call first count words log
+lanes_go_on its laws counts program sound call known bytes same rows are words fit first lanes count fewer within log
+    all own lane below now fits loads =
+    let inside : lane < lanes = omega (arith, fewer, below) in
+    let ran = all.ran lane inside in
+    let effects : List Effect = effects_of log lane in
+    let elements : AllByRecursion (λ effect. effect.element < length now) effects =
+    subst (λ (n : ℕ). AllByRecursion (λ effect. effect.element < n) effects) (sym loads.count)
+    (all.within lane inside) in
+    subst (GoesOn program 4096 call (first + lane) now) (sym ran.does)
+    (lane_goes_on its program sound are.ops are.translated call known bytes
+    (frame_long program call bytes known same) same laws counts rows.list.list.items rows.list.result
+    (subst (λ (start : ℕ). AgreesWithValues are.ops start rows.list.list.items rows.list.result) are.here
+    are.are.agrees)
+    words ran.values (first + lane) (omega (arith, within, inside)) ran.are ran.returns now
+    (record { count = loads.count ∙ fit.count; fit = fits })
+    (subst (SeesBefore words now) ran.does (own.each lane below words now fits loads))
+    (subst (AllByRecursion (λ effect. effect.element < length now)) ran.does elements))
+
+-- sites that are ranked, and of which none meets another, load nothing that earlier lanes left
+pub loads_none_left : (sites : List Site) (rows : LaneRows) (lanes : ℕ) → AreRanked sites → NoneMeets sites rows lanes
+    → LoadsNoneLeft sites rows lanes
+loads_none_left sites rows lanes ranked unmet later earlier before inside k d within j d' less load left half here
+    there =
+    let some = ranked.some j d' less left in
+    let most = unmet later earlier before inside k d within j d' less left half here there in
+    let none : allowed (slice_index_or sites k d) ≡ 0 =
+    ap (λ (b : Bool). if b then 0 else (slice_index_or sites k d).rank) load in
+    omega (arith, some, most, none)
+
+-- so the lanes of a batch are that ran, and of which the first may go together
+pub ran_together : EachIterationSimulates → EachProgramEnds → EachCountIsSmall → (program : Program)
+    → IsSoundProgram program → (call : LoopCall) → OverApproximatesCall program call → (bytes : List ℕ)
+    → map Some bytes ≡ call.frame → (rows : CallbackRows) → AreRowsAt program call.callback rows
+    → (words : List ℕ) → AreMapWords program words → (first lanes returned count : ℕ) → returned ≤ lanes
+    → count ≤ returned → lanes ≤ 256 → first + lanes ≤ call.n → (old new : Batch) → sites_of new ≡ sites_of old
+    → rows_of new ≡ rows_of old
+    → AllRan rows.list.list.items rows.list.result first returned bytes words (batch_log old)
+    → All (IsWithin (length words) count (rows_of new)) (sites_of new) → AreRanked (sites_of old) → new.count ≤ 64
+    → All (HasRows (rows_of new)) (sites_of new) → NoneSeesOwn (batch_log new) count → GoTogether (batch_log new) count
+    → NoneMeets (sites_of new) (rows_of new) count → RanTogether program call first lanes words new count
+ran_together its laws counts program sound call known bytes same rows are words fit first lanes returned count fewer few
+    room inside old new same_sites same_rows all within ranked many there own together unmet = record {
+      few = omega (arith, fewer, few);
+      go_on = lanes_go_on its laws counts program sound call known bytes same rows are words fit first returned count
+          few
+          (omega (arith, fewer, inside)) (batch_log new)
+          (subst (AllRan rows.list.list.items rows.list.result first returned bytes words)
+          (sym (ap (λ (s : List Site). log_of s (rows_of new)) same_sites ∙ ap (log_of (sites_of old)) same_rows)) all)
+          own;
+      applies = record {
+        room = omega (arith, fewer, few, room);
+        count = many;
+        rows = there;
+        within = within;
+        together = together;
+      };
+      apart = loads_none_left (sites_of new) (rows_of new) count (subst AreRanked (sym same_sites) ranked) unmet;
     }
 
--- and the loop goes on after them
-module _ (law : LoopByEffects) (program : Program) (call : LoopCall) (first lanes : ℕ) (within : first + lanes ≤ call.n)
-    (entries : List Entry) (old new : MapList) (are : LanesAreIterations program call first lanes old.words entries)
-    (unloaded : AllUnloaded lanes (map site_of entries)) (commute : AllCommute lanes (map site_of entries))
-    (applied : new ≡ record {
-      sizes = old.sizes;
-      words = words_after_site_effects (effect_log_by entries) lanes old.words;
-    }) where
-  lanes_on : (left : ℕ) → loop_from program 4096 call (lanes + left) first old.words
-      ≡ loop_from program 4096 call left (first + lanes)
-      (words_after_site_effects (effect_log_by entries) lanes old.words)
-  lanes_on left = law program 4096 call first lanes left old.words (map site_of entries) (effect_log_by entries)
-      are.fit are.anywhere (effects_of_sites lanes old.words entries are.logged) unloaded commute
-
-  pub lanes_went : RanOn program call first (first + lanes) old new
-  lanes_went = record {
-    on = omega arith;
-    within = within;
-    rest = λ past over.
-        ap (λ (left : ℕ). loop_from program 4096 call left first old.words) (lanes_left past first lanes over)
-        ∙ lanes_on (past - (first + lanes))
-        ∙ sym (ap (λ (maps : MapList). rest_to program call past (first + lanes) maps.words) applied);
-    sizes = ap (λ (maps : MapList). maps.sizes) applied;
-  }
-
--- so it does where no site's writes may be seen, after their accesses
-module _ (law : LoopBySites) (program : Program) (call : LoopCall) (first lanes : ℕ) (within : first + lanes ≤ call.n)
-    (entries : List Entry) (old new : MapList) (are : LanesAreIterations program call first lanes old.words entries)
-    (own : NoneAfterOwn entries) (unseen : AllUnseen lanes (map site_of entries))
-    (commute : AllCommute lanes (map site_of entries))
-    (applied : new ≡ record {
-      sizes = old.sizes;
-      words = words_after_sites (log_by old.words entries) lanes old.words;
-    }) where
-  sites_on : (left : ℕ) → loop_from program 4096 call (lanes + left) first old.words
-      ≡ loop_from program 4096 call left (first + lanes) (words_after_sites (log_by old.words entries) lanes old.words)
-  sites_on left = law program 4096 call first lanes left old.words (map site_of entries) (log_by old.words entries)
-      (are.each own) (log_of_sites lanes old.words entries are.logged) unseen commute
-
-  pub sites_went : RanOn program call first (first + lanes) old new
-  sites_went = record {
-    on = omega arith;
-    within = within;
-    rest = λ past over.
-        ap (λ (left : ℕ). loop_from program 4096 call left first old.words) (lanes_left past first lanes over)
-        ∙ sites_on (past - (first + lanes))
-        ∙ sym (ap (λ (maps : MapList). rest_to program call past (first + lanes) maps.words) applied);
-    sizes = ap (λ (maps : MapList). maps.sizes) applied;
-  }
-
--- the iterations of a batch, by another name of its entries
-pub iterations_of : (program : Program) (call : LoopCall) (first lanes : ℕ) (words : List ℕ) (entries told : List Entry)
-    → told ≡ entries → LanesAreIterations program call first lanes words entries
-    → LanesAreIterations program call first lanes words told
-iterations_of program call first lanes words entries told is are =
-    subst (LanesAreIterations program call first lanes words) (sym is) are
+-- and the loop goes on after those that may go together
+pub lanes_went : LoopByEachLane → (program : Program) (call : LoopCall) (first count : ℕ) → first + count ≤ call.n
+    → (log : EffectLog) (old new : MapList) → AreWords old.words → LanesGoOn program call first count old.words log
+    → GoTogether log count → new.sizes ≡ old.sizes → new.words ≡ words_after_each_lane log count old.words
+    → RanOn program call first (first + count) old new
+lanes_went law program call first count within log old new fit goes together sizes applied = record {
+  on = omega arith;
+  within = within;
+  rest = λ past over.
+      ap (λ (left : ℕ). loop_from program 4096 call left first old.words) (lanes_left past first count over)
+      ∙ law program 4096 call first count (past - (first + count)) old.words log fit goes (together.loads old.words fit)
+      ∙ sym (ap (rest_to program call past (first + count)) applied);
+  sizes = sizes;
+}

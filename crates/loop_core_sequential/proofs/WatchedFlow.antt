@@ -16,7 +16,7 @@ use Rattle.loop_core_model.specs.Report.{judged, verdict}
 use Rattle.loop_core_model.specs.Scan.{up_to_break, scan}
 use Rattle.loop_core_model.proofs.PlaneLaws.{filter-none}
 use Rattle.loop_core_model.proofs.ScanLaws.{counted_are_scanned}
-use Rattle.loop_core_batch.specs.LoopByBatch.{EndsInZero}
+use Rattle.loop_core_batch.specs.LoopByEffects.{EndsInZero}
 use Rattle.loop_core_sequential.specs.Watched.{accesses_if_ended, accesses_at, NoneReadsWritten}
 
 or_both : (a b : Bool) → a ≡ false → b ≡ false → (a || b) ≡ false

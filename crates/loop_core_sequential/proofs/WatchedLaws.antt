@@ -16,9 +16,7 @@ use Rattle.loop_core_model.specs.Actions.{writes, exposed}
 use Rattle.loop_core_model.proofs.OneElement.{sealed_saw, unwritten_left}
 use Rattle.loop_core_model.proofs.Turns.{Saws}
 use Rattle.loop_core_model.proofs.RunAgain.{iteration_local}
-use Rattle.loop_core_batch.specs.Lanes.{sees, NoneSees, words_after_lanes}
-use Rattle.loop_core_batch.specs.LoopByBatch.{EndsInZero}
-use Rattle.loop_core_batch.proofs.BatchLaws.{length-before}
+use Rattle.loop_core_batch.specs.LoopByEffects.{EndsInZero}
 use Rattle.loop_core_sequential.specs.Rests.{rest_to, RanOn, BrokeOff}
 use Rattle.loop_core_sequential.specs.Watched.{RanAndPasses, accesses_if_ended, accesses_at}
 use Rattle.loop_core_sequential.specs.Watched.{NoneReadsWritten, IsWrittenBelow, WentWatched}
@@ -82,18 +80,6 @@ it_leaves program call index words it told =
     ap (λ (i : Iterated). i.words) (ended_same it (over_words words it)
     (sym told ∙ here.again words words it told refl (here.saw words it told)))
 
--- an element that no lane writes is as before them
-pub after_lanes : (accesses : ℕ → List Access) (words : List ℕ) (lanes e : ℕ) → e < length words
-    → ((lane : ℕ) → lane < lanes → writes (actions_at e (accesses lane)) ≡ false)
-    → slice_index (words_after_lanes accesses lanes words) e ≡ slice_index words e
-after_lanes accesses words zero e inside unwritten = refl
-after_lanes accesses words (suc lanes) e inside unwritten =
-    element_after_all (accesses lanes) (words_after_lanes accesses lanes words) e
-    (subst (λ (n : ℕ). e < n) (sym (length-before accesses words lanes)) inside)
-    ∙ unwritten_left (actions_at e (accesses lanes)) (slice_index (words_after_lanes accesses lanes words) e)
-    (unwritten lanes (omega arith))
-    ∙ after_lanes accesses words lanes e inside (λ lane below. unwritten lane (omega (arith, below)))
-
 module _ (program : Program) (call : LoopCall) (start now : MapList) (index : ℕ) (written : ℕ → Bool)
     (w : WentWatched program call index start now written) where
   -- an iteration on the words now that reads nothing told written is the same on the start words
@@ -105,7 +91,7 @@ module _ (program : Program) (call : LoopCall) (start now : MapList) (index : �
       here.again now.words start.words it told (sym w.count)
       (saw_start it.accesses start.words now.words written w.count w.kept unread (here.saw now.words it told))
 
-  on_start : (at : ℕ) (accesses : List Access) → EndsInZero program 4096 call at now.words accesses
+  pub on_start : (at : ℕ) (accesses : List Access) → EndsInZero program 4096 call at now.words accesses
       → ((e : ℕ) → e < length start.words → written e ≡ true → exposed (actions_at e accesses) ≡ false)
       → EndsInZero program 4096 call at start.words accesses
   on_start at accesses on unread = record {
@@ -196,7 +182,7 @@ module _ (program : Program) (call : LoopCall) (start now : MapList) (index : �
             }
 
   -- several iterations more
-  more_watched : (lanes : ℕ) (accesses : ℕ → List Access)
+  pub more_watched : (lanes : ℕ) (accesses : ℕ → List Access)
       → ((lane : ℕ) → lane < lanes → EndsInZero program 4096 call (index + lane) start.words (accesses lane))
       → ((e earlier later : ℕ) → earlier < later → later < lanes → writes (actions_at e (accesses earlier)) ≡ true
       → exposed (actions_at e (accesses later)) ≡ false)
@@ -376,33 +362,3 @@ all_watched program call index start now written w all =
           (none_scanned program call start.words index)))
           w.unread;
     }
-
--- a batch more
-pub lanes_watched : (program : Program) (call : LoopCall) (index : ℕ) (start now : MapList) (written : ℕ → Bool)
-    → WentWatched program call index start now written → (lanes : ℕ) → index + lanes ≤ call.n
-    → (accesses : ℕ → List Access)
-    → ((lane : ℕ) → lane < lanes → EndsInZero program 4096 call (index + lane) now.words (accesses lane))
-    → NoneSees accesses lanes
-    → ((lane e : ℕ) → lane < lanes → exposed (actions_at e (accesses lane)) ≡ true
-    → sees (actions_at e (accesses lane)) ≡ true)
-    → ((lane e : ℕ) → lane < lanes → e < length start.words → written e ≡ true
-    → exposed (actions_at e (accesses lane)) ≡ false)
-    → (new : MapList) → RanOn program call index (index + lanes) now new
-    → new.words ≡ words_after_lanes accesses lanes now.words → (written' : ℕ → Bool)
-    → ((e : ℕ) → e < length start.words → written e ≡ true → written' e ≡ true)
-    → ((lane e : ℕ) → lane < lanes → e < length start.words → writes (actions_at e (accesses lane)) ≡ true
-    → written' e ≡ true)
-    → ((e : ℕ) → e < length start.words → written' e ≡ true → (written e ≡ true) ⊎ WritesAt lanes accesses e)
-    → WentWatched program call (index + lanes) start new written'
-lanes_watched program call index start now written w lanes within accesses on none unreduced unread new went is written'
-    grows notes only =
-    more_watched program call start now index written w lanes accesses
-    (λ lane inside. on_start program call start now index written w (index + lane) (accesses lane) (on lane inside)
-    (λ e there wrote. unread lane e inside there wrote))
-    (λ e earlier later in_order inside wrote.
-    not_so (exposed (actions_at e (accesses later))) (sees (actions_at e (accesses later))) (unreduced later e inside)
-    (none e earlier later in_order inside wrote))
-    unread new went (ap length is ∙ length-before accesses now.words lanes)
-    (λ e inside unwritten.
-    ap (λ (words : List ℕ). slice_index words e) is ∙ after_lanes accesses now.words lanes e inside unwritten)
-    written' grows notes only

@@ -8,7 +8,7 @@ use Rattle.bpf_step.specs.Turns.{IsFilled}
 use Rattle.loop_core_model.specs.declared.loop_test.Test.{Test}
 use Rattle.loop_core_model.specs.Report.{verdict}
 use Rattle.loop_core_model.specs.Split.{split_fault}
-use Rattle.loop_core_event.specs.declared.event.Event.{Event}
+use Rattle.loop_core_model.specs.declared.event.Event.{Event}
 use Rattle.loop_core_model.specs.Outcome.{outcome, replayed}
 
 -- two calls are one loop from these words: they come to the same in order, have the same verdict and outcome by either

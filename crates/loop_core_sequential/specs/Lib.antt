@@ -1,10 +1,10 @@
 pub mod Loops
 pub mod Rests
 pub mod LoopRuns
-pub mod Tries
-pub mod FirstLanes
+pub mod Lanes
 pub mod FilledCalls
 pub mod Watched
 pub mod Noting
 pub mod Dependences
 pub mod WatchedRuns
+pub mod Marked

@@ -1,19 +1,22 @@
 -- What an undo log has of a loop that is watched.
-use Rattle.std.specs.Prelude.{◌≡◌, ℕ, ◌<◌, true, ◌⊎◌, List, length, slice_index, slice_index_or}
+use Rattle.std.specs.Prelude.{◌≡◌, ℕ, ◌<◌, Bool, true, ◌⊎◌, List, length, slice_index, slice_index_or}
+use Rattle.std.specs.List.{All}
 use Rattle.array_maps.specs.MapList.{MapList}
 use Rattle.bpf_insn_types.specs.Program.{Program}
 use Rattle.bpf_step_model.specs.State.{LoopCall}
-use Rattle.bpf_step_batch.specs.declared.entry.Entry.{Entry}
-use Rattle.loop_core_batch.specs.Sites.{kind_leaves}
-use Rattle.bpf_step_batch.specs.Logs.{element_by, has_lane}
+use Rattle.lane_rows.specs.declared.mask.Mask.{Mask}
+use Rattle.lane_rows.specs.declared.places.Places.{Places}
+use Rattle.lane_rows.specs.Rows.{is_in}
+use Rattle.lane_stamps.specs.declared.site.Site.{Site}
+use Rattle.lane_stamps.specs.Sites.{LaneRows, is_of_halves, leaves, mask_of, places_of}
 use Rattle.loop_core_undo.specs.declared.undo_log.UndoLog.{UndoLog}
 use Rattle.loop_core_undo.specs.Undo.{log_elements, is_written, word_before}
-use Rattle.loop_core_sequential.specs.Watched.{AreNoted, WentWatched}
+use Rattle.loop_core_sequential.specs.Watched.{AreWritten, IsNoted, WentWatched, element_at}
 
--- the elements of an entry's lanes are below a number
-abbrev pub AreBelow : (elements lanes : ℕ) → Entry → Type 0
-AreBelow elements lanes entry = (lane : ℕ) → lane < lanes
-    → element_by entry.site.elements entry.elements lane < elements
+-- the elements of the lanes of a mask are below a number
+abbrev pub AreBelow : (elements lanes : ℕ) → (halves : Bool) → Mask → Places → Type 0
+AreBelow elements lanes halves mask places = (lane : ℕ) → lane < lanes → is_in mask lane ≡ true
+    → element_at halves places lane < elements
 
 -- what was told written still is, and the words from when the log was empty are the same
 pub record Grows (words : List ℕ) (old new : UndoLog) : Type 0 where
@@ -21,32 +24,36 @@ pub record Grows (words : List ℕ) (old new : UndoLog) : Type 0 where
   pub written : (e : ℕ) → e < log_elements old → is_written old e ≡ true → is_written new e ≡ true
   pub before : (e : ℕ) → e < log_elements old → word_before new words e ≡ word_before old words e
 
--- an entry has an element for one of the lanes that made its access
-pub record HasElement (lanes : ℕ) (entry : Entry) (element : ℕ) : Type 0 where
+-- one of the lanes of a mask has an element
+pub record HasElement (lanes : ℕ) (halves : Bool) (mask : Mask) (places : Places) (element : ℕ) : Type 0 where
   pub lane : ℕ
   pub below : lane < lanes
-  pub made : has_lane entry.mask lane ≡ true
-  pub at : element_by entry.site.elements entry.elements lane ≡ element
+  pub made : is_in mask lane ≡ true
+  pub at : element_at halves places lane ≡ element
 
--- a row has an element for one of so many lanes
-pub record IsInRow (lanes : ℕ) (row : List ℕ) (element : ℕ) : Type 0 where
-  pub lane : ℕ
-  pub below : lane < lanes
-  pub at : slice_index row lane ≡ element
+-- it grew by the elements of the lanes of a mask
+pub record LanesNoted (words : List ℕ) (lanes : ℕ) (halves : Bool) (mask : Mask) (places : Places) (old new : UndoLog)
+    : Type 0 where
+  pub grows : Grows words old new
+  pub noted : AreWritten (is_written new) lanes halves mask places
+  pub only : (e : ℕ) → e < log_elements old → is_written new e ≡ true
+      → (is_written old e ≡ true) ⊎ HasElement lanes halves mask places e
 
--- one of the entries leaves a word at an element, by one of its lanes
-pub record IsLeft (lanes : ℕ) (entries : List Entry) (element : ℕ) : Type 0 where
+-- a lane leaves a word at an element, at one of the sites
+pub record IsLeft (lanes : ℕ) (of_lanes : LaneRows) (sites : List Site) (element : ℕ) : Type 0 where
   pub k : ℕ
-  pub below : k < length entries
-  pub leaves : (d : Entry) → kind_leaves (slice_index_or entries k d).site.kind ≡ true
-  pub has : (d : Entry) → HasElement lanes (slice_index_or entries k d) element
+  pub below : k < length sites
+  pub leaves_it : (d : Site) → leaves (slice_index_or sites k d).kind ≡ true
+  pub has : (d : Site) → HasElement lanes (is_of_halves (slice_index_or sites k d).kind)
+      (mask_of of_lanes (slice_index_or sites k d)) (places_of of_lanes (slice_index_or sites k d)) element
 
 -- it grew by what the lanes of a batch write
-pub record NotesWrites (lanes : ℕ) (entries : List Entry) (words : List ℕ) (old new : UndoLog) : Type 0 where
+pub record NotesWrites (lanes : ℕ) (of_lanes : LaneRows) (sites : List Site) (words : List ℕ) (old new : UndoLog)
+    : Type 0 where
   pub grows : Grows words old new
-  pub noted : AreNoted (is_written new) lanes entries
+  pub noted : All (IsNoted (is_written new) lanes of_lanes) sites
   pub only : (e : ℕ) → e < log_elements old → is_written new e ≡ true
-      → (is_written old e ≡ true) ⊎ IsLeft lanes entries e
+      → (is_written old e ≡ true) ⊎ IsLeft lanes of_lanes sites e
 
 -- the start maps can be restored
 pub record CanRestore (start now : MapList) (log : UndoLog) : Type 0 where

@@ -1,22 +1,24 @@
 -- Loops that run in order and are watched: no iteration reads an element that an earlier one wrote.
 use Rattle.std.specs.Prelude.{◌≡◌, ℕ, ◌<◌, Bool, true, false, ◌⊎◌, List, [], ◌∷◌, ◌++◌, length, slice_index}
-use Rattle.std.specs.List.{AllByRecursion}
 use Rattle.array_maps.specs.Accesses.{Access, actions_at}
 use Rattle.array_maps.specs.MapList.{MapList}
 use Rattle.bpf_insn_types.specs.Program.{Program}
 use Rattle.bpf_step_model.specs.State.{LoopCall}
 use Rattle.bpf_step_model.specs.Run.{BoundedResult, Ended, Stuck, Unfinished}
 use Rattle.bpf_step_model.specs.Iteration.{Iterated, iteration}
-use Rattle.loop_core_model.specs.declared.access.Access.{Access as Kind}
-use Rattle.loop_core_model.specs.declared.access.Access.TheVariants.{Read, Write, Both, Reduce}
 use Rattle.loop_core_model.specs.declared.loop_test.Test.TheVariants.{Flow}
 use Rattle.loop_core_model.specs.declared.verdict.Verdict.TheVariants.{Parallel}
 use Rattle.loop_core_model.specs.Actions.{is_plain_write, writes, exposed}
 use Rattle.loop_core_model.specs.Report.{verdict}
-use Rattle.loop_core_batch.specs.LoopByBatch.{EndsInZero}
-use Rattle.loop_core_batch.specs.Sites.{kind_sees, kind_leaves}
-use Rattle.bpf_step_batch.specs.declared.entry.Entry.{Entry}
-use Rattle.bpf_step_batch.specs.Logs.{element_by, has_lane}
+use Rattle.loop_core_batch.specs.LoopByEffects.{EndsInZero}
+use Rattle.lane_rows.specs.declared.mask.Mask.{Mask}
+use Rattle.lane_rows.specs.declared.places.Places.{Places}
+use Rattle.lane_rows.specs.Rows.{is_in, place_at}
+use Rattle.lane_stamps.specs.declared.kind.Kind.{Kind}
+use Rattle.lane_stamps.specs.declared.kind.Kind.TheVariants.{Load, LoadHalf, Store, Fetch, Replace, FetchHalf}
+use Rattle.lane_stamps.specs.declared.kind.Kind.TheVariants.{AddHalf, Apply}
+use Rattle.lane_stamps.specs.declared.site.Site.{Site}
+use Rattle.lane_stamps.specs.Sites.{LaneRows, element_named, is_of_halves, leaves, loads, mask_of, places_of}
 use Rattle.loop_core_sequential.specs.Loops.{RanLoopInOrder}
 use Rattle.loop_core_sequential.specs.Rests.{RanOn}
 
@@ -84,25 +86,39 @@ pub record WentWatched (program : Program) (call : LoopCall) (index : ℕ) (star
   pub kept : (element : ℕ) → element < length start.words → written element ≡ false
       → slice_index now.words element ≡ slice_index start.words element
 
--- accesses of this kind are reduces
-abbrev pub is_reduce : Kind → Bool
-is_reduce Read = false
-is_reduce Write = false
-is_reduce Both = false
-is_reduce (Reduce op) = true
+-- what is done at a site only loads words or halves, or leaves whole words
+abbrev pub is_whole : Kind → Bool
+is_whole Load = true
+is_whole LoadHalf = true
+is_whole Store = true
+is_whole Fetch = true
+is_whole Replace = false
+is_whole FetchHalf = false
+is_whole AddHalf = false
+is_whole (Apply op) = false
 
--- an entry of a batch of lanes reads nothing that is told written: it doesn't reduce, and where it sees words, no
--- lane's element is told written
-pub record IsUnread (written : ℕ → Bool) (lanes : ℕ) (entry : Entry) : Type 0 where
-  pub whole : is_reduce entry.site.kind ≡ false
-  pub unread : kind_sees entry.site.kind ≡ true → (lane : ℕ) → lane < lanes
-      → written (element_by entry.site.elements entry.elements lane) ≡ false
+-- the element of a lane's place
+abbrev pub element_at : (halves : Bool) → Places → (lane : ℕ) → ℕ
+element_at halves places lane = element_named halves (place_at places lane)
 
--- the elements that an entry of a batch of lanes leaves a word at are told written
-abbrev pub IsNoted : (written : ℕ → Bool) (lanes : ℕ) → Entry → Type 0
-IsNoted written lanes entry = kind_leaves entry.site.kind ≡ true → (lane : ℕ) → lane < lanes
-    → has_lane entry.mask lane ≡ true → written (element_by entry.site.elements entry.elements lane) ≡ true
+-- an element of none of the lanes of a mask is told written
+abbrev pub AreUnwritten : (written : ℕ → Bool) → (lanes : ℕ) → (halves : Bool) → Mask → Places → Type 0
+AreUnwritten written lanes halves mask places = (lane : ℕ) → lane < lanes → is_in mask lane ≡ true
+    → written (element_at halves places lane) ≡ false
 
--- those of all of its entries are
-abbrev pub AreNoted : (written : ℕ → Bool) (lanes : ℕ) → List Entry → Type 0
-AreNoted written lanes entries = AllByRecursion (IsNoted written lanes) entries
+-- at a site lanes read nothing that is told written: no lane reduces there, or replaces a half of a word, and none
+-- loads an element that is told written
+pub record IsUnread (written : ℕ → Bool) (lanes : ℕ) (of_lanes : LaneRows) (site : Site) : Type 0 where
+  pub whole : (lane : ℕ) → lane < lanes → is_in (mask_of of_lanes site) lane ≡ true → is_whole site.kind ≡ true
+  pub unread : loads site.kind ≡ true
+      → AreUnwritten written lanes (is_of_halves site.kind) (mask_of of_lanes site) (places_of of_lanes site)
+
+-- the elements of all lanes of a mask are told written
+abbrev pub AreWritten : (written : ℕ → Bool) → (lanes : ℕ) → (halves : Bool) → Mask → Places → Type 0
+AreWritten written lanes halves mask places = (lane : ℕ) → lane < lanes → is_in mask lane ≡ true
+    → written (element_at halves places lane) ≡ true
+
+-- the elements that lanes leave a word at, at a site, are told written
+abbrev pub IsNoted : (written : ℕ → Bool) (lanes : ℕ) → LaneRows → Site → Type 0
+IsNoted written lanes of_lanes site = leaves site.kind ≡ true
+    → AreWritten written lanes (is_of_halves site.kind) (mask_of of_lanes site) (places_of of_lanes site)

@@ -1,28 +1,26 @@
 //! What the lanes of a batch read and write, by an undo log.
 
-ghost use Rattle.std.specs.Prelude.{◌≡◌, ℕ, ◌<◌, ◌≤◌, true, false, ◌&&◌, ◌==◌, ◌⊎◌, length, slice_index, All};
-ghost use Rattle.bpf_step_batch.specs.declared.mask.Mask.TheVariants as mask;
-ghost use Rattle.bpf_step_batch.specs.Logs.{element_by, has_lane};
+ghost use Rattle.std.specs.Prelude.{◌≡◌, ◌<◌, ◌≤◌, true, false, ◌&&◌, ◌==◌, length, All};
+ghost use Rattle.lane_rows.specs.Rows.{is_in};
+ghost use Rattle.lane_stamps.specs.Sites.{HasRows, IsWithin, is_of_halves, mask_of, places_of, shown};
 ghost use Rattle.loop_core_undo.specs.Undo.{log_elements, is_written, MarksMore};
-ghost use Rattle.loop_core_sequential.specs.Watched.{IsUnread};
-ghost use Rattle.loop_core_sequential.specs.Noting.{AreBelow, Grows, HasElement, IsInRow, NotesWrites};
+ghost use Rattle.loop_core_sequential.specs.Watched.{AreUnwritten, IsUnread, element_at};
+ghost use Rattle.loop_core_sequential.specs.Noting.{AreBelow, LanesNoted, NotesWrites};
 
-use crate::applying::element;
 use array_maps::Maps;
-use bpf_step_batch::{Entry, Mask};
-use loop_core_batch::{Elements, leaves};
-use loop_core_model::Access;
+use lane_rows::{Mask, Places, is_empty};
+use lane_stamps::{Form, Kind, Lanes, Site, element_of, form_of, has, place_of};
 use loop_core_undo::UndoLog;
 
-/// Whether no lane reads an element that was written before, by what they accessed, and none reduces any.
-pub(crate) fn are_unread(entries: &[Entry], lanes: u32, log: &UndoLog) -> bool
-    requires some { 0 < lanes }
-    requires room { lanes ≤ 128 }
-    requires within { All (AreBelow (log_elements log.now) lanes) entries.now }
-    ensures { result ≡ true → All (IsUnread (is_written log.now) lanes) entries.now }
+/// Whether no lane reads an element that was written before, reduces any, or replaces a half of one.
+pub(crate) fn are_unread(sites: &[Site], of_lanes: Lanes<'_>, lanes: u32, log: &UndoLog) -> bool
+    requires room { lanes ≤ 256 }
+    requires rows { All (HasRows (shown of_lanes)) sites.now }
+    requires within { All (IsWithin (log_elements log.now) lanes (shown of_lanes)) sites.now }
+    ensures { result ≡ true → All (IsUnread (is_written log.now) lanes (shown of_lanes.entry)) sites.now }
 {
-    for entry in entries {
-        if !is_unread(entry, lanes, log) {
+    for site in sites {
+        if !is_unread(site, of_lanes, lanes, log) {
             return false;
         }
     }
@@ -30,147 +28,141 @@ pub(crate) fn are_unread(entries: &[Entry], lanes: u32, log: &UndoLog) -> bool
 }
 
 /// Whether no lane does so at one site.
-fn is_unread(entry: &Entry, lanes: u32, log: &UndoLog) -> bool
-    requires some { 0 < lanes }
-    requires room { lanes ≤ 128 }
-    requires within { AreBelow (log_elements log.now) lanes entry.now }
-    ensures { result ≡ true → IsUnread (is_written log.now) lanes entry.now }
+fn is_unread(site: &Site, of_lanes: Lanes<'_>, lanes: u32, log: &UndoLog) -> bool
+    requires room { lanes ≤ 256 }
+    requires rows { HasRows (shown of_lanes) site.now }
+    requires within { IsWithin (log_elements log.now) lanes (shown of_lanes) site.now }
+    ensures { result ≡ true → IsUnread (is_written log.now) lanes (shown of_lanes.entry) site.now }
 {
-    match entry.site.kind {
-        Access::Write => true,
-        Access::Reduce(_) => false,
-        Access::Read => !is_any_written(entry, lanes, log),
-        Access::Both => !is_any_written(entry, lanes, log),
+    let mask = &of_lanes.masks[site.mask];
+    match site.kind {
+        Kind::Store => true,
+        Kind::Load | Kind::LoadHalf | Kind::Fetch => {
+            let places = &of_lanes.places[site.places];
+            !is_any_written(site.kind.is_of_halves(), mask, places, lanes, log)
+        }
+        _ => is_empty(mask, lanes as usize),
     }
 }
 
-/// Whether the element of a lane may have been written before: where none was, it says so.
-fn is_any_written(entry: &Entry, lanes: u32, log: &UndoLog) -> bool
-    requires some { 0 < lanes }
-    requires room { lanes ≤ 128 }
-    requires within { AreBelow (log_elements log.now) lanes entry.now }
-    ensures { result ≡ false → (lane : ℕ) → lane < lanes
-        → is_written log.now (element_by entry.now.site.elements entry.now.elements lane) ≡ false }
+/// Whether the element of a lane of a mask may have been written before: where none was, it says so.
+pub(crate) fn is_any_written(
+    halves: bool,
+    mask: &Mask,
+    places: &Places,
+    lanes: u32,
+    log: &UndoLog,
+) -> bool
+    requires room { lanes ≤ 256 }
+    requires within { AreBelow (log_elements log.now) lanes halves mask.now places.now }
+    ensures { result ≡ false → AreUnwritten (is_written log.now) lanes halves mask.now places.now }
 {
-    match entry.site.elements {
-        Elements::One(only) => log.is_written(only),
-        Elements::Run(first) => log.is_any_written(first, lanes),
-        Elements::Every { first: _, step: _ } => is_any_of_row_written(&entry.elements, lanes, log),
-        Elements::Between { low: _, high: _ } => is_any_of_row_written(&entry.elements, lanes, log),
+    match form_of(places, halves, lanes as usize, log.elements() as usize) {
+        Form::One(place) => log.is_written(element_of(halves, place) as u32),
+        Form::Run(first) => log.is_any_written(element_of(halves, first) as u32, lanes),
+        Form::Any => is_one_written(halves, mask, places, lanes, log),
     }
 }
 
-/// The same where a row has the element of each lane.
-fn is_any_of_row_written(row: &[u32; 128], lanes: u32, log: &UndoLog) -> bool
-    requires room { lanes ≤ 128 }
-    requires within { (lane : ℕ) → lane < lanes → slice_index row.now lane < log_elements log.now }
-    ensures { result ≡ false → (lane : ℕ) → lane < lanes → is_written log.now (slice_index row.now lane) ≡ false }
+/// The same, lane by lane.
+fn is_one_written(halves: bool, mask: &Mask, places: &Places, lanes: u32, log: &UndoLog) -> bool
+    requires room { lanes ≤ 256 }
+    requires within { AreBelow (log_elements log.now) lanes halves mask.now places.now }
+    ensures { result ≡ false → AreUnwritten (is_written log.now) lanes halves mask.now places.now }
 {
-    let mut any = false;
-    for lane in 0..lanes {
-        any |= log.is_written(row[lane as usize]);
+    for lane in 0..lanes as usize {
+        if has(mask, lane) && log.is_written(element_of(halves, place_of(places, lane)) as u32) {
+            return true;
+        }
     }
-    any
+    false
 }
 
-/// Notes the elements that the lanes are about to write, by what they accessed, on these maps.
-pub(crate) fn note_writes(entries: &[Entry], lanes: u32, log: &mut UndoLog, maps: &Maps)
+/// Notes the elements that the lanes are about to write, by what they did, on these maps.
+pub(crate) fn note_writes(
+    sites: &[Site],
+    of_lanes: Lanes<'_>,
+    lanes: u32,
+    log: &mut UndoLog,
+    maps: &Maps,
+)
     requires some { 0 < lanes }
-    requires room { lanes ≤ 128 }
-    requires within { All (AreBelow (log_elements log.old) lanes) entries.now }
+    requires room { lanes ≤ 256 }
+    requires rows { All (HasRows (shown of_lanes)) sites.now }
+    requires within { All (IsWithin (log_elements log.old) lanes (shown of_lanes)) sites.now }
     requires count { length maps.now.words ≡ log_elements log.old }
-    ensures { NotesWrites lanes entries.now maps.now.words log.old log.new }
+    ensures { NotesWrites lanes (shown of_lanes.entry) sites.now maps.now.words log.old log.new }
 {
-    for entry in entries {
-        if leaves(entry.site.kind) {
-            note_elements(entry, lanes, log, maps);
+    for site in sites {
+        if site.kind.leaves() {
+            note_site(site, of_lanes, lanes, log, maps);
         }
     }
 }
 
-/// Notes the elements of those lanes that made an access at a site.
-fn note_elements(entry: &Entry, lanes: u32, log: &mut UndoLog, maps: &Maps)
+/// Notes the elements of the lanes that get to a site.
+fn note_site(site: &Site, of_lanes: Lanes<'_>, lanes: u32, log: &mut UndoLog, maps: &Maps)
     requires some { 0 < lanes }
-    requires room { lanes ≤ 128 }
-    requires within { AreBelow (log_elements log.old) lanes entry.now }
+    requires room { lanes ≤ 256 }
+    requires rows { HasRows (shown of_lanes) site.now }
+    requires within { IsWithin (log_elements log.old) lanes (shown of_lanes) site.now }
     requires count { length maps.now.words ≡ log_elements log.old }
-    ensures grows { Grows maps.now.words log.old log.new }
-    ensures noted { (lane : ℕ) → lane < lanes → has_lane entry.now.mask lane ≡ true
-        → is_written log.new (element_by entry.now.site.elements entry.now.elements lane) ≡ true }
-    ensures only { (e : ℕ) → e < log_elements log.old → is_written log.new e ≡ true
-        → (is_written log.old e ≡ true) ⊎ HasElement lanes entry.now e }
+    ensures { LanesNoted maps.now.words lanes (is_of_halves site.now.kind) (mask_of (shown of_lanes.entry) site.now)
+        (places_of (shown of_lanes.entry) site.now) log.old log.new }
 {
-    match entry.mask {
-        Mask::All => note_all(entry, lanes, log, maps),
-        Mask::Those(_) => note_some(entry, lanes, log, maps),
+    let mask = &of_lanes.masks[site.mask];
+    let places = &of_lanes.places[site.places];
+    note(site.kind.is_of_halves(), mask, places, lanes, log, maps);
+}
+
+/// Notes the elements of the lanes of a mask.
+fn note(halves: bool, mask: &Mask, places: &Places, lanes: u32, log: &mut UndoLog, maps: &Maps)
+    requires some { 0 < lanes }
+    requires room { lanes ≤ 256 }
+    requires within { AreBelow (log_elements log.old) lanes halves mask.now places.now }
+    requires count { length maps.now.words ≡ log_elements log.old }
+    ensures { LanesNoted maps.now.words lanes halves mask.now places.now log.old log.new }
+{
+    if !mask.all {
+        note_each(halves, mask, places, lanes, log, maps);
+        return;
+    }
+    match form_of(places, halves, lanes as usize, log.elements() as usize) {
+        Form::One(place) => log.mark(element_of(halves, place) as u32, maps),
+        Form::Run(first) => log.mark_run(element_of(halves, first) as u32, lanes, maps),
+        Form::Any => note_each(halves, mask, places, lanes, log, maps),
     }
 }
 
-/// The same where not all did.
-fn note_some(entry: &Entry, lanes: u32, log: &mut UndoLog, maps: &Maps)
-    requires room { lanes ≤ 128 }
-    requires within { AreBelow (log_elements log.old) lanes entry.now }
+/// The same, lane by lane.
+fn note_each(halves: bool, mask: &Mask, places: &Places, lanes: u32, log: &mut UndoLog, maps: &Maps)
+    requires room { lanes ≤ 256 }
+    requires within { AreBelow (log_elements log.old) lanes halves mask.now places.now }
     requires count { length maps.now.words ≡ log_elements log.old }
-    ensures grows { Grows maps.now.words log.old log.new }
-    ensures noted { (lane : ℕ) → lane < lanes → has_lane entry.now.mask lane ≡ true
-        → is_written log.new (element_by entry.now.site.elements entry.now.elements lane) ≡ true }
-    ensures only { (e : ℕ) → e < log_elements log.old → is_written log.new e ≡ true
-        → (is_written log.old e ≡ true) ⊎ HasElement lanes entry.now e }
+    ensures { LanesNoted maps.now.words lanes halves mask.now places.now log.old log.new }
 {
-    // It tells the proof that elements are few.
-    let _words = maps.words();
-    for lane in 0..lanes {
-        note_if_made(entry, lane, log, maps);
+    for lane in 0..lanes as usize {
+        note_if_made(halves, mask, places, lane, log, maps);
     }
 }
 
-/// Notes the element of a lane, if it made the access.
+/// Notes the element of a lane, if it is in a mask.
 #[inline(always)]
-fn note_if_made(entry: &Entry, lane: u32, log: &mut UndoLog, maps: &Maps)
-    requires lane { lane < 128 }
-    requires within { element_by entry.now.site.elements entry.now.elements lane < log_elements log.old }
-    requires few { log_elements log.old ≤ 65536 }
+fn note_if_made(
+    halves: bool,
+    mask: &Mask,
+    places: &Places,
+    lane: usize,
+    log: &mut UndoLog,
+    maps: &Maps,
+)
+    requires lane { lane < 256 }
+    requires within { is_in mask.now lane ≡ true → element_at halves places.now lane < log_elements log.old }
     requires count { length maps.now.words ≡ log_elements log.old }
-    ensures { MarksMore (λ e. has_lane entry.now.mask lane
-        && (element_by entry.now.site.elements entry.now.elements lane == e)) maps.now.words log.old log.new }
+    ensures { MarksMore (λ e. is_in mask.now lane && (element_at halves places.now lane == e)) maps.now.words log.old
+        log.new }
 {
-    if entry.mask.has(lane) {
-        log.mark(element(entry.site.elements, entry, lane), maps);
-    }
-}
-
-/// The same where all did.
-fn note_all(entry: &Entry, lanes: u32, log: &mut UndoLog, maps: &Maps)
-    requires whole { entry.now.mask ≡ mask.All }
-    requires some { 0 < lanes }
-    requires room { lanes ≤ 128 }
-    requires within { AreBelow (log_elements log.old) lanes entry.now }
-    requires count { length maps.now.words ≡ log_elements log.old }
-    ensures grows { Grows maps.now.words log.old log.new }
-    ensures noted { (lane : ℕ) → lane < lanes
-        → is_written log.new (element_by entry.now.site.elements entry.now.elements lane) ≡ true }
-    ensures only { (e : ℕ) → e < log_elements log.old → is_written log.new e ≡ true
-        → (is_written log.old e ≡ true) ⊎ HasElement lanes entry.now e }
-{
-    match entry.site.elements {
-        Elements::One(only) => log.mark(only, maps),
-        Elements::Run(first) => log.mark_run(first, lanes, maps),
-        Elements::Every { first: _, step: _ } => note_row(&entry.elements, lanes, log, maps),
-        Elements::Between { low: _, high: _ } => note_row(&entry.elements, lanes, log, maps),
-    }
-}
-
-/// The same where a row has the element of each lane.
-fn note_row(row: &[u32; 128], lanes: u32, log: &mut UndoLog, maps: &Maps)
-    requires room { lanes ≤ 128 }
-    requires within { (lane : ℕ) → lane < lanes → slice_index row.now lane < log_elements log.old }
-    requires count { length maps.now.words ≡ log_elements log.old }
-    ensures grows { Grows maps.now.words log.old log.new }
-    ensures noted { (lane : ℕ) → lane < lanes → is_written log.new (slice_index row.now lane) ≡ true }
-    ensures only { (e : ℕ) → e < log_elements log.old → is_written log.new e ≡ true
-        → (is_written log.old e ≡ true) ⊎ IsInRow lanes row.now e }
-{
-    for lane in 0..lanes {
-        log.mark(row[lane as usize], maps);
+    if has(mask, lane) {
+        log.mark(element_of(halves, place_of(places, lane)) as u32, maps);
     }
 }

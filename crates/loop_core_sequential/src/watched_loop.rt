@@ -2,6 +2,7 @@
 
 ghost use Rattle.std.specs.Prelude.{◌≡◌, ◌≤◌, length};
 ghost use Rattle.array_maps.specs.MapList.{MapList};
+ghost use Rattle.bpf_verify.specs.Rows.{AreRowsAt};
 ghost use Rattle.bpf_verify_sound.specs.Soundness.{OverApproximatesCall};
 ghost use Rattle.loop_core_undo.specs.Undo.{log_elements, IsEmpty};
 ghost use Rattle.loop_core_sequential.specs.LoopRuns.{IsLoopRun};
@@ -16,7 +17,7 @@ use crate::progress::Progress;
 use crate::watching::{Watch, one_by_one_watched};
 use array_maps::Maps;
 use bpf_step::LoopCall;
-use bpf_verify::Verified;
+use bpf_verify::{CallbackRows, Verified};
 use loop_core_undo::UndoLog;
 
 /// How a loop came out that was watched.
@@ -67,13 +68,17 @@ fn watch(program: &Verified, call: &LoopCall, log: &mut UndoLog, maps: &mut Maps
         let watch = one_by_one_watched(&mut run, 0, n, log, maps);
         return ended(watch, n);
     }
+    let Some(rows) = program.rows(call.callback()) else {
+        let watch = one_by_one_watched(&mut run, 0, n, log, maps);
+        return ended(watch, n);
+    };
     // A loop that ends at its first iteration needs no room for batches, which takes longer to clear.
     match one_by_one_watched(&mut run, 0, 1, log, maps) {
         Watch::Completed => (),
         Watch::Broke(answer) => return WatchedLoop::Passed(answer),
         Watch::Dependent(progress) => return WatchedLoop::Dependent(progress),
     }
-    watch_in_batches(&mut run, 1, log, maps)
+    watch_in_batches(&mut run, rows, 1, log, maps)
 }
 
 /// How the loop came out, by how all of its n iterations did.
@@ -91,11 +96,13 @@ fn ended(watch: Watch, n: u32) -> WatchedLoop
 #[inline(never)]
 fn watch_in_batches(
     run: &mut LoopRun<'_>,
+    rows: &CallbackRows,
     from: u32,
     log: &mut UndoLog,
     maps: &mut Maps,
 ) -> WatchedLoop
     requires ready { IsLoopRun run.old }
+    requires rows { AreRowsAt run.old.program.now run.old.call.now.callback rows.now }
     requires within { from ≤ run.old.call.now.n }
     requires sizes { maps.old.sizes ≡ run.old.program.now.sizes }
     requires count { length maps.old.words ≡ log_elements log.old }
@@ -106,13 +113,9 @@ fn watch_in_batches(
     let n = run.call.n();
     let mut index = from;
     while index < n {
-        let next = batches.run_batch_watched(run, index, n, log, maps);
-        if index < next {
-            index = next;
-            continue;
-        }
-        let resume = batches.resume(index, n);
-        match one_by_one_watched(run, index, resume, log, maps) {
+        let next = batches.run_batch_watched(run, rows, index, n, log, maps);
+        let resume = batches.resume(next, n);
+        match one_by_one_watched(run, next, resume, log, maps) {
             Watch::Completed => index = resume,
             Watch::Broke(answer) => return WatchedLoop::Passed(answer),
             Watch::Dependent(progress) => return WatchedLoop::Dependent(progress),

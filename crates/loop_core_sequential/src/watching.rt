@@ -2,21 +2,20 @@
 
 ghost use Rattle.std.specs.Prelude.{◌≡◌, ◌+◌, ◌<◌, ◌≤◌, length};
 ghost use Rattle.array_maps.specs.MapList.{MapList};
+ghost use Rattle.bpf_verify.specs.Rows.{AreRowsAt};
 ghost use Rattle.loop_core_undo.specs.Undo.{log_elements};
 ghost use Rattle.loop_core_sequential.specs.LoopRuns.{IsLoopRun};
-ghost use Rattle.loop_core_sequential.specs.Tries.{index_after};
 ghost use Rattle.loop_core_sequential.specs.Noting.{GoesWatched};
 ghost use Rattle.loop_core_sequential.specs.WatchedRuns.{WatchedTo};
 
-use crate::applying::apply;
+use crate::applying::FirstLanes;
 use crate::batches::Batches;
-use crate::deciding::are_in_order;
 use crate::loop_run::LoopRun;
 use crate::noting::{are_unread, note_writes};
 use crate::progress::Progress;
-use crate::tried::Tried;
 use array_maps::Maps;
-use loop_core_batch::{law_of_application, law_of_batches, law_of_sites};
+use bpf_verify::CallbackRows;
+use loop_core_batch::law_of_batches;
 use loop_core_undo::{UndoLog, Watched, law_of_watching, law_of_words_before};
 
 /// How watched iterations came out.
@@ -31,73 +30,79 @@ pub(crate) enum Watch {
 }
 
 impl Batches {
-    /// Does iterations from an index on together, no more than up to another, where they are the loop in order so and
+    /// Does iterations from an index on together, no more than up to another, as many as are the loop in order so, if
     /// none reads what an earlier one wrote. Gives the index after them.
     pub(crate) fn run_batch_watched(
         &mut self,
         run: &LoopRun<'_>,
+        rows: &CallbackRows,
         index: u32,
         to: u32,
         log: &mut UndoLog,
         maps: &mut Maps,
     ) -> u32
         requires ready { IsLoopRun run.now }
+        requires rows { AreRowsAt run.now.program.now run.now.call.now.callback rows.now }
         requires below { index < to }
         requires within { to ≤ run.now.call.now.n }
         requires sizes { maps.old.sizes ≡ run.now.program.now.sizes }
         requires count { length maps.old.words ≡ log_elements log.old }
         ensures on { index ≤ result }
         ensures within { result ≤ to }
+        ensures alone { result ≡ index → 0 < self.new.alone }
         ensures sizes { maps.new.sizes ≡ maps.old.sizes }
         ensures count { length maps.new.words ≡ log_elements log.new }
         ensures goes { (start : MapList) → GoesWatched run.now.program.now run.now.call.now index start maps.old log.old
             → GoesWatched run.now.program.now run.now.call.now result start maps.new log.new }
     {
         let lanes = self.lanes.min(to - index);
-        let tried = self.tried_watched(run, index, lanes, log, maps);
-        self.paced(tried, index, lanes)
+        let count = self.go_watched(run, rows, index, lanes, log, maps);
+        self.pace(count, lanes);
+        index + count
     }
 
-    /// Does so many iterations from an index on together, where they are the loop in order so and none reads what an
-    /// earlier one wrote; else nothing.
-    fn tried_watched(
+    /// Does the first of so many iterations from an index on together, as many as are the loop in order so, if none
+    /// reads what an earlier one wrote. Gives how many they are.
+    fn go_watched(
         &mut self,
         run: &LoopRun<'_>,
+        rows: &CallbackRows,
         index: u32,
         lanes: u32,
         log: &mut UndoLog,
         maps: &mut Maps,
-    ) -> Tried
+    ) -> u32
         requires ready { IsLoopRun run.now }
-        requires some { 0 < lanes }
-        requires room { lanes ≤ 128 }
+        requires rows { AreRowsAt run.now.program.now run.now.call.now.callback rows.now }
+        requires room { lanes ≤ 256 }
         requires within { index + lanes ≤ run.now.call.now.n }
         requires sizes { maps.old.sizes ≡ run.now.program.now.sizes }
         requires count { length maps.old.words ≡ log_elements log.old }
-        ensures few { index_after result index lanes ≤ index + lanes }
+        ensures few { result ≤ lanes }
         ensures sizes { maps.new.sizes ≡ maps.old.sizes }
         ensures count { length maps.new.words ≡ log_elements log.new }
         ensures goes { (start : MapList) → GoesWatched run.now.program.now run.now.call.now index start maps.old log.old
-            → GoesWatched run.now.program.now run.now.call.now (index_after result index lanes) start maps.new log.new }
+            → GoesWatched run.now.program.now run.now.call.now (index + result) start maps.new log.new }
     {
         law_of_batches();
-        law_of_sites();
-        law_of_application();
         law_of_words_before();
-        if !self.ran_together(run, index, lanes, maps) {
-            return Tried::Diverged;
+        // It tells the proof that each of the words is one.
+        let _words = maps.words();
+        let Some(count) = self.ran_together(run, rows, index, lanes, maps) else {
+            return 0;
+        };
+        let sites = self.batch.sites();
+        let of_lanes = self.batch.lanes();
+        if count == 0 || !are_unread(sites, of_lanes, count, log) {
+            return 0;
         }
-        if !self.batch.none_follows_own() {
-            return Tried::Diverged;
-        }
-        let tried = &*self;
-        let entries = tried.batch.entries();
-        if !are_in_order(entries, lanes) || !are_unread(entries, lanes, log) {
-            return Tried::Dependent;
-        }
-        note_writes(entries, lanes, log, maps);
-        apply(entries, lanes, maps);
-        Tried::Applied
+        note_writes(sites, of_lanes, count, log, maps);
+        let first = FirstLanes {
+            batch: &self.batch,
+            lanes: count as usize,
+        };
+        maps.change(&first);
+        count
     }
 }
 

@@ -1,5 +1,5 @@
-//! How the loops of a program are run: a plan, with the numbers of workers and blocks and the test; the split of a loop's
-//! iterations into blocks; what the least break says of a block; and a gate that workers pass.
+//! How the loops of a program are run: a plan, with the numbers of workers and blocks and the test; the split of a
+//! loop's iterations into blocks; what the least break says of a block; and a gate that workers pass.
 #![tactic(auto)]
 
 mod gate;

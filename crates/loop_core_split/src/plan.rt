@@ -3,8 +3,7 @@
 ghost use Rattle.std.specs.Prelude.{◌↔◌, IsTrue};
 ghost use Rattle.loop_core_split.specs.Plans.{IsPlan};
 
-use loop_core_event::{MAX_BLOCKS, MAX_WORKERS};
-use loop_core_model::Test;
+use loop_core_model::{MAX_BLOCKS, MAX_WORKERS, Test};
 
 /// How a run chooses the way that each of its loops goes.
 #[derive(Clone, Copy, Debug)]

@@ -5,7 +5,7 @@ ghost use Rattle.loop_core_model.specs.Split.{falls as falls_below, last_bound, 
 ghost use Rattle.loop_core_model.specs.Intervals.{blocks_of, start_of, end_of};
 
 use arrayvec::ArrayVec;
-use loop_core_event::MAX_BLOCKS;
+use loop_core_model::MAX_BLOCKS;
 pub use loop_core_model::SplitFault as SplitError;
 use std::marker::Model;
 

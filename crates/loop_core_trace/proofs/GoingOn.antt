@@ -27,7 +27,7 @@ use Rattle.bpf_step_ir_sound.specs.Standing.{Simulates, SimulatesStep}
 use Rattle.bpf_step_ir_sound.specs.Laws.{BeginsCallback, EntrySimulates, EachOpSimulates}
 use Rattle.bpf_step_plain.specs.declared.outcome.Outcome.{Outcome}
 use Rattle.bpf_step_plain.specs.declared.outcome.Outcome.TheVariants.{On, End, Call, Refusal}
-use Rattle.bpf_step_registers.specs.Machine.{plain}
+use Rattle.bpf_step_plain.specs.Machine.{plain}
 use Rattle.bpf_step_plain.specs.Moving.{DidStep}
 use Rattle.loop_core_trace.specs.declared.touch.Touch.{Touch}
 use Rattle.loop_core_trace.specs.declared.journal.Note.{Note}

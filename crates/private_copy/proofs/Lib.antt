@@ -6,10 +6,6 @@ pub mod FollowLaws
 pub mod AccessLaws
 pub mod BeginLaws
 pub mod VisitLaws
-pub mod NoteLaws
-pub mod RunLaws
-pub mod ColumnLaws
-pub mod NotedCells
 pub mod CellLaws
 pub mod OverwriteLaws
 pub mod ClearLaws

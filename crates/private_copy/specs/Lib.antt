@@ -5,12 +5,8 @@ pub mod Visits
 pub mod Cells
 pub mod Clearing
 pub mod Workspaces
-pub mod Columns
 pub mod Inside
 pub mod Shown
 pub mod Steps
 pub mod CopyLaw
-pub mod Noting
-pub mod Runs
 pub mod Overwriting
-pub mod Placed

@@ -14,14 +14,9 @@
 //! ```
 #![tactic(auto)]
 
-mod by_operator;
 mod clearing;
-mod columns;
-mod noting;
-mod noting_runs;
 mod page;
 mod pages;
-mod placed;
 pub mod private;
 pub mod reduction;
 pub mod store;

@@ -7,9 +7,8 @@ ghost use Rattle.private_copy.specs.Cells.{total_of, cell_at, blank, mixed_cell}
 ghost use Rattle.private_copy.specs.Touched.{has_page, with_page};
 
 use crate::page::{BLANK, Cell, Page};
-use array_maps::Op;
 use indexmap::IndexSet;
-use loop_core_model::{Access, PAGE};
+use loop_core_model::PAGE;
 use std::alloc::{AllocError, Global};
 use std::marker::Model;
 
@@ -48,11 +47,9 @@ impl Model for Pages {
 }
 
 impl Pages {
-    ghost use Rattle.std.specs.Prelude.{◌*◌, slice_index};
+    ghost use Rattle.std.specs.Prelude.{◌*◌};
     ghost use Rattle.private_copy.specs.Shown.{last_in};
     ghost use Rattle.private_copy.specs.Overwriting.{AreOverwritten};
-    ghost use Rattle.loop_core_model.specs.declared.access.Access.TheVariants.{Reduce};
-    ghost use Rattle.private_copy.specs.Runs.{CellNotes};
 
     /// Pages for at most 65,536 elements, none of them placed.
     pub(crate) fn try_new(alloc: Global, elements: u32) -> Result<Pages, AllocError>
@@ -122,31 +119,6 @@ impl Pages {
             self.order.get_index(k as usize).copied()
         } else {
             None
-        }
-    }
-
-    /// Whether the page of an element is placed.
-    #[inline]
-    pub(crate) fn is_placed(&self, e: u32) -> bool
-        requires { e / 64 < total_of self.now }
-        ensures { result ≡ has_page self.now.order (e / 64) }
-    {
-        self.table[(e / PAGE) as usize].is_some()
-    }
-
-    /// Sees that the page of an element is placed. Where it isn't, there is a spare one.
-    #[inline]
-    pub(crate) fn touch(&mut self, e: u32)
-        requires within { e / 64 < total_of self.old }
-        requires spare { min 1 (total_of self.old - length self.old.order) ≤ self.old.spare }
-        ensures pages { self.new.pages ≡ self.old.pages }
-        ensures order { self.new.order ≡ with_page self.old.order (e / 64) }
-        ensures placed { has_page self.new.order (e / 64) ≡ true }
-        ensures spare { self.new.spare + length self.new.order ≡ self.old.spare + length self.old.order }
-    {
-        let number = e / PAGE;
-        if self.table[number as usize].is_none() {
-            self.place(number);
         }
     }
 
@@ -234,47 +206,6 @@ impl Pages {
             return;
         };
         page.mark_mixed(e % PAGE);
-    }
-
-    /// Notes a reduce of an element, whose page is placed, by the iteration of a number, from 1 on, which saw this
-    /// word.
-    #[inline(always)]
-    pub(crate) fn reduce(&mut self, e: u32, op: Op, word: u64, operand: u64, number: u32)
-        requires within { e / 64 < total_of self.old }
-        requires placed { has_page self.old.order (e / 64) ≡ true }
-        requires some { 0 < number }
-        ensures total { total_of self.new ≡ total_of self.old }
-        ensures order { self.new.order ≡ self.old.order }
-        ensures spare { self.new.spare ≡ self.old.spare }
-        ensures here { CellNotes (cell_at self.old e) (Reduce op) word operand number (cell_at self.new e) }
-        ensures others { (other : ℕ) → other ≢ e → cell_at self.new other ≡ cell_at self.old other }
-    {
-        let Some(page) = &mut self.table[e as usize / 64] else {
-            return;
-        };
-        page.reduce(e % PAGE, op, word, operand, number);
-    }
-
-    /// Notes an access of this kind at each of the elements that follow a first one in its page, which is placed: by
-    /// the iteration of a number, from 1 on, which saw these words, with the values that they left, or their operands.
-    pub(crate) fn note(&mut self, kind: Access, e: u32, words: &[u64], values: &[u64], number: u32)
-        requires within { e / 64 < total_of self.old }
-        requires one_page { e % 64 + length words.now ≤ 64 }
-        requires placed { has_page self.old.order (e / 64) ≡ true }
-        requires values { length words.now ≤ length values.now }
-        requires some { 0 < number }
-        ensures total { total_of self.new ≡ total_of self.old }
-        ensures order { self.new.order ≡ self.old.order }
-        ensures spare { self.new.spare ≡ self.old.spare }
-        ensures inside { (lane : ℕ) → lane < length words.now → CellNotes (cell_at self.old (e + lane)) kind
-            (slice_index words.now lane) (slice_index values.now lane) number (cell_at self.new (e + lane)) }
-        ensures others { (other : ℕ) → ((lane : ℕ) → lane < length words.now → other ≢ e + lane)
-            → cell_at self.new other ≡ cell_at self.old other }
-    {
-        let Some(page) = &mut self.table[e as usize / 64] else {
-            return;
-        };
-        page.note(kind, e % PAGE, words, values, number);
     }
 
     /// Sets each of the first n words of a page, at most 64, to what the last iteration that writes its element left

@@ -92,7 +92,7 @@ impl<'a> Private<'a> {
     /// Notes a plain access that leaves the word of an element, whose cell is told. Where a plain access is
     /// noted already, nothing is written.
     #[inline]
-    pub(crate) fn mark_mixed(&mut self, e: u32, cell: Cell)
+    fn mark_mixed(&mut self, e: u32, cell: Cell)
         requires within { e < length self.old.start.now }
         requires placed { has_page self.old.pages.order (page_of e) ≡ true }
         requires cell { cell ≡ cell_at self.old.pages e }
@@ -107,7 +107,7 @@ impl<'a> Private<'a> {
 
     /// Keeps a word that the iteration leaves at an element by a plain access.
     #[inline]
-    pub(crate) fn leave(&mut self, e: u32, value: u64)
+    fn leave(&mut self, e: u32, value: u64)
         requires within { e < length self.old.start.now }
         requires placed { has_page self.old.pages.order (page_of e) ≡ true }
         ensures { CellIsSet self.old e (left_cell value self.old.begun) self.new }
@@ -126,7 +126,7 @@ impl<'a> Private<'a> {
 
     /// Keeps the cell of an element.
     #[inline]
-    pub(crate) fn keep(&mut self, e: u32, cell: Cell)
+    fn keep(&mut self, e: u32, cell: Cell)
         requires within { e < length self.old.start.now }
         requires placed { has_page self.old.pages.order (page_of e) ≡ true }
         requires writer { cell.writer ≤ self.old.begun }

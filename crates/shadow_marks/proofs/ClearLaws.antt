@@ -8,6 +8,7 @@ use Rattle.std.specs.List.{list_any}
 use Rattle.std.specs.Vec.{with_items}
 use Rattle.std.specs.declared.vec.Vec.{Vec}
 use Rattle.std.proofs.lemmas.Bool.{cases_eq, cases_lt}
+use Rattle.std.proofs.lemmas.List.{with_items_is}
 use Rattle.std.proofs.lemmas.Bool.Decides.{nat_tests}
 use Rattle.std.proofs.lemmas.Nat.{le_or_l, le_or_r}
 use Rattle.std.proofs.lemmas.Nat.Bits.{bit_at-zero}
@@ -24,10 +25,9 @@ use Rattle.shadow_marks.specs.declared.planes.Planes.{Planes}
 use Rattle.shadow_marks.specs.Standing.{words_for, IsBitPlane, plane_by, AreTested, ArePlanes, test_of}
 use Rattle.shadow_marks.specs.Standing.{TestedStandAt, StandAt, StandFor, IsUnmarkedPage, no_visits}
 use Rattle.shadow_marks.specs.Ending.{KeepsShape}
-use Rattle.shadow_marks.specs.Runs.{ChangesRun}
+use Rattle.shadow_marks.specs.Runs.{SetsRun}
 use Rattle.shadow_marks.specs.Clearing.{ClearsBits, SetsNumbers, OperatorsClear, TestedClears, ClearsPage}
 use Rattle.shadow_marks.proofs.BetweenLaws.{between_in, between_below, between_above}
-use Rattle.shadow_marks.proofs.FoldRuns.{refilled}
 
 -- a word that is zero has no bit set
 pub zero_bits : (words : List ℕ) (page e : ℕ) → e / 64 ≡ page → slice_index words page ≡ 0 → bit_of words e ≡ false
@@ -45,7 +45,7 @@ bits_cleared words page within = record {
 
 -- a page's numbers are set
 pub numbers_set : (old new : List ℕ) (page past number : ℕ) → past ≡ min (length old) (64 * page + 64)
-    → ChangesRun old new (64 * page) past (λ kept lane. number) → SetsNumbers old new page number
+    → SetsRun old new (64 * page) past number → SetsNumbers old new page number
 numbers_set old new page past number is changes = record {
   count = changes.count;
   here = λ e below at.
@@ -61,6 +61,10 @@ numbers_set old new page past number is changes = record {
 }
 
 -- vectors that were lent out
+refilled : {Z : Type 0} → (v : Vec ℕ Z) (now new : List ℕ) → now ≡ v.items → length new ≡ length now
+    → (with_items v new).items ≡ new
+refilled v now new same long = with_items_is v new (long ∙ ap length same ∙ sym v.ok.0)
+
 pub cleared_in : {Z : Type 0} → (v : Vec ℕ Z) (now new : List ℕ) (page : ℕ) → now ≡ v.items → ClearsBits now new page
     → ClearsBits v.items (with_items v new).items page
 cleared_in v now new page same clears =

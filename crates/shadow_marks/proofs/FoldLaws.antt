@@ -35,11 +35,11 @@ and_false : (b : Bool) → (b && false) ≡ false
 and_false true = refl
 and_false false = refl
 
-pub ored_here : (old new : List ℕ) (e : ℕ) (bit : Bool) → OrsBit old new e bit → bit_of new e ≡ (bit_of old e || bit)
+ored_here : (old new : List ℕ) (e : ℕ) (bit : Bool) → OrsBit old new e bit → bit_of new e ≡ (bit_of old e || bit)
 ored_here old new e bit ors =
     ors.bits e ∙ ap (λ b. bit_of old e || (bit && b)) (eq-eqb e e refl) ∙ ap (λ b. bit_of old e || b) (and_true bit)
 
-pub ored_there : (old new : List ℕ) (e : ℕ) (bit : Bool) → OrsBit old new e bit → (k : ℕ) → k ≢ e
+ored_there : (old new : List ℕ) (e : ℕ) (bit : Bool) → OrsBit old new e bit → (k : ℕ) → k ≢ e
     → bit_of new k ≡ bit_of old k
 ored_there old new e bit ors k other =
     ors.bits k ∙ ap (λ b. bit_of old k || (bit && b)) (ne_eqb k e other) ∙ ap (λ b. bit_of old k || b) (and_false bit)
@@ -72,7 +72,7 @@ nothing_ored words e bit none = record {
 }
 
 -- the planes of the LRPD test
-pub by_two : (two writes was seen : Bool) → seen ≡ was → (two || (writes && seen)) ≡ ((two || false) || (was && writes))
+by_two : (two writes was seen : Bool) → seen ≡ was → (two || (writes && seen)) ≡ ((two || false) || (was && writes))
 by_two two writes true true same = ap (λ b. two || b) (and_true writes) ∙ ap (λ b. b || writes) (sym (or-false two))
 by_two two writes false false same = ap (λ b. two || b) (and_false writes) ∙ sym (or-false (two || false))
 by_two two writes true false same = absurd (cc)
@@ -115,7 +115,7 @@ lesser_none : (o : Option ℕ) → lesser o None ≡ o
 lesser_none None = refl
 lesser_none (Some n) = refl
 
-pub first_here : (writes : Bool) (first : Option ℕ) (old new index : ℕ) → old ≡ first_number first → index < 4294967295
+first_here : (writes : Bool) (first : Option ℕ) (old new index : ℕ) → old ≡ first_number first → index < 4294967295
     →
     new ≡ (if writes then min old index else old) → new ≡ first_number (lesser first (if writes then Some index
     else None))
@@ -123,7 +123,7 @@ first_here true None old new index was small is = let e : min old index ≡ inde
 first_here true (Some first) old new index was small is = is ∙ ap (λ n. min n index) was
 first_here false first old new index was small is = is ∙ was ∙ ap first_number (sym (lesser_none first))
 
-pub last_here : (reads : Bool) (last old new index : ℕ) → old ≡ last →
+last_here : (reads : Bool) (last old new index : ℕ) → old ≡ last →
     new ≡ (if reads then max old (index + 1) else old) → new ≡ max last (if reads then index + 1 else 0)
 last_here true last old new index was is = is ∙ ap (λ n. max n (index + 1)) was
 last_here false last old new index was is = is ∙ was ∙ (let e : last ≡ max last 0 = omega arith in e)

@@ -3,10 +3,5 @@ pub mod KeptLaws
 pub mod TouchLaws
 pub mod FoldLaws
 pub mod EndLaws
-pub mod FoldsInTurn
 pub mod BetweenLaws
-pub mod RunBits
-pub mod FoldRuns
-pub mod LanesInTurn
-pub mod LaneFoldLaws
 pub mod ClearLaws

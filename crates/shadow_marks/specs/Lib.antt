@@ -3,8 +3,5 @@ pub mod Kept
 pub mod Iteration
 pub mod Standing
 pub mod Ending
-pub mod Lanes
 pub mod Runs
-pub mod RunFolds
-pub mod LaneFolds
 pub mod Clearing

@@ -6,7 +6,7 @@ ghost use Rattle.shadow_marks.specs.Iteration.{element_count, IsEmptied};
 ghost use Rattle.shadow_marks.specs.Standing.{words_for, EachPlane, ArePlanes, AreTested, AreLrpdPlanes};
 ghost use Rattle.shadow_marks.specs.Standing.{AreFlowPlanes, StandFor, no_visits};
 ghost use Rattle.shadow_marks.specs.Ending.{KeepsShape};
-ghost use Rattle.shadow_marks.specs.Runs.{ChangesRun};
+ghost use Rattle.shadow_marks.specs.Runs.{SetsRun};
 ghost use Rattle.shadow_marks.specs.Clearing.{ClearsBits, SetsNumbers, OperatorsClear, LrpdClears};
 ghost use Rattle.shadow_marks.specs.Clearing.{FlowClears, TestedClears, ClearsPage};
 
@@ -126,7 +126,7 @@ fn set_numbers(numbers: &mut [u32], page: usize, number: u32)
 fn set_all(numbers: &mut [u32], first: usize, past: usize, number: u32)
     requires rising { first ≤ past }
     requires within { past ≤ length numbers.old }
-    ensures { ChangesRun numbers.old numbers.new first past (λ kept lane. number) }
+    ensures { SetsRun numbers.old numbers.new first past number }
 {
     for e in first..past {
         numbers[e] = number;

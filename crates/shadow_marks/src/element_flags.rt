@@ -24,7 +24,7 @@ pub(crate) enum Flag {
 /// The flags of an iteration at an element, a bit for each: what it did there so far. Each access sets
 /// one at least.
 #[derive(Clone, Copy)]
-pub struct ElementFlags {
+pub(crate) struct ElementFlags {
     bits: u8,
 }
 
@@ -34,7 +34,7 @@ const OPERATORS: u8 = 0b1111_1000;
 impl ElementFlags {
     /// No flag.
     #[inline]
-    pub fn none() -> ElementFlags
+    pub(crate) fn none() -> ElementFlags
         ensures { result ≡ nothing_kept }
     {
         ElementFlags { bits: 0 }
@@ -82,7 +82,7 @@ impl ElementFlags {
 
     /// The flags after one access more.
     #[inline]
-    pub fn after(self, access: Access) -> ElementFlags
+    pub(crate) fn after(self, access: Access) -> ElementFlags
         ensures { flags_in result ≡ flagged (flags_in self) access }
     {
         match access {

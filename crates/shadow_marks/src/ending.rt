@@ -39,7 +39,7 @@ impl Planes {
     /// Merges the flags of one element into its marks. Most iterations touch few elements, so the planes
     /// are looked up here, at each, and not once before the loop.
     #[inline(never)]
-    pub(crate) fn fold(&mut self, e: u32, kept: ElementFlags, index: u32)
+    fn fold(&mut self, e: u32, kept: ElementFlags, index: u32)
         requires whole { ArePlanes self.old }
         requires in_range { e < self.old.elements }
         requires index { index < NO_WRITER }
@@ -116,7 +116,7 @@ impl FlowPlanes {
 
 /// Keeps the lesser of an element's number and another.
 #[inline]
-pub(crate) fn keep_least(numbers: &mut [u32], e: u32, number: u32)
+fn keep_least(numbers: &mut [u32], e: u32, number: u32)
     requires { e < length numbers.old }
     ensures { ChangesNumber numbers.old numbers.new e (min (slice_index numbers.old e) number) }
 {
@@ -127,7 +127,7 @@ pub(crate) fn keep_least(numbers: &mut [u32], e: u32, number: u32)
 
 /// Keeps the greater of an element's number and another.
 #[inline]
-pub(crate) fn keep_greatest(numbers: &mut [u32], e: u32, number: u32)
+fn keep_greatest(numbers: &mut [u32], e: u32, number: u32)
     requires { e < length numbers.old }
     ensures { ChangesNumber numbers.old numbers.new e (max (slice_index numbers.old e) number) }
 {

@@ -14,12 +14,9 @@ mod clearing;
 mod element_flags;
 mod ending;
 pub mod iter_flags;
-mod lanes;
 pub mod planes;
-mod runs;
 
 pub use bits::is_set;
-pub use element_flags::ElementFlags;
 pub use iter_flags::{IterFlags, MAX_MARKS};
 pub use loop_core_model::{Access, Test};
 pub use planes::{FlowPlanes, LrpdPlanes, NO_WRITER, OperatorPlanes, Planes, Tested};

@@ -56,13 +56,14 @@ impl<
 
     fn run_call(
         &mut self,
-        _program: &Verified,
+        program: &Verified,
         call: &LoopCall,
         maps: &mut Maps,
     ) -> Result<u32, AllocError> {
         self.observer.begin_loop();
         let answered = run_one(self.run, call, maps, &mut self.workspace)?;
-        self.observer.end_loop(self.lines.len(), call, &answered);
+        let number = self.lines.len();
+        self.observer.end_loop(program, number, call, &answered);
         self.lines.push(LoopReport {
             slot: call.slot(),
             answer: i64::from(answered.answer),

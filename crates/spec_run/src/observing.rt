@@ -1,6 +1,7 @@
 //! Observers of a run.
 
 use bpf_step::LoopCall;
+use bpf_verify::Verified;
 use spec_run_loop::LoopAnswer;
 
 /// Is notified of a program and its loop calls while they run. Nothing that a run gives depends on it.
@@ -11,8 +12,14 @@ pub trait Observer {
     /// A valid loop call begins.
     fn begin_loop(&mut self);
 
-    /// That loop call is done: it has this number among the program's loop calls, refused ones included.
-    fn end_loop(&mut self, number: usize, call: &LoopCall, answered: &LoopAnswer);
+    /// That loop call of a program is done: it has this number among its loop calls, refused ones included.
+    fn end_loop(
+        &mut self,
+        program: &Verified,
+        number: usize,
+        call: &LoopCall,
+        answered: &LoopAnswer,
+    );
 
     /// The program is done.
     fn end(&mut self);
@@ -27,7 +34,13 @@ impl Observer for Unobserved {
 
     fn begin_loop(&mut self) {}
 
-    fn end_loop(&mut self, _number: usize, _call: &LoopCall, _answered: &LoopAnswer) {}
+    fn end_loop(
+        &mut self,
+        _program: &Verified,
+        _number: usize,
+        _call: &LoopCall,
+        _answered: &LoopAnswer,
+    ) {}
 
     fn end(&mut self) {}
 }

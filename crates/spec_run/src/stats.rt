@@ -2,6 +2,7 @@
 
 use crate::observing::Observer;
 use bpf_step::LoopCall;
+use bpf_verify::Verified;
 use loop_core_model::Verdict;
 use spec_run_loop::{Course, LoopAnswer};
 use std::alloc::Global;
@@ -14,6 +15,8 @@ pub struct LoopStats {
     pub number: usize,
     /// The slot of the call.
     pub slot: u32,
+    /// Whether its callback has a list of row operations, by which iterations in order may go together.
+    pub has_list: bool,
     /// How many iterations were called for.
     pub called_for: u32,
     /// How many ran in order, or would have: fewer where one broke the loop.
@@ -78,11 +81,18 @@ impl<C: Clock> Observer for Stats<'_, C> {
         self.loop_began = self.now();
     }
 
-    fn end_loop(&mut self, number: usize, call: &LoopCall, answered: &LoopAnswer) {
+    fn end_loop(
+        &mut self,
+        program: &Verified,
+        number: usize,
+        call: &LoopCall,
+        answered: &LoopAnswer,
+    ) {
         let time = self.since(self.loop_began);
         let _ = self.loops.push(LoopStats {
             number,
             slot: call.slot(),
+            has_list: program.rows(call.callback()).is_some(),
             called_for: call.n(),
             answer: answered.answer,
             verdict: answered.verdict,

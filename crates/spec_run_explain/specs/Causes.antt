@@ -92,7 +92,8 @@ pub data IsCallExplained (test : Test) (program : Program) (most : ℕ) (wants_g
     (told : LoopExplained) : Type 0 where
   WasRefused : (call : RefusedCall) → made ≡ refused_call made.slot call made.words
       → told.line ≡ record { slot = made.slot; answer = call.answer; verdict = Refused }
-      → told.iterations ≡ call.iterations → told.flags ≡ call.flags → told.broke ≡ None → told.course ≡ None → told.causes.items ≡ [] → told.grid ≡ None
+      → told.iterations ≡ call.iterations → told.flags ≡ call.flags
+      → told.broke ≡ None → told.course ≡ None → told.causes.items ≡ [] → told.grid ≡ None
       → IsCallExplained test program most wants_grid made told
   WasMade : (call filled : LoopCall) (answer : ℕ) → made.call ≡ Some call → made.answer ≡ pos answer
       → IsFilled program call filled → OverApproximatesCall program filled

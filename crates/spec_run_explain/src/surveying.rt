@@ -17,7 +17,7 @@ use std::alloc::{AllocError, Global};
 /// The most stretches of a survey.
 const MOST_STRETCHES: u32 = 512;
 
-/// The fewest iterations of a stretch, but for the last one: fewer don't go in batches.
+/// The fewest iterations of a stretch, but for the last one: each stretch keeps marks of its own.
 const FEWEST: u32 = 256;
 
 /// The stretch of the iterations from an index up to, and not with, another, if the call has them and none of them

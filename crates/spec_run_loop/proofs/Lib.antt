@@ -3,3 +3,4 @@ pub mod EvenLaws
 pub mod PassLaws
 pub mod PayingLaws
 pub mod SumLaws
+pub mod MarkedLaws

@@ -1,6 +1,7 @@
 -- Loops that pass.
-use Rattle.std.proofs.Common.{◌≡◌, ℕ, subst, sym, ◌∙◌, ap}
-use Rattle.array_maps.specs.MapList.{MapList}
+use Rattle.std.proofs.Common.{◌≡◌, ℕ, length, subst, sym, ◌∙◌, ap}
+use Rattle.std.specs.List.{sum}
+use Rattle.array_maps.specs.MapList.{MapList, AreWords}
 use Rattle.bpf_insn_types.specs.Program.{Program}
 use Rattle.bpf_step_model.specs.State.{LoopCall}
 use Rattle.bpf_step_model.specs.Run.{BoundedResult, followed}
@@ -10,6 +11,8 @@ use Rattle.loop_core_model.specs.declared.verdict.Verdict.{Verdict}
 use Rattle.loop_core_model.specs.declared.verdict.Verdict.TheVariants.{Parallel}
 use Rattle.loop_core_model.specs.Report.{verdict}
 use Rattle.loop_core_model.specs.Outcome.{judged_as}
+use Rattle.loop_core_independent.specs.Independent.{AlwaysPasses}
+use Rattle.loop_core_sequential.specs.Loops.{RanLoopInOrder}
 use Rattle.loop_core_sequential.specs.Watched.{RanAndPasses}
 use Rattle.loop_core_gather.specs.Gathered.{IsOutcome}
 use Rattle.spec_run_loop.specs.declared.course.Course.{Course}
@@ -26,3 +29,12 @@ passed_in_order program call start left answer course told told_is is =
           ∙ ap (λ (v : BoundedResult Verdict). judged_as v looped) is.passes;
       sizes = is.ran.kept;
     })
+
+-- one whose iterations never conflict does, on maps of the program's sizes
+pub independent_passes : (program : Program) (call : LoopCall) (start left : MapList) (answer : ℕ)
+    → AlwaysPasses program call → length start.words ≡ sum start.sizes → start.sizes ≡ program.sizes
+    → AreWords start.words → RanLoopInOrder program call start left answer → RanAndPasses program call start left answer
+independent_passes program call start left answer passes count sizes fit ran = record {
+  ran = ran;
+  passes = passes start.words (record { count = count ∙ ap sum sizes; fit = fit });
+}

@@ -1,4 +1,5 @@
--- What pays: by how many workers a loop is run, and over how many blocks. Work and costs are counted in instructions.
+-- What pays: by how many workers a loop is run, and over how many blocks. Work and costs are counted in instructions of
+-- iterations that go together.
 use Rattle.std.specs.Prelude.{ℕ, ◌+◌, ◌*◌, ◌/◌, Bool, false, nat_lt, min, max, if◌then◌else◌}
 use Rattle.loop_core_model.specs.declared.loop_test.Test.{Test}
 use Rattle.loop_core_model.specs.declared.loop_test.Test.TheVariants.{Flow, Lrpd}
@@ -6,13 +7,13 @@ use Rattle.bpf_verify_sound.specs.Soundness.{most_from}
 use Rattle.loop_core_split.specs.declared.plan.Plan.{Plan}
 use Rattle.spec_run_loop.specs.Jobs.{JobOf}
 
--- what an iteration that runs by blocks costs besides its instructions
+-- what an instruction of an iteration costs that runs alone
+abbrev pub alone : ℕ
+alone = 12
+
+-- how many of its own instructions an iteration by blocks costs beside them
 abbrev pub bookkeeping : ℕ
 bookkeeping = 30
-
--- what an iteration on private copies costs besides its instructions, compared with one on the maps
-abbrev pub copying : ℕ
-copying = 60
 
 -- what is worth a thread
 abbrev pub share : ℕ
@@ -26,28 +27,24 @@ least_shares = 4
 abbrev pub visits : ℕ
 visits = 32
 
--- how many workers are taken to be at work at once
-abbrev pub processors : ℕ
-processors = 4
-
 -- for how many elements all blocks together keep marks and copies at most
 abbrev pub most_kept : ℕ
 most_kept = 1048576
 
 -- what so many elements cost each worker and each block
 abbrev pub cost_of_elements : ℕ → ℕ
-cost_of_elements elements = 1000 * elements
+cost_of_elements elements = 400 * elements
 
 -- the most instructions of an iteration: those of the longest path of its callback
 abbrev pub instructions : JobOf → ℕ
 instructions job = most_from job.program job.call.callback
 
--- the most instructions of all iterations in order, and by blocks
+-- the most work of all iterations in order, and by blocks
 abbrev pub work_in_order : JobOf → ℕ
 work_in_order job = job.call.n * instructions job
 
 abbrev pub work_by_blocks : JobOf → ℕ
-work_by_blocks job = work_in_order job + job.call.n * bookkeeping
+work_by_blocks job = alone * (work_in_order job + job.call.n * bookkeeping)
 
 -- how many shares so much work has, where each worker keeps marks and a copy of this many elements
 abbrev pub shares_of : (work elements : ℕ) → ℕ
@@ -78,7 +75,7 @@ worthwhile_blocks work elements most workers =
 
 -- an iteration in order is cheaper than its share on the private copies of so many workers
 abbrev pub are_copies_dear : JobOf → (workers : ℕ) → Bool
-are_copies_dear job workers = nat_lt (instructions job * min workers processors) (instructions job + copying)
+are_copies_dear job workers = nat_lt (instructions job * workers) (alone * (instructions job + bookkeeping))
 
 -- whether a loop is run in order first, and watched: by the flow test alone, where copies are dear
 abbrev pub watches : Test → (dear : Bool) → Bool

@@ -6,6 +6,7 @@ ghost use Rattle.spec_run_loop.specs.Courses.{IsCourseOf, IsWatchedCourse};
 use crate::course::Course;
 use crate::job::LoopJob;
 use crate::paying::elements_of;
+use crate::watching::{never_conflicts, run_independent};
 use crate::way::{BlockPlan, Way, way_of};
 use array_maps::Maps;
 use loop_core_sequential::{WatchedLoop, in_order_watched};
@@ -21,6 +22,9 @@ fn watched_course(job: &LoopJob, otherwise: &BlockPlan, start: &Maps) -> Result<
     let _sizes = start.sizes();
     let _words = start.words();
     let mut maps = start.try_copy(job.alloc)?;
+    if never_conflicts(job)? {
+        return Ok(run_independent(job, &mut maps).course);
+    }
     let mut log = UndoLog::try_new(job.alloc, elements_of(start))?;
     match in_order_watched(job.program, job.call, &mut log, &mut maps) {
         WatchedLoop::Passed(_answer) => Ok(Course::Watched),

@@ -10,6 +10,7 @@ mod error;
 mod foretelling;
 mod job;
 mod looping;
+mod marking;
 mod paying;
 mod summing;
 mod watching;

@@ -9,32 +9,28 @@ use crate::job::LoopJob;
 use array_maps::Maps;
 use bpf_step::LoopCall;
 use loop_core_block::most_instructions;
-use loop_core_event::MAX_WORKERS;
+use loop_core_model::MAX_WORKERS;
 use loop_core_split::Plan;
 
-/// What a speculative iteration costs besides its own instructions, in instructions: its accesses are marked and kept
-/// apart.
+/// How many instructions of iterations that go together take as long as one of an iteration that runs alone, as those of
+/// blocks do: 10 to 30.
+const ALONE: u64 = 12;
+
+/// What an iteration by blocks costs beside its instructions, as many of them: its accesses are marked and kept apart.
 const BOOKKEEPING: u64 = 30;
 
 /// How many instructions are worth a thread: to start it and wait for it takes as long.
 const SHARE: u64 = 2_000_000;
 
-/// What an element costs each worker and each block, in instructions: its marks and its copy are made in memory
+/// What an element costs each worker and each block, as many instructions: its marks and its copy are made in memory
 /// that is new, merged and committed. So a loop of few iterations over many elements is bound by memory.
-const ELEMENT: u64 = 1_000;
+const ELEMENT: u64 = 400;
 
 /// How many iterations an element a share of a loop that adds up has at least, where there are several.
 const VISITS: u32 = 32;
 
 /// A loop of fewer shares is run by the calling thread alone.
 const LEAST_SHARES: u64 = 4;
-
-/// What an iteration on a private copy of the maps costs besides its own instructions, in instructions, compared with
-/// one on the maps themselves.
-const COPYING: u64 = 60;
-
-/// How many workers are taken to be at work at once: a system has as many processors, or more.
-const PROCESSORS: u32 = 4;
 
 /// For how many elements all blocks of a loop together keep marks and copies at most, though each worker has a block:
 /// some 31 bytes for each element that a block touches.
@@ -58,11 +54,11 @@ pub(crate) fn work_in_order(job: &LoopJob) -> u64
     u64::from(job.call.n()) * instructions(job)
 }
 
-/// How many instructions a loop that runs by blocks is to do at most, with its bookkeeping.
+/// How many of them take as long as the loop by blocks, with its bookkeeping.
 pub(crate) fn work_by_blocks(job: &LoopJob) -> u64
     ensures { result ≡ work_by_blocks job.now }
 {
-    work_in_order(job) + u64::from(job.call.n()) * BOOKKEEPING
+    ALONE * (work_in_order(job) + u64::from(job.call.n()) * BOOKKEEPING)
 }
 
 /// What its elements cost each worker and each block of a loop, in instructions.
@@ -97,13 +93,14 @@ pub(crate) fn busy_workers(work: u64, elements: u32, plan: &Plan) -> u32
     plan.workers.min(shared).min(plan.blocks)
 }
 
-/// Whether an iteration in order is cheaper than its share on the private copies of this many workers, 1 to 16.
+/// Whether an iteration in order is cheaper than its share on the private copies of this many workers, 1 to 16, each of
+/// which is taken to have a processor.
 pub(crate) fn are_copies_dear(job: &LoopJob, workers: u32) -> bool
     requires few { workers ≤ 16 }
     ensures { result ≡ are_copies_dear job.now workers }
 {
     let instructions = instructions(job);
-    instructions * u64::from(workers.min(PROCESSORS)) < instructions + COPYING
+    instructions * u64::from(workers) < ALONE * (instructions + BOOKKEEPING)
 }
 
 /// How many of the workers that a loop of n iterations keeps busy, 1 to 16, are worth a share of it where it adds up

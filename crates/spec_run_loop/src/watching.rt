@@ -1,8 +1,10 @@
 //! Loops that are run in order, watched.
 
-ghost use Rattle.std.specs.Prelude.{◌≡◌, IfOk, OnErr};
+ghost use Rattle.std.specs.Prelude.{◌≡◌, true, IfOk, OnErr};
 ghost use Rattle.loop_core_model.specs.declared.loop_test.Test.TheVariants as tests;
 ghost use Rattle.loop_core_gather.specs.Gathered.{IsOutcome};
+ghost use Rattle.loop_core_independent.specs.Independent.{AlwaysPasses};
+ghost use Rattle.spec_run_loop.specs.declared.way.BlockPlan.{BlockPlan};
 ghost use Rattle.spec_run_loop.specs.Courses.{IsWatchedCourse};
 ghost use Rattle.spec_run_loop.specs.Ways.{IsBlockPlan};
 
@@ -10,20 +12,76 @@ use crate::by_blocks::decision_on;
 use crate::course::Course;
 use crate::decision::{LoopAnswer, carry_out_from};
 use crate::job::LoopJob;
+use crate::marking::verdict_by_marks;
 use crate::paying::elements_of;
 use crate::way::BlockPlan;
 use array_maps::Maps;
-use loop_core_gather::CarriedOut;
-use loop_core_sequential::{WatchedLoop, in_order_watched};
+use loop_core_gather::{CarriedOut, Decision};
+use loop_core_independent::is_independent;
+use loop_core_sequential::{WatchedLoop, in_order, in_order_watched};
 use loop_core_split::Gate;
 use spec_run_workers::Workspace;
 use std::alloc::AllocError;
 use std::thread::Threads;
 
-/// Runs a loop call in order on these maps, which are of the program's sizes, and watches it: where no iteration reads
-/// what an earlier one wrote, it passes by the flow test, and is done. Else its verdict is that of blocks, which are
-/// run on the maps as they were, and it continues in order from the iteration that did.
+/// The fewest iterations of a loop of which it is asked whether they never conflict: to ask takes as long as some hundred
+/// of them.
+const FEWEST_ASKED: u32 = 2048;
+
+/// Whether it is known that the iterations of a loop call never conflict, so that it passes by the flow test.
+pub(crate) fn never_conflicts(job: &LoopJob) -> Result<bool, AllocError>
+    ensures { IfOk result (λ found. found ≡ true → AlwaysPasses job.now.program job.now.call) }
+{
+    if job.call.n() < FEWEST_ASKED {
+        return Ok(false);
+    }
+    is_independent(job.alloc, job.program, job.call)
+}
+
+/// Runs a loop call in order on these maps, which are of the program's sizes. It is watched, unless its iterations never
+/// conflict.
 pub(crate) fn run_watched<R: Threads + Sync, G: Gate>(
+    rt: &R,
+    job: &LoopJob,
+    otherwise: &BlockPlan,
+    maps: &mut Maps,
+    workspace: &mut Workspace,
+    gate: &G,
+) -> Result<LoopAnswer, AllocError>
+    requires sizes { maps.old.sizes ≡ job.now.program.sizes }
+    requires flow { job.now.plan.test ≡ tests.Flow }
+    requires plan { IsBlockPlan job.now.call.n otherwise.now }
+    ensures outcome { IfOk result (λ a. IsOutcome job.now.plan.test job.now.program job.now.call maps.old a.verdict
+        a.answer maps.new) }
+    ensures course { IfOk result (λ a. IsWatchedCourse job.now maps.old.words otherwise.now a.course) }
+    ensures kept { OnErr result (maps.new ≡ maps.old) }
+{
+    if never_conflicts(job)? {
+        return Ok(run_independent(job, maps));
+    }
+    watch(rt, job, otherwise, maps, workspace, gate)
+}
+
+/// Runs a loop call in order on these maps, which are of the program's sizes: its iterations never conflict, and it
+/// passes by the flow test.
+pub(crate) fn run_independent(job: &LoopJob, maps: &mut Maps) -> LoopAnswer
+    requires sizes { maps.old.sizes ≡ job.now.program.sizes }
+    requires passes { AlwaysPasses job.now.program job.now.call }
+    ensures outcome { IsOutcome tests.Flow job.now.program job.now.call maps.old result.verdict result.answer
+        maps.new }
+    ensures course { (otherwise : BlockPlan) → IsWatchedCourse job.now maps.old.words otherwise result.course }
+{
+    // These tell the proof how many words the maps have, and that they are below 2^64.
+    let _sizes = maps.sizes();
+    let _words = maps.words();
+    let answer = in_order(job.program, job.call, maps);
+    LoopAnswer::passed(answer, Course::Watched)
+}
+
+/// Runs a loop call in order on these maps, which are of the program's sizes, and watches it: where no iteration reads
+/// what an earlier one wrote, it passes by the flow test, and is done. Else its verdict is that of the marks of its
+/// iterations on the maps as they were, in batches or in blocks, and it continues in order from the iteration that did.
+fn watch<R: Threads + Sync, G: Gate>(
     rt: &R,
     job: &LoopJob,
     otherwise: &BlockPlan,
@@ -50,7 +108,10 @@ pub(crate) fn run_watched<R: Threads + Sync, G: Gate>(
         }
         WatchedLoop::Dependent(progress) => progress,
     };
-    let decision = decision_on(rt, job, otherwise, maps, workspace, gate)?;
+    let decision = match verdict_by_marks(job, maps)? {
+        Some(verdict) => Decision::Discard { verdict },
+        None => decision_on(rt, job, otherwise, maps, workspace, gate)?,
+    };
     let CarriedOut { verdict, answer } = carry_out_from(decision, job, progress, &mut log, maps);
     workspace.keep_log(log);
     Ok(LoopAnswer {

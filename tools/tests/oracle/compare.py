@@ -29,13 +29,15 @@ class Outcome(enum.Enum):
 
 @dataclass(frozen=True)
 class Judged:
-    """The outcome of one build of a program, its reasons, and the verdicts of its loops."""
+    """The outcome of one build of a program, its reasons, the verdicts of its loops, and by the slots of loop calls
+    whether the callback has a list of row operations."""
 
     name: str
     build: str
     outcome: Outcome
     reasons: tuple[str, ...] = ()
     verdicts: tuple[str, ...] = ()
+    lists: tuple[tuple[int, bool], ...] = ()
 
     def __str__(self) -> str:
         return f"{self.outcome.value}: {self.name} {self.build}: {'; '.join(self.reasons)}"
@@ -51,6 +53,7 @@ def judge(name: str, build: str, data: bytes, main: str, natives: dict[int, Resu
         return Judged(name, build, Outcome.DIFFERS, (f"the loader fails: {type(fault).__name__}: {fault}",))
     reasons: list[str] = []
     verdicts: tuple[str, ...] = ()
+    lists: dict[int, bool] = {}
     reasons += [f"{name} isn't among the variables" for name in missing_names(data, loaded)]
     hidden = address_bytes(data)
     text = text_of(loaded.unit, loaded.initial)
@@ -61,12 +64,13 @@ def judge(name: str, build: str, data: bytes, main: str, natives: dict[int, Resu
             except UnitRefused as reason:
                 return Judged(name, build, Outcome.REFUSED, (f"{words[0]}: {reason}",))
             verdicts = verdicts or (result.verdicts if words is RUN else ())
+            lists |= result.lists
             try:
                 found = [*differences(loaded, result, native, hidden)][:SHOWN]
             except Exception as fault:
                 found = [f"the loader's table fails: {type(fault).__name__}: {fault}"]
             reasons += [f"{words[0]} --arg {argument}: {difference}" for difference in found]
-    return Judged(name, build, outcome_of(reasons), tuple(reasons[:SHOWN]), verdicts)
+    return Judged(name, build, outcome_of(reasons), tuple(reasons[:SHOWN]), verdicts, tuple(lists.items()))
 
 
 def outcome_of(reasons: list[str]) -> Outcome:

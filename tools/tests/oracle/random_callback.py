@@ -5,13 +5,13 @@ from __future__ import annotations
 import random
 from collections.abc import Callable
 
-ITERATIONS = 4_096  # of a loop, at most
-# Maps: what is loaded, an element and a half of one for each iteration, and what is reduced; and the elements of each.
+NUMBERS = 2_048  # below which are the numbers that an index is compared with
+# Maps: what is loaded, elements and halves of iterations' own, and what is reduced; and the elements of each.
 DATA, OWN, OWN_HALVES, COUNTS, HALVES = range(5)
-SIZES = {DATA: 64, OWN: ITERATIONS, OWN_HALVES: ITERATIONS // 2, COUNTS: 64, HALVES: 64}
+SIZES = {DATA: 64, OWN: 1_024, OWN_HALVES: 512, COUNTS: 64, HALVES: 64}
 FRAME_WORDS = 4  # of 8 bytes, that a callback uses of its own frame, and of main's from byte 8 of ctx on
-INDEX, CTX, ADDRESS = 6, 7, 8  # the registers of these
-VALUES = 0, 1, 2, 3, 4, 5, 9  # the registers of numbers that change
+INDEX, CTX, ADDRESS, SUM = 6, 7, 8, 9  # the registers of these; the sum is of any numbers, and is stored at the end
+VALUES = 0, 1, 2, 3, 4, 5  # the registers of numbers that change
 LEFT_BY_HELPERS = 1, 2, 3, 4, 5  # those that are unwritten after a call
 
 WIDTHS = 32, 64
@@ -24,52 +24,66 @@ LOADS = "ldx8 ldx16 ldx32 ldx64 ldxs8 ldxs16 ldxs32".split()
 REDUCES = "add", "or", "and", "xor"
 FETCHES = *(f"{operator}_fetch" for operator in REDUCES), "xchg", "cmpxchg"
 FAR = 1, 31, 32, 33, 64, 127, 128, 129, 1000  # how many iterations away another's element is
+# How many iterations after a store the element is loaded: from the least to the greatest, and how often so.
+DISTANCES = {(1, 20): 3, (21, 63): 2, (64, 127): 3, (128, 255): 3, (256, 700): 1}
 DEEPEST = 3  # ifs in ifs
 
 
 class RandomCallback:
     """The lines of a random callback, whose first lines put the index and ctx into their registers."""
 
-    def __init__(self, rng: random.Random) -> None:
+    def __init__(self, rng: random.Random, name: str = "") -> None:
         self.lines: list[str] = []
         self._random = rng
+        self._name = name  # with which its labels begin
         self._labels = 0
         self._depth = 0
-        self._usual = {number: rng.choice(REDUCES) for number in (OWN_HALVES, COUNTS, HALVES)}
-        self._wild = rng.choice((0, 0, 0, 0.1, 0.4))  # how many accesses are of any kind, at any element
+        self._usual = {number: rng.choice(("add", "add", *REDUCES)) for number in (OWN_HALVES, COUNTS, HALVES)}
+        self._wild = rng.choice((0, 0, 0, 0, 0.1, 0.4))  # how many accesses are of any kind, at any element
         self._maps = [COUNTS] if rng.random() < 0.15 else [*SIZES]
-        self._turned = rng.choice((0, 0, 0, 1, 127, ITERATIONS - 1))  # how elements of their own are turned round
+        self._turned = rng.choice((0, 0, 0, 0, 1, 127, SIZES[OWN] - 1))  # how elements of their own are turned round
+        self._times = rng.choice((1, 1, 1, 1, 3, 40_503))  # and by what their numbers are multiplied
+        self._strides = {OWN: rng.choice((8, 8, 8, 16, 24)), OWN_HALVES: rng.choice((4, 4, 4, 8, 12, 16))}
+        self._fields = {
+            number: rng.randrange(0, stride, 8 if number == OWN else 4) for number, stride in self._strides.items()
+        }
+        self._own = rng.choice((4_096, 4_096, 4_096, 256, 128, 64, 32))  # how many elements of their own, at most
+        least, greatest = rng.choices([*DISTANCES], [*DISTANCES.values()])[0]
+        self._distance = rng.randint(least, greatest) if rng.random() < 0.35 else 0  # 0: no iteration loads another's
         self._ends = rng.choice((0, 0, 0.1))  # how many pieces end the iteration
         self._breaks = rng.random() < 0.2
         others = [piece for piece in (self._own_frame, self._main_frame, self._lookup) if rng.random() < 0.3]
         usual: list[Callable[[], None]] = [self._arithmetic] * 3 + [self._access] * 4 + [self._branch] * 3
-        self._pieces = usual + others
+        self._pieces = usual + others + [self._carry] * (2 if self._distance else 0)
         self._write()
 
     def _write(self) -> None:
         """All lines."""
-        self._set_values(VALUES, f"r{INDEX}")
+        self._add(f"mov64 r{SUM}, r{INDEX}", f"mul64 r{SUM}, {self._random.randint(1, 1 << 30)}")
+        self._set_values(VALUES, f"r{INDEX}", f"r{SUM}")
         if self._own_frame in self._pieces or self._lookup in self._pieces:
             self._add(*(f"stx64 [r10-{8 * word + 8}], r{self._source()}" for word in range(FRAME_WORDS)))
+        if self._distance:
+            self._carry()
         for _ in range(self._random.randint(1, 5)):
             self._piece()
         if OWN in self._maps:
-            self._own_element(OWN, 8)
-            self._add(f"stx64 [r{ADDRESS}+0], r{self._value()}")
+            self._add(f"stx64 [r{ADDRESS}+{self._own_element(OWN)}], r{SUM}")
         else:
-            self._access()
+            byte, operator = 8 * self._random.randrange(SIZES[COUNTS]), self._usual[COUNTS]
+            self._add(f"ldmapval r{ADDRESS}, {COUNTS}, {byte}", f"atomic64 {operator} [r{ADDRESS}+0], r{SUM}")
         self._add("mov64 r0, 0")
         if self._breaks:
-            self._seldom("end")
+            self._seldom(f"{self._name}end")
             self._add("mov64 r0, 1")
-        self._add("end:", "exit")
+        self._add(f"{self._name}end:", "exit")
 
     def _add(self, *lines: str) -> None:
         self.lines += lines
 
     def _label(self) -> str:
         self._labels += 1
-        return f"at_{self._labels}"
+        return f"{self._name}at_{self._labels}"
 
     def _value(self) -> int:
         """A register of a number that may be changed."""
@@ -77,7 +91,7 @@ class RandomCallback:
 
     def _source(self) -> int:
         """A register of a number, often the index."""
-        return self._random.choice((INDEX, INDEX, INDEX, *VALUES))
+        return self._random.choice((INDEX, INDEX, SUM, *VALUES))
 
     def _number(self) -> int:
         """An immediate."""
@@ -108,9 +122,9 @@ class RandomCallback:
         rng, dst = self._random, self._value()
         how, width = rng.random(), rng.choice(WIDTHS)
         if how < 0.1:
-            self._add(f"{rng.choice(UNARY)} r{dst}")
+            self._add(f"{rng.choice(UNARY)} r{dst}", f"add64 r{SUM}, r{dst}")
         elif how < 0.2:
-            self._add(f"{rng.choice(EXTENDING)} r{dst}, r{self._source()}")
+            self._add(f"{rng.choice(EXTENDING)} r{dst}, r{self._source()}", f"xor64 r{SUM}, r{dst}")
         elif how < 0.25:
             self._add(f"lddw r{dst}, {rng.getrandbits(64)}")
         else:
@@ -123,22 +137,25 @@ class RandomCallback:
         rng, tested = self._random, self._value()
         how, jump = rng.random(), f"{rng.choice(JUMPS)}{rng.choice(WIDTHS)}"
         if how < 0.4:
-            self._add(f"mov64 r{tested}, r{self._source()}", f"and64 r{tested}, {rng.choice((1, 3, 7, 255))}")
-            self._add(f"{jump} r{tested}, {rng.randint(0, 7)}, {target}")
+            mask = rng.choice((1, 3, 7, 255))
+            self._add(f"mov64 r{tested}, r{rng.choice((INDEX, SUM))}", f"and64 r{tested}, {mask}")
+            self._add(f"{jump} r{tested}, {rng.randint(1, min(mask, 6))}, {target}")
         elif how < 0.6:
-            self._add(f"{jump} r{INDEX}, {rng.randrange(ITERATIONS)}, {target}")
-        elif how < 0.8:
+            self._add(f"{jump} r{INDEX}, {rng.randrange(1, NUMBERS)}, {target}")
+        elif how < 0.65:  # the verifier may know which way it goes: then the callback has no list
             self._add(f"{jump} r{self._source()}, {self._number()}, {target}")
         else:
-            self._add(f"{jump} r{self._source()}, r{self._source()}, {target}")
+            self._add(f"mov64 r{tested}, r{self._source()}", f"add64 r{tested}, r{SUM}")
+            self._add(f"{jump} r{tested}, {rng.choice((f'r{self._source()}', self._number()))}, {target}")
 
     def _seldom(self, target: str) -> None:
         """Jumps to a target, mostly in nearly all iterations. R0 is kept."""
         rng, tested = self._random, self._random.choice(VALUES[1:])
         if rng.random() < 0.5:
-            self._add(f"{rng.choice(('jne64', 'jlt64'))} r{INDEX}, {rng.randrange(ITERATIONS)}, {target}")
+            self._add(f"{rng.choice(('jne64', 'jlt64'))} r{INDEX}, {rng.randrange(NUMBERS)}, {target}")
         else:
-            self._add(f"mov64 r{tested}, r{self._source()}", f"and64 r{tested}, {rng.choice((255, 1023, 4095))}")
+            mask = rng.choice((255, 1023, 4095))
+            self._add(f"mov64 r{tested}, r{rng.choice((INDEX, SUM))}", f"and64 r{tested}, {mask}")
             self._add(f"jne64 r{tested}, {rng.randrange(256)}, {target}")
 
     def _branch(self) -> None:
@@ -170,7 +187,7 @@ class RandomCallback:
             self._seldom(past)
         else:
             self._condition(past)
-        self._add(f"mov64 r0, {int(breaks)}", self._random.choice(("exit", "ja end")), f"{past}:")
+        self._add(f"mov64 r0, {int(breaks)}", self._random.choice(("exit", f"ja {self._name}end")), f"{past}:")
 
     def _access(self) -> None:
         """One access of a map, or some at one address: mostly such that iterations commute."""
@@ -181,35 +198,51 @@ class RandomCallback:
             return
         number = rng.choice(self._maps)
         if number in (OWN, OWN_HALVES):
-            width = 64 if number == OWN else 32
-            self._own_element(number, width // 8)
-            self._own_accesses(width)
+            self._own_accesses(64 if number == OWN else 32, self._own_element(number))
             return
         width = rng.choice(WIDTHS) if number == DATA else 32 if number == HALVES else 64
         offset = self._any_element(number, width)
         self._usual_access(number, width, offset)
 
-    def _own_element(self, number: int, stride: int) -> None:
-        """The address of an element, or of a half, that no other iteration has; or where accesses are wild, others too."""
-        rng, scratch = self._random, self._value()
+    def _carry(self) -> None:
+        """A load of what an earlier iteration stored, or a store of what a later one loads."""
+        rng, number = self._random, self._random.choice(self._maps)
+        if number not in (OWN, OWN_HALVES):
+            number = OWN
+        width = 64 if number == OWN else 32
+        if rng.random() < 0.8:
+            self._load(width, f"[r{ADDRESS}+{self._own_element(number, -self._distance)}]")
+        else:
+            self._access_at(width, f"[r{ADDRESS}+{self._own_element(number, self._distance)}]")
+
+    def _own_element(self, number: int, distance: int = 0) -> int:
+        """The address of an element, or of a half, that no other iteration near has; or where accesses are wild, others
+        too; or that of the iteration at a distance. Gives the offset of what is accessed there."""
+        rng, scratch, stride = self._random, self._value(), self._strides[number]
+        elements = 1 << (8 * SIZES[number] // stride).bit_length() - 1
         self._add(f"mov64 r{scratch}, r{INDEX}")
         if rng.random() < self._wild:
-            self._add(f"add64 r{scratch}, {rng.choice((-1, 1)) * rng.choice(FAR)}")
+            distance += rng.choice((-1, 1)) * rng.choice(FAR)
+        if distance:
+            self._add(f"add64 r{scratch}, {distance}")
+        if self._times > 1:
+            self._add(f"mul64 r{scratch}, {self._times}")
         if self._turned:
             self._add(f"xor64 r{scratch}, {self._turned}")
-        self._address(number, scratch, ITERATIONS - 1, stride)
+        self._address(number, scratch, min(elements, self._own) - 1, stride)
+        return self._fields[number]
 
-    def _own_accesses(self, width: int) -> None:
+    def _own_accesses(self, width: int, offset: int) -> None:
         """What an iteration does at an element of its own, or a half: a load and then a store, or anything."""
-        rng = self._random
+        rng, address = self._random, f"[r{ADDRESS}+{offset}]"
         if rng.random() < 0.5:
-            self._load(width, f"[r{ADDRESS}+0]")
+            self._load(width, address)
             self._arithmetic()
-            self._add(f"stx{width} [r{ADDRESS}+0], r{self._source()}")
+            self._add(f"stx{width} {address}, r{self._source()}")
         else:
             for _ in range(rng.choice((1, 1, 2, 3))):
                 if width == 32:
-                    self._access_at(width, f"[r{ADDRESS}+0]")
+                    self._access_at(width, address)
                 else:
                     self._any_access()
 
@@ -266,7 +299,10 @@ class RandomCallback:
     def _load(self, width: int, address: str) -> None:
         """A load from a map, sometimes one that extends the sign."""
         name = "ldxs32" if width == 32 and self._random.random() < 0.3 else f"ldx{width}"
-        self._add(f"{name} r{self._value()}, {address}")
+        loaded = self._value()
+        self._add(f"{name} r{loaded}, {address}")
+        if self._random.random() < 0.5:
+            self._add(f"add64 r{SUM}, r{loaded}")
 
     def _atomic(self, width: int, address: str) -> None:
         """Any atomic operation: one with a fetch changes the register of its operand."""
@@ -303,7 +339,7 @@ class RandomCallback:
         if rng.random() < 0.8:
             self._add(f"and64 r{key}, {SIZES[number] * rng.choice((1, 1, 2)) - 1}")
         self._add(f"stx32 [r10-{at}], r{key}", f"ldmap r1, {number}", "mov64 r2, r10", f"add64 r2, -{at}", "call 1")
-        self._set_values(LEFT_BY_HELPERS, f"r{INDEX}", "r9")
+        self._set_values(LEFT_BY_HELPERS, f"r{INDEX}", f"r{SUM}")
         self._add(f"jeq64 r0, 0, {null}", f"mov64 r{ADDRESS}, r0", "mov64 r0, 0")
         if number == OWN or rng.random() < self._wild:
             self._any_access()

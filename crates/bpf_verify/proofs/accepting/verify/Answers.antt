@@ -1,12 +1,14 @@
-use Rattle.std.proofs.Common.{◌≡◌, ℕ, ◌∷◌, List, Option, map, length, refl, ap, sym, ◌∙◌, subst, arith}
+use Rattle.std.proofs.Common.{◌≡◌, ℕ, ◌∷◌, All, List, Option, map, length, refl, ap, sym, ◌∙◌, subst, arith}
 use Rattle.bpf_insn_types.specs.declared.insn.Insn.{Insn}
 use Rattle.bpf_insn_types.specs.Values.{AreInsns}
 use Rattle.bpf_insn_types.specs.Limits.{AreSizes}
 use Rattle.bpf_insn_types.specs.Program.{Program, slot_count, callback_starts}
 use Rattle.bpf_verify_model.specs.Accepted.{BrokenRule, fault_within}
 use Rattle.bpf_verify_model.specs.Count.{longest}
+use Rattle.bpf_step_ir.specs.declared.plain_op.PlainOp.{PlainOp}
 use Rattle.bpf_step_ir.specs.Translation.{AreOps}
 use Rattle.bpf_verify.specs.Passing.{IsFault}
+use Rattle.bpf_verify.specs.Rows.{AreRows}
 use Rattle.bpf_verify_model.specs.Count.{JumpsForward}
 use Rattle.bpf_verify.proofs.StartLaws.{starts-few}
 use Rattle.bpf_verify_model.proofs.JumpLaws.{jumps_forward, first_fault-within, program-is, sizes-fit}
@@ -56,6 +58,8 @@ invariant_of-result c =
           ∙ ap (λ (p : Program). p.insns) c.unit.view_is))
           c.in-Ok.ensures.ops;
       fast_are = c.in_ok-fast.ensures.ok;
+      rows_are = subst (λ (ops : List PlainOp). All (AreRows ops) c.in_ok-rows.rows.items) c.deref-5.ensures.value
+          c.in_ok-rows.ensures.ok;
       few = omega (
         arith,
         ap length starts,
@@ -83,6 +87,19 @@ pass-requires-clause-sizes c =
 pub fused-requires : goal.fused-requires
 fused-requires c = omega (
   arith,
+  c.in-Ok.ensures.ops.count,
+  ap (λ (p : Program). slot_count p.insns)
+      (program-is c.args.unit c.as_slice.result.now c.as_slice-2.result.now (c.as_slice.ensures.value
+      ∙ ap (λ (p : Program). p.sizes) c.unit.view_is) (c.as_slice-2.ensures.value
+      ∙ ap (λ (p : Program). p.insns) c.unit.view_is)),
+  c.in_ok-count.ensures.ok.counted,
+  c.in_ok-count.ensures.ok.few,
+)
+
+pub rows_of-requires : goal.rows_of-requires
+rows_of-requires c = omega (
+  arith,
+  ap length c.deref-5.ensures.value,
   c.in-Ok.ensures.ops.count,
   ap (λ (p : Program). slot_count p.insns)
       (program-is c.args.unit c.as_slice.result.now c.as_slice-2.result.now (c.as_slice.ensures.value

@@ -19,6 +19,21 @@ returns-then-n-lt-FEWEST c =
     (c.one_by_one_watched-watch.ensures.ran c.args.maps.now
     (begins c.new-run.result.program.now c.new-run.result.call.now c.args.maps.now c.args.log.now c.requires.empty))))
 
+pub returns-in_default : goal.returns-in_default
+returns-in_default c =
+    subst (WatchedToEnd c.args.program.now c.args.call.now c.args.maps.now
+    c.one_by_one_watched-watch-in_default.new.maps
+    c.one_by_one_watched-watch-in_default.new.log) (sym c.ended-in_default.ensures)
+    (ended_of c.new-run.result c.args.program.now c.args.call.now c.new-run.ensures.program c.new-run.ensures.call
+    c.args.maps.now c.one_by_one_watched-watch-in_default.new.maps c.one_by_one_watched-watch-in_default.new.log
+    (loop_by c.one_by_one_watched-watch-in_default.result c.n-n.result)
+    (to_end c.new-run.result.program.now c.new-run.result.call.now c.n-n.result c.args.maps.now
+    c.one_by_one_watched-watch-in_default.new.maps c.one_by_one_watched-watch-in_default.new.log
+    c.one_by_one_watched-watch-in_default.result
+    (c.n-n.ensures ∙ ap (λ (call : LoopCall). call.n) (sym c.new-run.ensures.call))
+    (c.one_by_one_watched-watch-in_default.ensures.ran c.args.maps.now
+    (begins c.new-run.result.program.now c.new-run.result.call.now c.args.maps.now c.args.log.now c.requires.empty))))
+
 pub returns-in-Broke : goal.returns-in-Broke
 returns-in-Broke c =
     ended_of c.new-run.result c.args.program.now c.args.call.now c.new-run.ensures.program c.new-run.ensures.call

@@ -1,20 +1,9 @@
 use Rattle.std.proofs.Common.{◌∙◌, arith}
 use Rattle.loop_core_sequential.specs.declared.watching.Watch.TheVariants.{Completed, Broke, Dependent}
-use Rattle.loop_core_sequential.proofs.RunLaws.{goes_by, rest_watched_by}
+use Rattle.loop_core_sequential.proofs.RunLaws.{rest_watched_by}
+use Rattle.loop_core_sequential.proofs.Pacing.{smaller}
 use Rattle.loop_core_sequential.proofs.WatchedEnds.{went_all}
 use Rattle.loop_core_sequential.proofs.watched_loop.watch_in_batches.Goals as goal
-
-pub loop-index-preserved-then-index-next : goal.loop-index-preserved-then-index-next
-loop-index-preserved-then-index-next c = record {
-  same = c.loop-index.invariant.same;
-  within = c.run_batch_watched-next.ensures.within;
-  sizes = c.run_batch_watched-next.ensures.sizes ∙ c.loop-index.invariant.sizes;
-  count = c.run_batch_watched-next.ensures.count;
-  goes = λ start before. goes_by c.loop-index.run c.args.run.now c.loop-index.invariant.same c.loop-index.index
-      c.run_batch_watched-next.result
-      c.loop-index.maps c.run_batch_watched-next.new.maps c.loop-index.log c.run_batch_watched-next.new.log
-      c.run_batch_watched-next.ensures.goes start (c.loop-index.invariant.goes start before);
-}
 
 pub loop-index-preserved : goal.loop-index-preserved
 loop-index-preserved c = record {
@@ -24,18 +13,23 @@ loop-index-preserved c = record {
   count = c.one_by_one_watched.ensures.count;
   goes = λ start before. rest_watched_by c.loop-index.run c.args.run.now c.loop-index.invariant.same c.loop-index.index
       c.run_batch_watched-next.result c.resume-resume.result
-      (omega (arith, c.if-index-next.false, c.run_batch_watched-next.ensures.on))
       c.loop-index.maps c.run_batch_watched-next.new.maps c.one_by_one_watched.new.maps c.loop-index.log
       c.run_batch_watched-next.new.log
       c.one_by_one_watched.new.log Completed c.run_batch_watched-next.ensures.goes c.in-Completed.ensures.ran start
       (c.loop-index.invariant.goes start before);
 }
 
+pub loop-index-smaller : goal.loop-index-smaller
+loop-index-smaller c =
+    smaller c.loop-index.index c.run_batch_watched-next.result c.resume-resume.result c.n-n.result
+    c.run_batch_watched-next.new.self.alone
+    c.loop-index-test.true c.run_batch_watched-next.ensures.on c.run_batch_watched-next.ensures.alone
+    c.resume-resume.ensures.on c.resume-resume.ensures.within c.resume-resume.ensures.alone
+
 pub returns-in-Broke : goal.returns-in-Broke
 returns-in-Broke c = λ start before.
     rest_watched_by c.loop-index.run c.args.run.now c.loop-index.invariant.same c.loop-index.index
     c.run_batch_watched-next.result c.resume-resume.result
-    (omega (arith, c.if-index-next.false, c.run_batch_watched-next.ensures.on))
     c.loop-index.maps c.run_batch_watched-next.new.maps c.one_by_one_watched.new.maps c.loop-index.log
     c.run_batch_watched-next.new.log
     c.one_by_one_watched.new.log (Broke c.in-Broke.answer) c.run_batch_watched-next.ensures.goes c.in-Broke.ensures.ran
@@ -45,7 +39,6 @@ pub returns-in-Dependent : goal.returns-in-Dependent
 returns-in-Dependent c = λ start before.
     rest_watched_by c.loop-index.run c.args.run.now c.loop-index.invariant.same c.loop-index.index
     c.run_batch_watched-next.result c.resume-resume.result
-    (omega (arith, c.if-index-next.false, c.run_batch_watched-next.ensures.on))
     c.loop-index.maps c.run_batch_watched-next.new.maps c.one_by_one_watched.new.maps c.loop-index.log
     c.run_batch_watched-next.new.log
     c.one_by_one_watched.new.log (Dependent c.in-Dependent.progress) c.run_batch_watched-next.ensures.goes

@@ -1,7 +1,7 @@
 use Rattle.std.proofs.Common.{◌≡◌, ◌<◌, ℕ, List, length, refl, sym, subst, ◌∙◌, arith}
 use Rattle.bpf_verify_sound.specs.Soundness.{IsSoundProgram}
 use Rattle.bpf_step_ir.specs.PlainRun.{op_of}
-use Rattle.bpf_step_registers.proofs.OpReads.{is_op}
+use Rattle.bpf_step_plain.proofs.OpReads.{is_op}
 use Rattle.bpf_step.proofs.Callbacks.{begins}
 use Rattle.bpf_step.proofs.Limits.{few_slots}
 use Rattle.loop_core_trace.specs.Journals.{Undoes}

@@ -1,4 +1,4 @@
-use Rattle.bpf_step_registers.specs.Machine.{plain}
+use Rattle.bpf_step_plain.specs.Machine.{plain}
 use Rattle.loop_core_trace.proofs.Underway.{Underway}
 use Rattle.loop_core_trace.proofs.following.follow.Given as goal
 

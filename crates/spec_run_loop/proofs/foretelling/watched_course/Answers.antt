@@ -1,8 +1,8 @@
-use Rattle.std.proofs.Common.{refl, ap, subst}
+use Rattle.std.proofs.Common.{ℕ, List, refl, ap, subst}
 use Rattle.array_maps.specs.MapList.{MapList}
 use Rattle.loop_core_sequential.specs.Watched.{RanAndPasses, ReachesWritten}
 use Rattle.spec_run_loop.specs.Jobs.{JobOf}
-use Rattle.spec_run_loop.specs.Courses.{ToTheEnd, GivenUp}
+use Rattle.spec_run_loop.specs.Courses.{IsWatchedCourse, ToTheEnd, GivenUp}
 use Rattle.spec_run_loop.proofs.foretelling.watched_course.Goals as goal
 
 pub returns-in-Passed : goal.returns-in-Passed
@@ -19,3 +19,9 @@ returns c =
     GivenUp maps (ap (λ (m : MapList). m.words) c.in_ok-maps.ensures)
     (subst (λ (job : JobOf). ReachesWritten job.program job.call maps) c.job.view_is c.in-Dependent.ensures.1.reaches)
     c.course.ensures
+
+pub returns-then-branch : goal.returns-then-branch
+returns-then-branch c =
+    subst (λ (words : List ℕ). IsWatchedCourse c.args.job.now words c.args.otherwise.now
+    c.run_independent.result.course) (ap (λ (m : MapList). m.words) c.in_ok-maps.ensures)
+    (c.run_independent.ensures.course c.args.otherwise.now)

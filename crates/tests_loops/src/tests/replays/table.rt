@@ -1,7 +1,6 @@
 //! The table of events, read plainly: when an event of a worker is enabled, and what it does.
 
-use loop_core_event::{Event, EventKind};
-use loop_core_model::ReplayFault;
+use loop_core_model::{Event, EventKind, ReplayFault};
 
 /// What a worker does.
 #[derive(Clone, Copy)]

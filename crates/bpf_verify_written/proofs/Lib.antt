@@ -1,4 +1,0 @@
-pub mod MarkLaws
-pub mod MeetLaws
-pub mod WordMeetLaws
-pub mod WriteLaws

@@ -1,0 +1,11 @@
+pub mod BlendLaws
+pub mod StampSteps
+pub mod HalfLaws
+pub mod StampLaws
+pub mod RankLaws
+pub mod KnownSteps
+pub mod LinkLaws
+pub mod MarkSteps
+pub mod MarkLaws
+pub mod KeepLaws
+pub mod ApplyLaws

@@ -1,0 +1,238 @@
+-- Marks of accesses: what they say of lanes that go together.
+use Rattle.std.proofs.Common.{◌≡◌, ℕ, ◌+◌, ◌*◌, ◌<◌, ◌≤◌, inl, inr, List, length, slice_index, slice_index_or}
+use Rattle.std.proofs.Common.{refl, sym, ◌∙◌, ap, subst, arith}
+use Rattle.std.specs.Prelude.{Bool, true, false, if◌then◌else◌}
+use Rattle.std.specs.List.{AllPairs}
+use Rattle.std.proofs.lemmas.Bool.{cases_eq, cases_lt}
+use Rattle.std.proofs.lemmas.List.{get_or_default}
+use Rattle.lane_rows.specs.declared.mask.Mask.{Mask}
+use Rattle.lane_rows.specs.declared.places.Places.{Places}
+use Rattle.lane_stamps.specs.declared.kind.Kind.{Kind}
+use Rattle.lane_stamps.specs.declared.kind.Kind.TheVariants.{Load, LoadHalf, Store, Fetch, Replace, FetchHalf}
+use Rattle.lane_stamps.specs.declared.kind.Kind.TheVariants.{AddHalf, Apply}
+use Rattle.lane_stamps.specs.declared.site.Site.{Site}
+use Rattle.lane_stamps.specs.Sites.{LaneRows, Covers, Touches, is_of_halves, leaves, loads, place_of}
+use Rattle.lane_stamps.specs.Stamps.{AreRanked, AreStale, IsBefore, Meets, WatchedOwn, WatchedUnmet}
+use Rattle.lane_stamps.specs.Stamps.{allowed, slot_of, stamp_at}
+use Rattle.lane_stamps.specs.Marks.{AreLoaded, AreMarks, EachBelow, IsLoadedBy, IsMark, IsMarkAt, IsSlotAt}
+use Rattle.lane_stamps.specs.Marks.{LeaveMarks, LoadNoGreater, LoadsGreater, LoadsGreaterAt, MarksAt}
+use Rattle.lane_stamps.specs.Marks.{MarksOne, MarksOnly, half_for, mark_at, top_at}
+use Rattle.lane_stamps.proofs.MarkSteps.{before_mark, mark_above, mark_before}
+
+-- one lane further
+pub marks_more : (halves : Bool) (mask : Mask) (places : Places) (lane top sites mark : ℕ) (first old new : List ℕ)
+    → length old ≡ length first → mark ≡ mark_at top sites lane → MarksOne old new halves mask places lane mark
+    → MarksOnly first old halves mask places lane top sites → MarksOnly first new halves mask places (lane + 1) top sites
+marks_more halves mask places lane top sites mark first old new long is one only slot = elim (one slot) [
+  | inl same ↦ elim (only slot) [
+    | inl was ↦ inl (same ∙ was)
+    | inr was ↦ inr (record {
+      lane = was.lane;
+      within = omega (arith, was.within);
+      is_slot = was.is_slot;
+      marked = same ∙ was.marked;
+    })
+  ]
+  | inr now ↦ inr (record {
+    lane = lane;
+    within = omega arith;
+    is_slot = subst (λ (slots : ℕ). IsSlotAt slots halves mask places lane slot) long now.0;
+    marked = now.1 ∙ is;
+  })
+]
+
+-- one site further
+pub each_more : (P : ℕ → Site → Type 0) (sites : List Site) (n : ℕ) (e : Site) → n < length sites
+    → EachBelow sites n P → P n (slice_index_or sites n e) → EachBelow sites (n + 1) P
+each_more P sites n e inside below here k d less = elim (cases_eq k n) [
+  | inl same ↦ subst (λ (i : ℕ). P i (slice_index_or sites i d)) (sym same)
+      (subst (P n) (get_or_default sites n e d inside) here)
+  | inr other ↦ below k d (omega (arith, other, less))
+]
+
+pub known_marks : (sites : List Site) (lanes : LaneRows) (halves : Bool) (base count at : ℕ) (old new : List ℕ) (e : Site)
+    → length new ≡ length old → at < length sites
+    → MarksAt old new lanes halves count (top_at base (length sites) count at) (length sites) (slice_index_or sites at e)
+    → AreMarks sites lanes halves old base count → AreMarks sites lanes halves new base count
+known_marks sites lanes halves base count at old new e long inside only known slot above = elim (only slot) [
+  | inl same ↦
+      let was = known slot (omega (arith, above, same)) in
+      record {
+        by = was.by;
+        within = was.within;
+        left = λ d. subst (λ (stamp : ℕ). IsMarkAt lanes halves (length new) count (top_at base (length sites) count
+            was.by) (length sites) (slice_index_or sites was.by d) slot stamp) (sym same)
+            (subst (λ (n : ℕ). IsMarkAt lanes halves n count (top_at base (length sites) count was.by) (length sites)
+            (slice_index_or sites was.by d) slot (slice_index old slot)) (sym long) (was.left d));
+      }
+  | inr now ↦ record {
+    by = at;
+    within = inside;
+    left = λ d. subst (λ (n : ℕ). IsMarkAt lanes halves n count (top_at base (length sites) count at) (length sites)
+        (slice_index_or sites at d) slot (slice_index new slot)) (sym long)
+        (subst (λ (site : Site). IsMarkAt lanes halves (length old) count (top_at base (length sites) count at)
+        (length sites) site slot (slice_index new slot)) (get_or_default sites at e d inside) now);
+  }
+]
+
+-- stamps are no greater than the first mark of a turn
+pub marks_stale : (sites : List Site) (lanes : LaneRows) (halves : Bool) (base count : ℕ) (stamps : List ℕ) (e : Site)
+    → AreMarks sites lanes halves stamps base count → AreStale stamps (base + length sites * (count + 1))
+marks_stale sites lanes halves base count stamps e known slot = elim (cases_lt base (slice_index stamps slot)) [
+  | inl above ↦ omega (arith, ((known slot above).left e).mark.marked)
+  | inr below ↦ omega (arith, below)
+]
+
+-- a place has one half for it, and two places that have a half in common are equal
+half_covers : (halves : Bool) (place : ℕ) → Covers halves place (half_for halves place)
+half_covers true place = refl
+half_covers false place = omega arith
+
+same_place : (halves : Bool) (place other half : ℕ) → Covers halves place half → Covers halves other half → place ≡ other
+same_place true place other half covers also = sym covers ∙ also
+same_place false place other half covers also = sym covers ∙ also
+
+leaves_or_loads : (kind : Kind) → loads kind ≡ false → leaves kind ≡ true
+leaves_or_loads Store none = refl
+leaves_or_loads Fetch none = refl
+leaves_or_loads Replace none = refl
+leaves_or_loads FetchHalf none = refl
+leaves_or_loads AddHalf none = refl
+leaves_or_loads (Apply op) none = refl
+leaves_or_loads Load none = absurd (cc)
+leaves_or_loads LoadHalf none = absurd (cc)
+
+to_other : (lanes : LaneRows) (site by : Site) → IsLoadedBy lanes site by → (lane half : ℕ) → Touches lanes site lane half
+    → Touches lanes by lane half
+to_other lanes site by loaded lane half touches = (
+  loaded.within lane touches.0,
+  subst (λ (h : Bool). Covers h (place_of lanes by lane) half) (sym loaded.halves)
+      (subst (λ (n : ℕ). Covers (is_of_halves site.kind) (place_of lanes (record by { places = n }) lane) half)
+      (sym loaded.places) touches.1),
+)
+
+module _ (sites : List Site) (lanes : LaneRows) (halves : Bool) (loaded : AreLoaded sites lanes halves)
+    (stamps : List ℕ) (base count limit : ℕ) (few : limit ≤ count)
+    (marked : LeaveMarks sites lanes halves stamps base count (length sites))
+    (none : LoadNoGreater sites lanes halves stamps base count limit (length sites)) where
+  abbrev pub site_at : (k : ℕ) (d : Site) → Site
+  site_at k d = slice_index_or sites k d
+
+  -- what a lane loads nothing left before
+  none_before : (k : ℕ) (d : Site) → k < length sites → (i : ℕ) (e : Site) → i < length sites
+      → (site_at k d).watched ≡ true → (site_at i e).watched ≡ true → loads (site_at k d).kind ≡ true
+      → leaves (site_at i e).kind ≡ true → (lane earlier half : ℕ) → lane < limit → earlier < count
+      → IsBefore earlier i lane k → Touches lanes (site_at k d) lane half → Touches lanes (site_at i e) earlier half → ⊥
+  none_before k d inside i e within looked watched load left lane earlier half below under before touches touched =
+      let one : Covers halves (place_of lanes (site_at k d) lane) half =
+      subst (λ (h : Bool). Covers h (place_of lanes (site_at k d) lane) half) (loaded k d inside looked).size touches.1
+      in
+      let two : Covers halves (place_of lanes (site_at i e) earlier) half =
+      subst (λ (h : Bool). Covers h (place_of lanes (site_at i e) earlier) half) (loaded i e within watched).size
+      touched.1 in
+      let same : place_of lanes (site_at k d) lane ≡ place_of lanes (site_at i e) earlier =
+      same_place halves (place_of lanes (site_at k d) lane) (place_of lanes (site_at i e) earlier) half one two in
+      let most : stamp_at stamps (half_for halves (place_of lanes (site_at i e) earlier))
+      ≤ mark_at (top_at base (length sites) count k) (length sites) lane =
+      subst (λ (place : ℕ). stamp_at stamps (half_for halves place)
+      ≤ mark_at (top_at base (length sites) count k) (length sites) lane) same
+      (none k d inside looked load lane below touches.0) in
+      let least = marked i e within watched left earlier under touched.0 in
+      let order = mark_before base (length sites) count earlier i lane k (omega (arith, below, few)) inside within before
+      in
+      omega (arith, most, least, order)
+
+  pub loaded_unmet : WatchedUnmet sites lanes limit
+  loaded_unmet later earlier order below k d inside i e within looked watched left half touches touched =
+      go (loads (site_at k d).kind) refl
+    where
+      under : earlier < count
+      under = omega (arith, order, below, few)
+
+      go : (load : Bool) → loads (site_at k d).kind ≡ load → (site_at i e).rank ≤ allowed (site_at k d)
+      go true load = absurd (none_before k d inside i e within looked watched load left later earlier half below under
+          (inl order) touches touched)
+      go false load =
+          let plain = (loaded k d inside looked).loaded (leaves_or_loads (site_at k d).kind load) in
+          let by = plain.loaded d in
+          absurd (none_before plain.by d plain.within i e within by.watched watched by.loads_it left later earlier half
+          below under (inl order) (to_other lanes (site_at k d) (site_at plain.by d) by later half touches) touched)
+
+  pub loaded_own : (lane : ℕ) → lane < limit → AllPairs (WatchedOwn lanes lane) sites
+  loaded_own lane below i j d order inside watched looked left load half touched touches =
+      none_before j d inside i d (omega (arith, order, inside)) looked watched load left lane lane half below
+      (omega (arith, below, few)) (inr (refl, order)) touches touched
+
+pub loaded_meets : (sites : List Site) (lanes : LaneRows) (halves : Bool) → AreLoaded sites lanes halves
+    → AreRanked sites → (stamps : List ℕ) (base count lane : ℕ) (e : Site) → lane < count
+    → AreMarks sites lanes halves stamps base count → LoadsGreater sites lanes halves stamps base count lane
+    → Meets sites lanes (length stamps) lane
+loaded_meets sites lanes halves loaded ranked stamps base count lane e less known greater =
+    let at : Site = slice_index_or sites greater.at e in
+    let found : LoadsGreaterAt lanes halves stamps lane
+    (mark_at (top_at base (length sites) count greater.at) (length sites) lane) at = greater.found e in
+    let half : ℕ = half_for halves (place_of lanes at lane) in
+    let over : base < mark_at (top_at base (length sites) count greater.at) (length sites) lane =
+    mark_above base (length sites) count lane greater.at (omega (arith, less)) greater.within in
+    let was : IsMark sites lanes halves (length stamps) base count (slot_of (length stamps) half) (stamp_at stamps half)
+    = known (slot_of (length stamps) half) (omega (arith, over, found.finds.greater)) in
+    let by : Site = slice_index_or sites was.by e in
+    let left : IsMarkAt lanes halves (length stamps) count (top_at base (length sites) count was.by) (length sites) by
+    (slot_of (length stamps) half) (stamp_at stamps half) = was.left e in
+    let earlier : ℕ = left.mark.lane in
+    let other : ℕ = half_for halves (place_of lanes by earlier) in
+    let rank : 0 < by.rank = ranked.some was.by e was.within left.leaves_it in
+    let free : allowed at ≡ 0 = ap (λ (b : Bool). if b then 0 else at.rank) found.loads_it in
+    let exceeds : allowed at < by.rank = omega (arith, rank, free) in
+    let marks : mark_at (top_at base (length sites) count greater.at) (length sites) lane
+    < mark_at (top_at base (length sites) count was.by) (length sites) earlier =
+    omega (arith, found.finds.greater, left.mark.marked) in
+    let touches : Touches lanes at lane half = (
+      found.finds.there,
+      subst (λ (h : Bool). Covers h (place_of lanes at lane) half)
+          (sym (loaded greater.at e greater.within found.watched).size) (half_covers halves (place_of lanes at lane)),
+    ) in
+    let touched : Touches lanes by earlier other = (
+      left.mark.is_slot.there,
+      subst (λ (h : Bool). Covers h (place_of lanes by earlier) other)
+          (sym (loaded was.by e was.within left.watched).size) (half_covers halves (place_of lanes by earlier)),
+    ) in
+    record {
+      at = greater.at;
+      by = was.by;
+      earlier = earlier;
+      half = half;
+      other = other;
+      at_within = greater.within;
+      by_within = was.within;
+      before = before_mark base (length sites) count earlier was.by lane greater.at greater.within was.within marks;
+      touches = λ d. subst (λ (site : Site). Touches lanes site lane half)
+          (get_or_default sites greater.at e d greater.within) touches;
+      touched = λ d. subst (λ (site : Site). Touches lanes site earlier other)
+          (get_or_default sites was.by e d was.within) touched;
+      leaves_it = λ d. (was.left d).leaves_it;
+      same = sym left.mark.is_slot.same;
+      greater = λ d. subst (λ (site : Site). allowed site < (slice_index_or sites was.by d).rank)
+          (get_or_default sites greater.at e d greater.within)
+          (subst (λ (site : Site). allowed at < site.rank) (get_or_default sites was.by e d was.within) exceeds);
+    }
+
+-- a site further, lanes that go may be fewer
+pub greater_more : (sites : List Site) (lanes : LaneRows) (halves : Bool) (stamps : List ℕ) (base count at old new : ℕ)
+    (e : Site) → at < length sites → new ≤ old
+    → (new < old → LoadsGreaterAt lanes halves stamps new (mark_at (top_at base (length sites) count at) (length sites)
+    new) (slice_index_or sites at e))
+    → (old < count → LoadsGreater sites lanes halves stamps base count old) → new < count
+    → LoadsGreater sites lanes halves stamps base count new
+greater_more sites lanes halves stamps base count at old new e inside few met before less = elim (cases_lt new old) [
+  | inl now ↦ record {
+    at = at;
+    within = inside;
+    found = λ d. subst (λ (site : Site). LoadsGreaterAt lanes halves stamps new
+        (mark_at (top_at base (length sites) count at) (length sites) new) site) (get_or_default sites at e d inside)
+        (met now);
+  }
+  | inr more ↦
+      let same : old ≡ new = omega (arith, few, more) in
+      subst (λ (n : ℕ). LoadsGreater sites lanes halves stamps base count n) same (before (omega (arith, same, less)))
+]

@@ -1,0 +1,36 @@
+-- Forms of places.
+use Rattle.std.specs.Prelude.{◌≡◌, ℕ, ◌+◌, ◌*◌, ◌<◌, ◌≤◌, Bool, true}
+use Rattle.lane_rows.specs.declared.places.Places.{Places}
+use Rattle.lane_rows.specs.Rows.{place_at}
+use Rattle.lane_stamps.specs.declared.forms.Form.{Form}
+use Rattle.lane_stamps.specs.declared.forms.Form.TheVariants.{One, Run, Any}
+use Rattle.lane_stamps.specs.Sites.{element_named, half_named}
+
+-- the first lanes all have one place
+abbrev pub IsPlace : (place : ℕ) → Places → (count : ℕ) → Type 0
+IsPlace place places count = (lane : ℕ) → lane < count → place_at places lane ≡ place
+
+-- the elements of the first lanes run from that of a place on, and it says which halves
+pub record RunsFrom (halves : Bool) (first : ℕ) (places : Places) (count : ℕ) : Type 0 where
+  pub element : (lane : ℕ) → lane < count
+      → element_named halves (place_at places lane) ≡ element_named halves first + lane
+  pub half : (lane : ℕ) → lane < count → halves ≡ true → half_named (place_at places lane) ≡ half_named first
+
+-- so places of a form are, and all elements are below a number
+abbrev pub IsFormOf : Form → (halves : Bool) → Places → (count elements : ℕ) → Type 0
+IsFormOf (One place) halves places count elements =
+    IsPlace place places count × (element_named halves place < elements)
+IsFormOf (Run first) halves places count elements =
+    RunsFrom halves first places count × (element_named halves first + count ≤ elements)
+IsFormOf Any halves places count elements = Unit {0}
+
+-- the halves of the first lanes run on one after another, from the lower one of an element on
+abbrev pub HalvesFrom : (start : ℕ) → Places → (count : ℕ) → Type 0
+HalvesFrom start places count = (lane : ℕ) → lane < count → place_at places lane ≡ 2 * start + lane
+
+-- a lane has the lower half of an element, and the next one the upper
+pub record IsPairAt (halves : Bool) (at lane : ℕ) (places : Places) : Type 0 where
+  pub lower : element_named halves (place_at places lane) ≡ at
+  pub upper : element_named halves (place_at places (lane + 1)) ≡ at
+  pub low : half_named (place_at places lane) ≡ half_named 0
+  pub high : half_named (place_at places (lane + 1)) ≡ half_named 1

@@ -1,0 +1,4 @@
+pub mod Sites
+pub mod Forms
+pub mod Stamps
+pub mod Marks

@@ -1,0 +1,31 @@
+//! What the lanes of a batch did at its sites: how many of them may go together, by one stamp for each half of each
+//! element, and what they leave, applied site by site.
+//!
+//! ```text
+//! rank_sites(&mut sites);
+//! let count = stamps.limit(&sites, lanes, 256);    // none of these lanes loads what an earlier one leaves
+//! apply(&sites, lanes, count, &mut words);
+//! ```
+#![tactic(auto)]
+
+mod applying;
+mod blending;
+mod covering;
+mod forms;
+mod kind;
+mod links;
+mod marking;
+mod ranking;
+mod reading;
+mod site;
+mod stamping;
+mod turns;
+
+pub use applying::apply;
+pub use forms::{Form, element_of, form_of};
+pub use kind::Kind;
+pub use links::MOST_SITES;
+pub use ranking::{alike, rank_sites};
+pub use reading::{has, place_of};
+pub use site::{Lanes, Site};
+pub use turns::Stamps;

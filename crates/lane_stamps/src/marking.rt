@@ -1,0 +1,268 @@
+//! Marks of what lanes leave, site by site. The earlier the access, the greater its mark, and a half keeps the
+//! greatest: so its stamp alone says to a lane that loads it whether it was left before.
+
+ghost use Rattle.std.specs.Prelude.{◌≡◌, ℕ, ◌+◌, ◌*◌, ◌<◌, ◌≤◌, ◌^◌, true, false, length};
+ghost use Rattle.std.specs.List.{All};
+ghost use Rattle.lane_rows.specs.Rows.{is_in, place_at};
+ghost use Rattle.lane_stamps.specs.Sites.{HasRows, shown};
+ghost use Rattle.lane_stamps.specs.Stamps.{AreStale, Rises, stamp_at};
+ghost use Rattle.lane_stamps.specs.Marks.{AreMarked, AreMarks, FindNoGreater, FindsGreater, LeaveMarks, LeavesMarks};
+ghost use Rattle.lane_stamps.specs.Marks.{LoadNoGreater, LoadsGreater, LoadsGreaterAt, LoadsNoGreater, MarksAt};
+ghost use Rattle.lane_stamps.specs.Marks.{MarksOne, MarksOnly, half_for, mark_at, top_at};
+
+use crate::reading::{is_there, place_on};
+use crate::site::{Lanes, Site};
+use lane_rows::{Mask, PlaceLine, Places};
+
+/// The half whose stamp a place has: itself, or the lower one of an element.
+#[inline(always)]
+fn half_at(halves: bool, place: u32) -> usize
+    ensures { result ≡ half_for halves place }
+{
+    if halves {
+        place as usize
+    } else {
+        2 * place as usize
+    }
+}
+
+/// Marks the place of a lane, if it is in a mask, unless that has a greater stamp.
+#[inline(always)]
+fn mark_lane(
+    halves: bool,
+    all: bool,
+    mask: &Mask,
+    line: Option<PlaceLine>,
+    places: &Places,
+    lane: usize,
+    stamps: &mut [u16],
+    mark: u16,
+)
+    requires all { all ≡ mask.now.all }
+    requires line { line ≡ places.now.line }
+    requires lane { lane < 256 }
+    requires some { 0 < length stamps.old }
+    ensures marked { is_in mask.now lane ≡ true
+        → mark ≤ stamp_at stamps.new (half_for halves (place_at places.now lane)) }
+    ensures rises { Rises stamps.old stamps.new }
+    ensures only { MarksOne stamps.old stamps.new halves mask.now places.now lane mark }
+{
+    if is_there(all, mask, lane) {
+        let at = half_at(halves, place_on(line, places, lane)) & (stamps.len() - 1);
+        if stamps[at] < mark {
+            stamps[at] = mark;
+        }
+    }
+}
+
+/// The mark of a lane, one of so many, at a site, one of so many.
+#[tactic(auto, using(crate::proofs::MarkSteps::product_below))]
+#[inline(always)]
+fn mark_of(top: u16, sites: usize, lane: usize, count: usize) -> u16
+    requires lane { lane < count }
+    requires room { count ≤ 256 }
+    requires few { sites ≤ 255 }
+    requires top { sites * count ≤ top }
+    ensures { result ≡ mark_at top sites lane }
+{
+    top - (sites * lane) as u16
+}
+
+/// Marks the places of all lanes of a mask.
+fn mark_lanes(
+    halves: bool,
+    mask: &Mask,
+    places: &Places,
+    count: usize,
+    stamps: &mut [u16],
+    top: u16,
+    sites: usize,
+)
+    requires room { count ≤ 256 }
+    requires some { 0 < length stamps.old }
+    requires few { sites ≤ 255 }
+    requires top { sites * count ≤ top }
+    ensures marked { AreMarked stamps.new halves mask.now places.now count top sites }
+    ensures rises { Rises stamps.old stamps.new }
+    ensures only { MarksOnly stamps.old stamps.new halves mask.now places.now count top sites }
+{
+    let (all, line) = (mask.all, places.line);
+    for lane in 0..count {
+        let mark = mark_of(top, sites, lane, count);
+        mark_lane(halves, all, mask, line, places, lane, stamps, mark);
+    }
+}
+
+/// Whether a lane is in a mask and its place has a greater stamp.
+#[inline(always)]
+fn finds_greater(
+    halves: bool,
+    all: bool,
+    mask: &Mask,
+    line: Option<PlaceLine>,
+    places: &Places,
+    lane: usize,
+    stamps: &[u16],
+    mark: u16,
+) -> bool
+    requires all { all ≡ mask.now.all }
+    requires line { line ≡ places.now.line }
+    requires lane { lane < 256 }
+    requires some { 0 < length stamps.now }
+    ensures found { result ≡ true → FindsGreater stamps.now halves mask.now places.now lane mark }
+    ensures none { result ≡ false → is_in mask.now lane ≡ true
+        → stamp_at stamps.now (half_for halves (place_at places.now lane)) ≤ mark }
+{
+    if is_there(all, mask, lane) {
+        let half = half_at(halves, place_on(line, places, lane));
+        return stamps[half & (stamps.len() - 1)] > mark;
+    }
+    false
+}
+
+/// How many lanes go before the first of a mask that finds a greater mark than its own at its place.
+fn look_lanes(
+    halves: bool,
+    mask: &Mask,
+    places: &Places,
+    count: usize,
+    stamps: &[u16],
+    top: u16,
+    sites: usize,
+) -> usize
+    requires room { count ≤ 256 }
+    requires some { 0 < length stamps.now }
+    requires few { sites ≤ 255 }
+    requires top { sites * count ≤ top }
+    ensures few { result ≤ count }
+    ensures none { FindNoGreater stamps.now halves mask.now places.now result top sites }
+    ensures met { result < count
+        → FindsGreater stamps.now halves mask.now places.now result (mark_at top sites result) }
+{
+    let (all, line) = (mask.all, places.line);
+    for lane in 0..count {
+        let mark = mark_of(top, sites, lane, count);
+        if finds_greater(halves, all, mask, line, places, lane, stamps, mark) {
+            return lane;
+        }
+    }
+    count
+}
+
+/// Marks what lanes leave at a site, if it is watched.
+fn mark_site(
+    site: &Site,
+    lanes: Lanes<'_>,
+    halves: bool,
+    count: usize,
+    stamps: &mut [u16],
+    top: u16,
+    sites: usize,
+)
+    requires room { count ≤ 256 }
+    requires some { 0 < length stamps.old }
+    requires few { sites ≤ 255 }
+    requires rows { HasRows (shown lanes) site.now }
+    requires top { sites * count ≤ top }
+    ensures marked { LeavesMarks (shown lanes.entry) halves stamps.new count top sites site.now }
+    ensures rises { Rises stamps.old stamps.new }
+    ensures only { MarksAt stamps.old stamps.new (shown lanes.entry) halves count top sites site.now }
+{
+    if site.watched && site.kind.leaves() {
+        let mask = &lanes.masks[site.mask];
+        let places = &lanes.places[site.places];
+        mark_lanes(halves, mask, places, count, stamps, top, sites);
+    }
+}
+
+/// How many lanes go before the first that loads at a site, if it is watched, what has a greater mark than its own.
+fn look_site(
+    site: &Site,
+    lanes: Lanes<'_>,
+    halves: bool,
+    count: usize,
+    stamps: &[u16],
+    top: u16,
+    sites: usize,
+) -> usize
+    requires room { count ≤ 256 }
+    requires some { 0 < length stamps.now }
+    requires few { sites ≤ 255 }
+    requires rows { HasRows (shown lanes) site.now }
+    requires top { sites * count ≤ top }
+    ensures few { result ≤ count }
+    ensures none { LoadsNoGreater (shown lanes.entry) halves stamps.now result top sites site.now }
+    ensures met { result < count
+        → LoadsGreaterAt (shown lanes.entry) halves stamps.now result (mark_at top sites result) site.now }
+{
+    if site.watched && site.kind.loads() {
+        let mask = &lanes.masks[site.mask];
+        let places = &lanes.places[site.places];
+        return look_lanes(halves, mask, places, count, stamps, top, sites);
+    }
+    count
+}
+
+/// The mark of the first lane at a site.
+#[inline(always)]
+fn top_of(base: u16, sites: usize, count: usize, at: usize) -> u16
+    requires few { sites ≤ 255 }
+    requires room { count ≤ 256 }
+    requires at { at < sites }
+    requires fits { base + sites * (count + 1) < 2 ^ 16 }
+    ensures top { result ≡ top_at base sites count at }
+    ensures above { sites * count ≤ result }
+{
+    base + (sites * (count + 1) - at) as u16
+}
+
+/// Marks what lanes leave at the sites that are watched.
+pub(crate) fn mark_sites(
+    sites: &[Site],
+    lanes: Lanes<'_>,
+    halves: bool,
+    count: usize,
+    stamps: &mut [u16],
+    base: u16,
+)
+    requires room { count ≤ 256 }
+    requires some { 0 < length stamps.old }
+    requires few { length sites.now ≤ 255 }
+    requires rows { All (HasRows (shown lanes)) sites.now }
+    requires fits { base + length sites.now * (count + 1) < 2 ^ 16 }
+    ensures marked { LeaveMarks sites.now (shown lanes.entry) halves stamps.new base count (length sites.now) }
+    ensures known { AreStale stamps.old base
+        → AreMarks sites.now (shown lanes.entry) halves stamps.new base count }
+{
+    for at in 0..sites.len() {
+        let top = top_of(base, sites.len(), count, at);
+        mark_site(&sites[at], lanes, halves, count, stamps, top, sites.len());
+    }
+}
+
+/// How many lanes go before the first that loads, at a site that is watched, what has a greater mark than its own.
+pub(crate) fn look_sites(
+    sites: &[Site],
+    lanes: Lanes<'_>,
+    halves: bool,
+    count: usize,
+    stamps: &[u16],
+    base: u16,
+) -> usize
+    requires room { count ≤ 256 }
+    requires some { 0 < length stamps.now }
+    requires few { length sites.now ≤ 255 }
+    requires rows { All (HasRows (shown lanes)) sites.now }
+    requires fits { base + length sites.now * (count + 1) < 2 ^ 16 }
+    ensures few { result ≤ count }
+    ensures none { LoadNoGreater sites.now (shown lanes.entry) halves stamps.now base count result
+        (length sites.now) }
+    ensures met { result < count → LoadsGreater sites.now (shown lanes.entry) halves stamps.now base count result }
+{
+    let mut limit = count;
+    for at in 0..sites.len() {
+        let top = top_of(base, sites.len(), count, at);
+        limit = look_site(&sites[at], lanes, halves, limit, stamps, top, sites.len());
+    }
+    limit
+}

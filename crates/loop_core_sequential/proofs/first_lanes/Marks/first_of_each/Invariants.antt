@@ -1,8 +1,0 @@
-use Rattle.std.proofs.Common.{◌≡◌, ℕ, ◌<◌, ◌≤◌}
-use Rattle.std.specs.Prelude.{true}
-use Rattle.bpf_step_batch.specs.Logs.{has_lane}
-use Rattle.loop_core_sequential.specs.FirstLanes.{mark_at}
-use Rattle.loop_core_sequential.proofs.first_lanes.Marks.first_of_each.Given as goal
-
-abbrev pub invariant-loop-lane : goal.invariant-loop-lane
-invariant-loop-lane l = (k : ℕ) → k < l.lane → has_lane l.entry.mask k ≡ true → k ≤ mark_at l.self l.entry k

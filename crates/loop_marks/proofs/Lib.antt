@@ -1,0 +1,7 @@
+pub mod VerdictLaws
+pub mod LaneLaws
+pub mod SiteLaws
+pub mod UnseenLaws
+pub mod RunLaws
+pub mod OverLaws
+pub mod OneLaws

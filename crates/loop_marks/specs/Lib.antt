@@ -1,0 +1,4 @@
+pub mod Touches
+pub mod MarkedVerdicts
+pub mod LaneMarks
+pub mod SiteMarks

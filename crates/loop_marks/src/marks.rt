@@ -1,0 +1,88 @@
+//! Marks of a loop's iterations.
+
+ghost use Rattle.std.specs.Prelude.{◌≡◌, ℕ, ◌+◌, ◌≤◌, IfOk, List, length};
+ghost use Rattle.std.specs.List.{All};
+ghost use Rattle.lane_stamps.specs.Sites.{HasRows, IsWithin, log_of, shown};
+ghost use Rattle.loop_core_model.specs.Marks.{Visit};
+ghost use Rattle.shadow_marks.specs.Ending.{KeepsShape};
+ghost use Rattle.shadow_marks.specs.Iteration.{IsEmptied, element_count};
+ghost use Rattle.shadow_marks.specs.Standing.{ArePlanes, StandFor, no_visits, test_of};
+
+use crate::marking::mark_lanes;
+use lane_planes::{conflict_plane, verdict_of};
+use lane_stamps::{Lanes, Site};
+use loop_core_model::{Test, Verdict, law_of_planes};
+use shadow_marks::{IterFlags, Planes};
+use std::alloc::{AllocError, Global};
+
+/// What the iterations of a loop did, by their indexes, at each of n elements. All room is made once.
+#[derive(Drop)]
+pub struct LoopMarks {
+    /// The marks of iterations that ended.
+    pub(crate) planes: Planes,
+    /// What the iteration under way did: nothing, between two of them.
+    flags: IterFlags,
+    ghost as_many: { element_count flags ≡ planes.elements },
+    ghost emptied: { IsEmptied flags },
+}
+
+impl LoopMarks {
+    ghost use Rattle.lane_planes.specs.Merged.{StandForSome};
+    ghost use Rattle.loop_marks.specs.LaneMarks.{IsMarkedVerdict, LanesMarked};
+
+    /// Marks of no iteration, for n elements and a test. It fails only for want of memory.
+    pub fn try_new(alloc: Global, elements: u32, test: Test) -> Result<LoopMarks, AllocError>
+        ensures elements { IfOk result (λ marks. marks.planes.elements ≡ elements) }
+        ensures test { IfOk result (λ marks. test_of marks.planes.tested ≡ test) }
+        ensures none { IfOk result (λ marks. StandFor marks.planes no_visits) }
+    {
+        Ok(LoopMarks {
+            planes: Planes::try_new(alloc, elements, test)?,
+            flags: IterFlags::try_new(alloc, elements)?,
+        })
+    }
+
+    /// The verdict on a loop of which these are the marks, of at most 65,536 elements: how many of them conflict, and
+    /// which is the least. It fails only for want of memory.
+    pub fn verdict(&self, alloc: Global) -> Result<Verdict, AllocError>
+        requires stand { StandForSome self.now.planes }
+        requires few { self.now.planes.elements ≤ 65536 }
+        ensures { IfOk result (IsMarkedVerdict self.now.planes) }
+    {
+        law_of_planes();
+        let plane = conflict_plane(alloc, &self.planes)?;
+        Ok(verdict_of(&plane))
+    }
+
+    /// Marks what the first lanes of a batch did: they are the iterations from an index on, up to which marks were made.
+    pub fn mark_lanes(&mut self, sites: &[Site], of_lanes: Lanes<'_>, lanes: u32, index: u32)
+        requires whole { ArePlanes self.old.planes }
+        requires few { length sites.now ≤ 4096 }
+        requires room { lanes ≤ 256 }
+        requires indexes { index + lanes ≤ 4294967295 }
+        requires rows { All (HasRows (shown of_lanes)) sites.now }
+        requires within { All (IsWithin self.old.planes.elements lanes (shown of_lanes)) sites.now }
+        ensures shape { KeepsShape self.old.planes self.new.planes }
+        ensures marked { LanesMarked (log_of sites.now (shown of_lanes.entry)) index lanes self.old.planes
+            self.new.planes }
+    {
+        mark_lanes(
+            &mut self.planes,
+            &mut self.flags,
+            sites,
+            of_lanes,
+            lanes,
+            index,
+        );
+    }
+
+    /// Takes away the marks of all iterations.
+    pub fn clear(&mut self)
+        requires { ArePlanes self.old.planes }
+        ensures shape { KeepsShape self.old.planes self.new.planes }
+        ensures none { (visits : ℕ → List Visit) → StandFor self.old.planes visits
+            → StandFor self.new.planes no_visits }
+    {
+        self.planes.clear();
+    }
+}

@@ -1,0 +1,3 @@
+pub mod Elements
+pub mod Ordered
+pub mod Independence

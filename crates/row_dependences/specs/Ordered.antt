@@ -1,0 +1,30 @@
+-- Lists whose operations take only values that come before them.
+use Rattle.std.specs.Prelude.{◌≡◌, ℕ, ◌<◌, ◌^◌, List, Some, slice_get}
+use Rattle.row_list.specs.declared.row_op.RowOp.{RowOp}
+use Rattle.row_list.specs.declared.row_op.RowOp.TheVariants.{All, Number, Caller, Index, Alu, Neg, Movsx, Endian, Found}
+use Rattle.row_list.specs.declared.row_op.RowOp.TheVariants.{Holds, Without, Either, Choice, Load, Store, Reduce, Fetch}
+
+-- all that an operation takes comes before a position; its numbers fit their types
+abbrev pub TakesBelow : (k : ℕ) → RowOp → Type 0
+TakesBelow k All = Unit {0}
+TakesBelow k (Number n) = n < 2 ^ 64
+TakesBelow k (Caller size extension position) = Unit {0}
+TakesBelow k Index = Unit {0}
+TakesBelow k (Alu width op first second) = (first < k) × (second < k)
+TakesBelow k (Neg width value) = value < k
+TakesBelow k (Movsx width bits value) = value < k
+TakesBelow k (Endian order bits value) = value < k
+TakesBelow k (Found first count key) = (first < 2 ^ 32) × (count < 2 ^ 32) × (key < k)
+TakesBelow k (Holds mask width compare first second) = (mask < k) × (first < k) × (second < k)
+TakesBelow k (Without mask other) = (mask < k) × (other < k)
+TakesBelow k (Either first second) = (first < k) × (second < k)
+TakesBelow k (Choice mask first second) = (mask < k) × (first < k) × (second < k)
+TakesBelow k (Load mask width extension address offset) = (mask < k) × (address < k)
+TakesBelow k (Store mask width address offset value) = (mask < k) × (address < k) × (value < k)
+TakesBelow k (Reduce mask width op address offset value) = (mask < k) × (address < k) × (value < k)
+TakesBelow k (Fetch mask width op address offset value compare) =
+    (mask < k) × (address < k) × (value < k) × (compare < k)
+
+-- so of each operation, and its own position
+pub record IsOrdered (list : List RowOp) : Type 0 where
+  pub each : (k : ℕ) (op : RowOp) → slice_get list k ≡ Some op → TakesBelow k op

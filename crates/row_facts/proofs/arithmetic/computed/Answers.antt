@@ -1,0 +1,5 @@
+use Rattle.row_facts.proofs.arithmetic.computed.Goals as goal
+
+pub returns-in-W64 : goal.returns-in-W64
+returns-in-W64 c index x y first second = rw c.in-W64.is
+    (c.computed_wide.ensures index x y first.in_range second.in_range (c.line_of-line.ensures index x y first second))

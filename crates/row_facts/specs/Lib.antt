@@ -1,0 +1,5 @@
+pub mod Facts
+pub mod Nonzero
+pub mod Apart
+pub mod Sites
+pub mod Meetings

@@ -1,0 +1,92 @@
+-- Which accesses of a list may meet.
+use Rattle.std.specs.Prelude.{◌≡◌, ℕ, ◌+◌, ◌*◌, ◌/◌, ◌%◌, ◌^◌, ◌<◌, ◌≤◌, ◌==◌, ◌⊎◌, if◌then◌else◌, Bool, true}
+use Rattle.std.specs.Prelude.{false, List}
+use Rattle.std.specs.Prelude.{slice_get, Some}
+use Rattle.std.specs.List.{Contains}
+use Rattle.bpf_insn_types.specs.declared.insn.SimpleOp.{SimpleOp}
+use Rattle.bpf_insn_types.specs.declared.insn.Width.{Width}
+use Rattle.bpf_insn_types.specs.declared.insn.Width.TheVariants.{W32, W64}
+use Rattle.row_list.specs.declared.row_op.RowOp.{RowOp}
+use Rattle.row_list.specs.declared.row_op.RowOp.TheVariants.{Load, Store, Reduce, Fetch}
+use Rattle.row_list.specs.Rows.{AreValues, is_in}
+use Rattle.row_facts.specs.declared.fact.Fact.{Fact}
+use Rattle.row_facts.specs.declared.site.Place.{Place}
+use Rattle.row_facts.specs.declared.site.Site.{Site}
+use Rattle.row_facts.specs.declared.meeting.Meeting.{Meeting}
+use Rattle.row_facts.specs.Facts.{AreFacts}
+use Rattle.row_facts.specs.Sites.{place_in, sites_of, byte_at, bytes_in, IsSite}
+
+-- lanes go on with what they find there
+abbrev pub loads : RowOp → Bool
+loads (Load mask width extension address offset) = true
+loads (Fetch mask width op address offset value compare) = true
+loads _ = false
+
+-- they leave something there
+abbrev pub leaves : RowOp → Bool
+leaves (Store mask width address offset value) = true
+leaves (Reduce mask width op address offset value) = true
+leaves (Fetch mask width op address offset value compare) = true
+leaves _ = false
+
+-- both reduce, by one operator at one width
+abbrev pub ReducesBy : (bytes : ℕ) (operator : SimpleOp) → RowOp → Type 0
+ReducesBy bytes operator (Reduce mask width op address offset value) = (bytes_in width ≡ bytes) × (op ≡ operator)
+ReducesBy bytes operator _ = ⊥
+
+abbrev pub ReduceAlike : RowOp → RowOp → Type 0
+ReduceAlike (Reduce mask width op address offset value) second = ReducesBy (bytes_in width) op second
+ReduceAlike _ second = ⊥
+
+-- a half of a map, counted over all maps, is one of those that an access at a byte is of: both of the element in which
+-- the byte is, or at 32 bits the lower one if the byte is its first, and else the upper one
+abbrev pub IsHalfOf : Width → (byte half : ℕ) → Type 0
+IsHalfOf W64 byte half = half / 2 ≡ byte / 8
+IsHalfOf W32 byte half = half ≡ 2 * (byte / 8) + (if byte % 8 == 0 then 0 else 1)
+
+-- a lane of these values makes an access, and of a half
+pub record Touches (op : RowOp) (values : List ℕ) (half : ℕ) : Type 0 where
+  pub place : Place
+  pub is : place_in op ≡ Some place
+  pub there : is_in values place.mask ≡ true
+  pub covers : IsHalfOf place.width (byte_at values place) half
+
+-- no lane touches at one site a half that the lane so many indexes before it, or at 0 itself, touches at the other
+pub record AreApart (list : List RowOp) (at by : RowOp) (distance : ℕ) : Type 0 where
+  pub none : (index : ℕ) (caller words values others : List ℕ) → index + distance ≤ 2 ^ 23 →
+      AreValues list (index + distance) caller words values → AreValues list index caller words others →
+      (half : ℕ) → Touches at values half → Touches by others half → ⊥
+
+-- No lane touches at the first site what a lane at most 255 indexes before it leaves at the second. Order doesn't
+-- matter, and nothing is said, where the first isn't an earlier site and doesn't load, or both reduce by one operator.
+abbrev pub LanesNeverMeet : List RowOp → (first second : ℕ) (at by : RowOp) → Type 0
+LanesNeverMeet list first second at by = leaves by ≡ true → (loads at ≡ true) ⊎ (first < second) →
+    ReduceAlike at by ⊎ ((distance : ℕ) → 0 < distance → distance < 256 → AreApart list at by distance)
+
+-- no lane loads at the first site what it left itself before, at the second
+abbrev pub LoadsNoOwn : List RowOp → (first second : ℕ) (at by : RowOp) → Type 0
+LoadsNoOwn list first second at by = leaves by ≡ true → loads at ≡ true → second < first → AreApart list at by 0
+
+-- two sites, by their numbers and operations, never meet where order matters
+pub record NeverMeet (list : List RowOp) (first second : ℕ) (at by : RowOp) : Type 0 where
+  pub lanes : LanesNeverMeet list first second at by
+  pub own : LoadsNoOwn list first second at by
+
+-- all others are in a list of meetings
+abbrev pub IsListed : List Meeting → (first second : ℕ) → Type 0
+IsListed meetings first second = Contains meetings (record { first = first; second = second })
+
+pub record AreMeetings (list : List RowOp) (meetings : List Meeting) : Type 0 where
+  pub others : (first second : ℕ) (at by : RowOp) → slice_get (sites_of list) first ≡ Some at →
+      slice_get (sites_of list) second ≡ Some by → IsListed meetings first second ⊎ NeverMeet list first second at by
+
+-- what was listed still is
+pub record AreKept (old new : List Meeting) : Type 0 where
+  pub each : (first second : ℕ) → IsListed old first second → IsListed new first second
+
+-- so far all others of a site never meet
+pub record AreDone (sites : List Site) (first count : ℕ) (meetings : List Meeting) : Type 0 where
+  pub others : (second : ℕ) (at by : Site) → second < count → slice_get sites first ≡ Some at →
+      slice_get sites second ≡ Some by → IsListed meetings first second ⊎ ((list : List RowOp) (facts : List Fact) →
+      AreFacts list facts → IsSite list facts at → IsSite list facts by →
+      NeverMeet list first second at.op by.op)

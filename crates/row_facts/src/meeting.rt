@@ -1,0 +1,188 @@
+//! Pairs of sites that lanes may meet at.
+
+ghost use Rattle.std.specs.Prelude.{◌≡◌, ℕ, List, ◌<◌, ◌≤◌, ◌++◌, ◌∷◌, [], true, false, IfOk, OnOk, length};
+ghost use Rattle.row_list.specs.declared.row_op.RowOp.{RowOp};
+ghost use Rattle.row_facts.specs.declared.fact.Fact.{Fact};
+ghost use Rattle.row_facts.specs.Facts.{IsSure, AreFacts};
+ghost use Rattle.row_facts.specs.Apart.{IsAmong};
+ghost use Rattle.row_facts.specs.Sites.{IsSite, bytes_in};
+ghost use Rattle.row_facts.specs.Meetings.{IsHalfOf, loads, leaves, ReducesBy, ReduceAlike, AreApart};
+ghost use Rattle.row_facts.specs.Meetings.{LanesNeverMeet, LoadsNoOwn};
+ghost use Rattle.row_facts.specs.Meetings.{NeverMeet, AreMeetings, AreKept, AreDone};
+
+use crate::apart::are_apart;
+use crate::lines::is_of_multiples;
+use crate::site::{Site, sites};
+use crate::transfer::facts;
+use bpf_insn_types::{SimpleOp, Width};
+use row_list::RowOp;
+use std::alloc::{AllocError, Global};
+
+/// How many lanes a batch has at most.
+const LANES: u64 = 256;
+
+/// Two sites, by their numbers: a lane may touch a half at the first that an earlier lane, or the lane itself, left at
+/// the second.
+#[derive(Clone, Copy)]
+pub struct Meeting {
+    pub first: usize,
+    pub second: usize,
+}
+
+/// Whether lanes go on with what they find there.
+pub fn loads(op: &RowOp) -> bool
+    ensures { result ≡ loads op.now }
+{
+    match *op {
+        RowOp::Load { .. } => true,
+        RowOp::Fetch { .. } => true,
+        _ => false,
+    }
+}
+
+/// Whether they leave something there.
+pub fn leaves(op: &RowOp) -> bool
+    ensures { result ≡ leaves op.now }
+{
+    match *op {
+        RowOp::Store { .. } => true,
+        RowOp::Reduce { .. } => true,
+        RowOp::Fetch { .. } => true,
+        _ => false,
+    }
+}
+
+/// How many bytes an access at a width is of.
+fn bytes_in(width: Width) -> u64
+    ensures { result ≡ bytes_in width }
+{
+    match width {
+        Width::W32 => 4,
+        Width::W64 => 8,
+    }
+}
+
+/// Whether two operators are one.
+fn is_same(first: SimpleOp, second: SimpleOp) -> bool
+    ensures { result ≡ true → first ≡ second }
+{
+    match (first, second) {
+        (SimpleOp::Add, SimpleOp::Add) => true,
+        (SimpleOp::Or, SimpleOp::Or) => true,
+        (SimpleOp::And, SimpleOp::And) => true,
+        (SimpleOp::Xor, SimpleOp::Xor) => true,
+        _ => false,
+    }
+}
+
+/// Whether an operation reduces by an operator, so many bytes at once.
+fn reduces_by(operation: &RowOp, bytes: u64, operator: SimpleOp) -> bool
+    ensures { result ≡ true → ReducesBy bytes operator operation.now }
+{
+    match *operation {
+        RowOp::Reduce { width, op, .. } => bytes_in(width) == bytes && is_same(op, operator),
+        _ => false,
+    }
+}
+
+/// Whether both reduce, by one operator.
+pub fn reduce_alike(first: &RowOp, second: &RowOp) -> bool
+    ensures { result ≡ true → ReduceAlike first.now second.now }
+{
+    match *first {
+        RowOp::Reduce { width, op, .. } => reduces_by(second, bytes_in(width), op),
+        _ => false,
+    }
+}
+
+/// Whether the byte of an access is known to be a multiple of its size.
+fn is_aligned(site: &Site) -> bool
+    ensures { result ≡ true → (index byte half : ℕ) → IsSure site.now.byte index byte →
+        IsHalfOf site.now.place.width byte half → IsAmong byte (bytes_in site.now.place.width) half }
+{
+    match site.place.width {
+        Width::W32 => is_of_multiples(site.byte.line, 2),
+        Width::W64 => is_of_multiples(site.byte.line, 3),
+    }
+}
+
+/// Whether lanes never touch a half at the first site that one so many indexes before touches at the second.
+fn never_touch(first: &Site, second: &Site, from: u64, upto: u64) -> bool
+    ensures { result ≡ true → (list : List RowOp) (facts : List Fact) → AreFacts list facts →
+        IsSite list facts first.now → IsSite list facts second.now →
+        (distance : ℕ) → from ≤ distance → distance < upto → AreApart list first.now.op second.now.op distance }
+{
+    let first_size = bytes_in(first.place.width);
+    let second_size = bytes_in(second.place.width);
+    is_aligned(first)
+        && is_aligned(second)
+        && are_apart(first.byte, first_size, second.byte, second_size, from, upto)
+}
+
+/// Whether a lane may touch at the first site what an earlier one left at the second, where order matters.
+fn lanes_may_meet(first: usize, at: &Site, second: usize, by: &Site) -> bool
+    ensures { result ≡ false → (list : List RowOp) (facts : List Fact) → AreFacts list facts →
+        IsSite list facts at.now → IsSite list facts by.now →
+        LanesNeverMeet list first second at.now.op by.now.op }
+{
+    if !leaves(&by.op) || (!loads(&at.op) && second <= first) {
+        return false;
+    }
+    !reduce_alike(&at.op, &by.op) && !never_touch(at, by, 1, LANES)
+}
+
+/// Whether a lane may load at the first site what it left itself at the second.
+fn own_may_meet(first: usize, at: &Site, second: usize, by: &Site) -> bool
+    ensures { result ≡ false → (list : List RowOp) (facts : List Fact) → AreFacts list facts →
+        IsSite list facts at.now → IsSite list facts by.now →
+        LoadsNoOwn list first second at.now.op by.now.op }
+{
+    if !leaves(&by.op) || !loads(&at.op) || first <= second {
+        return false;
+    }
+    !never_touch(at, by, 0, 1)
+}
+
+/// Whether two sites may meet.
+fn may_meet(first: usize, at: &Site, second: usize, by: &Site) -> bool
+    ensures { result ≡ false → (list : List RowOp) (facts : List Fact) → AreFacts list facts →
+        IsSite list facts at.now → IsSite list facts by.now →
+        NeverMeet list first second at.now.op by.now.op }
+{
+    lanes_may_meet(first, at, second, by) || own_may_meet(first, at, second, by)
+}
+
+fn add(meetings: &mut Vec<Meeting>, meeting: Meeting) -> Result<(), AllocError>
+    ensures { OnOk result (meetings.new.items ≡ meetings.old.items ++ meeting ∷ []) }
+{
+    meetings.extend_from_slice(&[meeting])
+}
+
+/// Adds the meetings at a site. It fails where memory runs out.
+fn add_meetings(meetings: &mut Vec<Meeting>, sites: &[Site], first: usize) -> Result<(), AllocError>
+    requires { first < length sites.now }
+    ensures kept { OnOk result (AreKept meetings.old.items meetings.new.items) }
+    ensures done { OnOk result (AreDone sites.now first (length sites.now) meetings.new.items) }
+{
+    for second in 0..sites.len() {
+        if may_meet(first, &sites[first], second, &sites[second]) {
+            add(meetings, Meeting { first, second })?;
+        }
+    }
+    Ok(())
+}
+
+/// The pairs of sites of a list at which lanes of a batch may meet, for all indexes up to 2^23. A site is numbered by
+/// how many accesses are before it. It fails where memory runs out.
+pub fn meetings(alloc: Global, ops: &[RowOp]) -> Result<Vec<Meeting>, AllocError>
+    ensures { IfOk result (λ meetings. AreMeetings ops.now meetings.items) }
+{
+    let facts = facts(alloc, ops)?;
+    let listed = sites(alloc, ops, &facts)?;
+    let sites = listed.as_slice();
+    let mut meetings = Vec::new(alloc);
+    for first in 0..sites.len() {
+        add_meetings(&mut meetings, sites, first)?;
+    }
+    Ok(meetings)
+}

@@ -1,0 +1,3 @@
+pub mod NarrowLaws
+pub mod ListLaws
+pub mod MarkLaws

@@ -1,0 +1,4 @@
+pub mod Narrower
+pub mod Sites
+pub mod Marks
+pub mod Lists

@@ -1,0 +1,18 @@
+//! Sites of a list.
+
+use lane_stamps::Site;
+use row_list::RowOp;
+
+/// How many sites a list has at most.
+pub const SITES: usize = 64;
+
+/// The sites of a list, in order.
+#[derive(Drop)]
+pub struct ListSites {
+    /// The accesses.
+    pub accesses: Vec<RowOp>,
+    /// What is done at each, with the numbers of the rows where what it takes goes.
+    pub sites: Vec<Site>,
+    /// The number of the places of each operation of the list that is an access.
+    pub places: Vec<u8>,
+}
