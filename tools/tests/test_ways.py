@@ -59,12 +59,14 @@ def ways_of_explain(text: str, options: list[str]) -> list[str]:
 
 class Ways(unittest.TestCase):
     def compare(self, text: str) -> list[str]:
-        """Compares by both tests, and gives the ways by the flow test."""
+        """Compares by both tests, and gives the ways."""
+        found = []
         for test in "lrpd", "flow":
             options = ["--test", test]
             ways = ways_of_run(text, options)
             self.assertEqual(ways_of_explain(text, options), ways)
-        return ways
+            found += ways
+        return found
 
     def test_examples(self) -> None:
         ways = []

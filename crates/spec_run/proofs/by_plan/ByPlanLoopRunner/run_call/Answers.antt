@@ -17,7 +17,7 @@ returns-clause-told g c = λ first calls made is before.
     let ran = ran_of c.requires.told.2.1 c.requires.known c.requires.sizes c.run_one.ensures c.in_ok-answered.was in (
       before.0,
       before.1,
-      valid_line (loop_report c.args.self.now.test c.args._program.now 4096) made c.in_ok-answered.answered.answer
+      valid_line (loop_report c.args.self.now.test c.args.program.now 4096) made c.in_ok-answered.answered.answer
           c.args.maps.now.words calls (ran.told made is.filled c.requires.known is.fit)
           (c.slot.ensures ∙ is.filled.slot) (to_z-of_z w64 c.from.result (search rules) ∙ c.from.ensures)
           c.in_ok-push.ensures.items before.2,
