@@ -102,17 +102,16 @@ leaves_or_loads (Apply op) none = refl
 leaves_or_loads Load none = absurd (cc)
 leaves_or_loads LoadHalf none = absurd (cc)
 
-to_other : (lanes : LaneRows) (site by : Site) → IsLoadedBy lanes site by → (lane half : ℕ) → Touches lanes site lane half
-    → Touches lanes by lane half
-to_other lanes site by loaded lane half touches = (
-  loaded.within lane touches.0,
+to_other : (lanes : LaneRows) (site by : Site) (lane half : ℕ) → IsLoadedBy lanes site by lane
+    → Touches lanes site lane half → Touches lanes by lane half
+to_other lanes site by lane half loaded touches = (
+  loaded.there,
   subst (λ (h : Bool). Covers h (place_of lanes by lane) half) (sym loaded.halves)
-      (subst (λ (n : ℕ). Covers (is_of_halves site.kind) (place_of lanes (record by { places = n }) lane) half)
-      (sym loaded.places) touches.1),
+      (subst (λ (place : ℕ). Covers (is_of_halves site.kind) place half) (sym loaded.place) touches.1),
 )
 
-module _ (sites : List Site) (lanes : LaneRows) (halves : Bool) (loaded : AreLoaded sites lanes halves)
-    (stamps : List ℕ) (base count limit : ℕ) (few : limit ≤ count)
+module _ (sites : List Site) (lanes : LaneRows) (halves : Bool) (stamps : List ℕ) (base count limit : ℕ)
+    (loaded : AreLoaded sites lanes halves count) (few : limit ≤ count)
     (marked : LeaveMarks sites lanes halves stamps base count (length sites))
     (none : LoadNoGreater sites lanes halves stamps base count limit (length sites)) where
   abbrev pub site_at : (k : ℕ) (d : Site) → Site
@@ -125,10 +124,10 @@ module _ (sites : List Site) (lanes : LaneRows) (halves : Bool) (loaded : AreLoa
       → IsBefore earlier i lane k → Touches lanes (site_at k d) lane half → Touches lanes (site_at i e) earlier half → ⊥
   none_before k d inside i e within looked watched load left lane earlier half below under before touches touched =
       let one : Covers halves (place_of lanes (site_at k d) lane) half =
-      subst (λ (h : Bool). Covers h (place_of lanes (site_at k d) lane) half) (loaded k d inside looked).size touches.1
+      subst (λ (h : Bool). Covers h (place_of lanes (site_at k d) lane) half) (loaded k d inside looked lane (omega (arith, below, few)) touches.0).size touches.1
       in
       let two : Covers halves (place_of lanes (site_at i e) earlier) half =
-      subst (λ (h : Bool). Covers h (place_of lanes (site_at i e) earlier) half) (loaded i e within watched).size
+      subst (λ (h : Bool). Covers h (place_of lanes (site_at i e) earlier) half) (loaded i e within watched earlier under touched.0).size
       touched.1 in
       let same : place_of lanes (site_at k d) lane ≡ place_of lanes (site_at i e) earlier =
       same_place halves (place_of lanes (site_at k d) lane) (place_of lanes (site_at i e) earlier) half one two in
@@ -153,21 +152,22 @@ module _ (sites : List Site) (lanes : LaneRows) (halves : Bool) (loaded : AreLoa
       go true load = absurd (none_before k d inside i e within looked watched load left later earlier half below under
           (inl order) touches touched)
       go false load =
-          let plain = (loaded k d inside looked).loaded (leaves_or_loads (site_at k d).kind load) in
+          let plain = (loaded k d inside looked later (omega (arith, below, few)) touches.0).loaded
+          (leaves_or_loads (site_at k d).kind load) in
           let by = plain.loaded d in
           absurd (none_before plain.by d plain.within i e within by.watched watched by.loads_it left later earlier half
-          below under (inl order) (to_other lanes (site_at k d) (site_at plain.by d) by later half touches) touched)
+          below under (inl order) (to_other lanes (site_at k d) (site_at plain.by d) later half by touches) touched)
 
   pub loaded_own : (lane : ℕ) → lane < limit → AllPairs (WatchedOwn lanes lane) sites
   loaded_own lane below i j d order inside watched looked left load half touched touches =
       none_before j d inside i d (omega (arith, order, inside)) looked watched load left lane lane half below
       (omega (arith, below, few)) (inr (refl, order)) touches touched
 
-pub loaded_meets : (sites : List Site) (lanes : LaneRows) (halves : Bool) → AreLoaded sites lanes halves
-    → AreRanked sites → (stamps : List ℕ) (base count lane : ℕ) (e : Site) → lane < count
+pub loaded_meets : (sites : List Site) (lanes : LaneRows) (halves : Bool) (base count : ℕ)
+    → AreLoaded sites lanes halves count → AreRanked sites → (stamps : List ℕ) (lane : ℕ) (e : Site) → lane < count
     → AreMarks sites lanes halves stamps base count → LoadsGreater sites lanes halves stamps base count lane
     → Meets sites lanes (length stamps) lane
-loaded_meets sites lanes halves loaded ranked stamps base count lane e less known greater =
+loaded_meets sites lanes halves base count loaded ranked stamps lane e less known greater =
     let at : Site = slice_index_or sites greater.at e in
     let found : LoadsGreaterAt lanes halves stamps lane
     (mark_at (top_at base (length sites) count greater.at) (length sites) lane) at = greater.found e in
@@ -190,12 +190,12 @@ loaded_meets sites lanes halves loaded ranked stamps base count lane e less know
     let touches : Touches lanes at lane half = (
       found.finds.there,
       subst (λ (h : Bool). Covers h (place_of lanes at lane) half)
-          (sym (loaded greater.at e greater.within found.watched).size) (half_covers halves (place_of lanes at lane)),
+          (sym (loaded greater.at e greater.within found.watched lane less found.finds.there).size) (half_covers halves (place_of lanes at lane)),
     ) in
     let touched : Touches lanes by earlier other = (
       left.mark.is_slot.there,
       subst (λ (h : Bool). Covers h (place_of lanes by earlier) other)
-          (sym (loaded was.by e was.within left.watched).size) (half_covers halves (place_of lanes by earlier)),
+          (sym (loaded was.by e was.within left.watched earlier left.mark.within left.mark.is_slot.there).size) (half_covers halves (place_of lanes by earlier)),
     ) in
     record {
       at = greater.at;

@@ -6,31 +6,41 @@ use Rattle.lane_rows.specs.Rows.{is_in, place_at}
 use Rattle.lane_rows.specs.declared.mask.Mask.{Mask}
 use Rattle.lane_rows.specs.declared.places.Places.{Places}
 use Rattle.lane_stamps.specs.declared.site.Site.{Site}
-use Rattle.lane_stamps.specs.Sites.{LaneRows, has, is_of_halves, leaves, loads, mask_of, places_of}
+use Rattle.lane_stamps.specs.Sites.{LaneRows, has, is_of_halves, leaves, loads, mask_of, place_of, places_of}
 use Rattle.lane_stamps.specs.Stamps.{slot_of, stamp_at}
 
--- lanes load at another site wherever they leave something at one
-pub record IsLoadedBy (lanes : LaneRows) (site by : Site) : Type 0 where
+-- the first lanes, where they are in a mask, have the same place in both
+abbrev pub ArePlacedAlike : Mask → (first second : Places) → (count : ℕ) → Type 0
+ArePlacedAlike mask first second count = (lane : ℕ) → lane < count → is_in mask lane ≡ true
+    → place_at first lane ≡ place_at second lane
+
+-- what is so of each of the first lanes that gets to a site
+abbrev pub EachThere : LaneRows → (count : ℕ) → Site → (P : ℕ → Type 0) → Type 0
+EachThere lanes count site P = (lane : ℕ) → lane < count → has lanes site lane ≡ true → P lane
+
+-- a lane loads at another site what it accesses at one
+pub record IsLoadedBy (lanes : LaneRows) (site by : Site) (lane : ℕ) : Type 0 where
   pub watched : by.watched ≡ true
   pub loads_it : loads by.kind ≡ true
   pub halves : is_of_halves by.kind ≡ is_of_halves site.kind
-  pub places : by.places ≡ site.places
-  pub within : (lane : ℕ) → has lanes site lane ≡ true → has lanes by lane ≡ true
+  pub place : place_of lanes by lane ≡ place_of lanes site lane
+  pub there : has lanes by lane ≡ true
 
 -- so at one of some sites
-pub record IsLoaded (sites : List Site) (lanes : LaneRows) (site : Site) : Type 0 where
+pub record IsLoaded (sites : List Site) (lanes : LaneRows) (site : Site) (lane : ℕ) : Type 0 where
   pub by : ℕ
   pub within : by < length sites
-  pub loaded : (d : Site) → IsLoadedBy lanes site (slice_index_or sites by d)
+  pub loaded : (d : Site) → IsLoadedBy lanes site (slice_index_or sites by d) lane
 
--- a site is of a size, and lanes load wherever they leave something there
-pub record IsPlain (sites : List Site) (lanes : LaneRows) (halves : Bool) (site : Site) : Type 0 where
+-- a site is of a size, and a lane loads what it leaves there
+pub record IsPlain (sites : List Site) (lanes : LaneRows) (halves : Bool) (site : Site) (lane : ℕ) : Type 0 where
   pub size : is_of_halves site.kind ≡ halves
-  pub loaded : leaves site.kind ≡ true → IsLoaded sites lanes site
+  pub loaded : leaves site.kind ≡ true → IsLoaded sites lanes site lane
 
--- so are all that are watched
-abbrev pub AreLoaded : List Site → LaneRows → (halves : Bool) → Type 0
-AreLoaded sites lanes halves = All (λ site. site.watched ≡ true → IsPlain sites lanes halves site) sites
+-- so do the first lanes at all sites that are watched
+abbrev pub AreLoaded : List Site → LaneRows → (halves : Bool) (count : ℕ) → Type 0
+AreLoaded sites lanes halves count = All (λ site. site.watched ≡ true
+    → EachThere lanes count site (IsPlain sites lanes halves site)) sites
 
 -- the half whose stamp a place has: itself, or the lower one of an element
 abbrev pub half_for : (halves : Bool) (place : ℕ) → ℕ

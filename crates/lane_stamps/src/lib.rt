@@ -26,6 +26,6 @@ pub use forms::{Form, element_of, form_of};
 pub use kind::Kind;
 pub use links::MOST_SITES;
 pub use ranking::{alike, rank_sites};
-pub use reading::{has, place_of};
+pub use reading::{has, place_of, place_on};
 pub use site::{Lanes, Site};
 pub use turns::Stamps;

@@ -12,7 +12,7 @@ ghost use Rattle.lane_stamps.specs.Marks.{MarksOne, MarksOnly, half_for, mark_at
 
 use crate::reading::{is_there, place_on};
 use crate::site::{Lanes, Site};
-use lane_rows::{Mask, PlaceLine, Places};
+use lane_rows::{Mask, PlaceLine, Places, is_empty};
 
 /// The half whose stamp a place has: itself, or the lower one of an element.
 #[inline(always)]
@@ -26,7 +26,7 @@ fn half_at(halves: bool, place: u32) -> usize
     }
 }
 
-/// Marks the place of a lane, if it is in a mask, unless that has a greater stamp.
+/// Marks the place of a lane, if it is in a mask, unless that has a greater stamp. Where all are, none is looked up.
 #[inline(always)]
 fn mark_lane(
     halves: bool,
@@ -47,7 +47,7 @@ fn mark_lane(
     ensures rises { Rises stamps.old stamps.new }
     ensures only { MarksOne stamps.old stamps.new halves mask.now places.now lane mark }
 {
-    if is_there(all, mask, lane) {
+    if all || is_there(all, mask, lane) {
         let at = half_at(halves, place_on(line, places, lane)) & (stamps.len() - 1);
         if stamps[at] < mark {
             stamps[at] = mark;
@@ -69,6 +69,7 @@ fn mark_of(top: u16, sites: usize, lane: usize, count: usize) -> u16
 }
 
 /// Marks the places of all lanes of a mask.
+#[inline(never)]
 fn mark_lanes(
     halves: bool,
     mask: &Mask,
@@ -113,7 +114,7 @@ fn finds_greater(
     ensures none { result ≡ false → is_in mask.now lane ≡ true
         → stamp_at stamps.now (half_for halves (place_at places.now lane)) ≤ mark }
 {
-    if is_there(all, mask, lane) {
+    if all || is_there(all, mask, lane) {
         let half = half_at(halves, place_on(line, places, lane));
         return stamps[half & (stamps.len() - 1)] > mark;
     }
@@ -121,6 +122,7 @@ fn finds_greater(
 }
 
 /// How many lanes go before the first of a mask that finds a greater mark than its own at its place.
+#[inline(never)]
 fn look_lanes(
     halves: bool,
     mask: &Mask,
@@ -149,7 +151,7 @@ fn look_lanes(
     count
 }
 
-/// Marks what lanes leave at a site, if it is watched.
+/// Marks what lanes leave at a site, if it is watched and any get there.
 fn mark_site(
     site: &Site,
     lanes: Lanes<'_>,
@@ -168,8 +170,8 @@ fn mark_site(
     ensures rises { Rises stamps.old stamps.new }
     ensures only { MarksAt stamps.old stamps.new (shown lanes.entry) halves count top sites site.now }
 {
-    if site.watched && site.kind.leaves() {
-        let mask = &lanes.masks[site.mask];
+    let mask = &lanes.masks[site.mask];
+    if site.watched && site.kind.leaves() && !is_empty(mask, count) {
         let places = &lanes.places[site.places];
         mark_lanes(halves, mask, places, count, stamps, top, sites);
     }
@@ -195,8 +197,8 @@ fn look_site(
     ensures met { result < count
         → LoadsGreaterAt (shown lanes.entry) halves stamps.now result (mark_at top sites result) site.now }
 {
-    if site.watched && site.kind.loads() {
-        let mask = &lanes.masks[site.mask];
+    let mask = &lanes.masks[site.mask];
+    if site.watched && site.kind.loads() && !is_empty(mask, count) {
         let places = &lanes.places[site.places];
         return look_lanes(halves, mask, places, count, stamps, top, sites);
     }

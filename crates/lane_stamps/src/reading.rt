@@ -35,7 +35,7 @@ pub fn place_of(places: &Places, lane: usize) -> u32
 
 /// The same, if their line is known.
 #[inline(always)]
-pub(crate) fn place_on(line: Option<PlaceLine>, places: &Places, lane: usize) -> u32
+pub fn place_on(line: Option<PlaceLine>, places: &Places, lane: usize) -> u32
     requires line { line ≡ places.now.line }
     requires lane { lane < 256 }
     ensures { result ≡ place_at places.now lane }

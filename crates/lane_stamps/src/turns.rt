@@ -40,7 +40,7 @@ fn count_loaded(
     base: u16,
 ) -> usize
     requires some { 0 < length stamps.old }
-    requires loaded { AreLoaded sites.now (shown lanes) halves }
+    requires loaded { AreLoaded sites.now (shown lanes) halves count }
     requires room { count ≤ 256 }
     requires few { length sites.now ≤ 255 }
     requires ranked { AreRanked sites.now }
@@ -104,7 +104,7 @@ impl Stamps {
         ensures own { (lane : ℕ) → lane < result → AllPairs (WatchedOwn (shown lanes.entry) lane) sites.now }
         ensures exact { result < count → Meets sites.now (shown lanes.entry) 32768 result }
     {
-        if are_loaded(sites, lanes, halves) {
+        if are_loaded(sites, lanes, halves, count) {
             let rise = (sites.len() * (count + 1)) as u16;
             self.begin(rise);
             let limit = count_loaded(sites, lanes, halves, count, &mut self.stamps, self.base);

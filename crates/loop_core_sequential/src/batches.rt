@@ -7,7 +7,7 @@ use row_run::Batch;
 /// The most iterations that are done together.
 pub(crate) const MOST: u32 = 256;
 
-/// The least number to which they are halved.
+/// The fewest that are tried after a batch of which some didn't go.
 const LEAST: u32 = 32;
 
 /// The longest pause, in batches.
@@ -33,9 +33,17 @@ pub(crate) struct Batches {
     pause: u32,
     /// How many iterations go alone before the next batch.
     pub(crate) alone: u32,
+    /// How many of the last batch went.
+    last: u32,
+    /// How many whole batches come before more lanes are tried: twice as many each time that a batch wasn't whole.
+    patience: u32,
+    /// How many batches were whole since then: all of their lanes went.
+    whole: u32,
     ghost lanes_fit: { (0 < lanes) × (lanes ≤ 256) },
     ghost quarters_fit: { quarters ≤ 1024 },
     ghost pause_fits: { (0 < pause) × (pause ≤ 4096) },
+    ghost patience_fits: { patience ≤ 64 },
+    ghost whole_fits: { whole ≤ 64 },
 }
 
 impl Batches {
@@ -47,6 +55,9 @@ impl Batches {
             quarters: 0,
             pause: 1,
             alone: 0,
+            last: 0,
+            patience: 1,
+            whole: 0,
         }
     }
 
@@ -68,7 +79,7 @@ impl Batches {
         self.quarters = quarters;
         self.pause = 1;
         self.alone = if count == 0 { 1 } else { 0 };
-        self.fit(count);
+        self.fit(count, lanes);
     }
 
     /// A batch took longer than its iterations do alone: there is a pause, and the next one is four times as long.
@@ -81,17 +92,29 @@ impl Batches {
         self.quarters = 0;
     }
 
-    /// Tries half as many iterations the next time, if fewer than half of them go in the mean, and twice as many, if
-    /// nearly all do and all of the last ones went.
-    fn fit(&mut self, count: u32)
+    /// How many iterations are tried the next time, where so many of some went. If some didn't go: a quarter more than
+    /// go in the mean, or as many as went if it was so the last time too. If all went, and did time and again: twice as
+    /// many.
+    fn fit(&mut self, count: u32, lanes: u32)
         ensures { self.new.alone ≡ self.old.alone }
     {
-        let mean = self.quarters / 4;
-        if mean < self.lanes / 2 {
-            self.lanes = self.lanes.div_ceil(2).max(LEAST);
-        } else if count == self.lanes && 16 * mean > 15 * self.lanes {
-            self.lanes = (2 * self.lanes).min(MOST);
+        let again = count == self.last;
+        self.last = count;
+        if count < lanes {
+            let mean = self.quarters / 4;
+            let wanted = if again { count } else { mean + mean / 4 };
+            self.lanes = wanted.clamp(LEAST, MOST).div_ceil(16) * 16;
+            self.patience = (2 * self.patience).min(64);
+            self.whole = 0;
+            return;
         }
+        let whole = self.whole + 1;
+        if whole < self.patience {
+            self.whole = whole;
+            return;
+        }
+        self.lanes = (2 * self.lanes).min(MOST);
+        self.whole = 0;
     }
 
     /// The index at which a batch is tried next, from one on up to another: the iterations before it go alone.

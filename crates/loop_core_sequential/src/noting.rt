@@ -57,6 +57,9 @@ pub(crate) fn is_any_written(
     requires within { AreBelow (log_elements log.now) lanes halves mask.now places.now }
     ensures { result ≡ false → AreUnwritten (is_written log.now) lanes halves mask.now places.now }
 {
+    if log.is_clear() {
+        return false;
+    }
     match form_of(places, halves, lanes as usize, log.elements() as usize) {
         Form::One(place) => log.is_written(element_of(halves, place) as u32),
         Form::Run(first) => log.is_any_written(element_of(halves, first) as u32, lanes),

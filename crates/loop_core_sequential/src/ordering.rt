@@ -14,9 +14,8 @@ use array_maps::Maps;
 use bpf_step::LoopCall;
 use bpf_verify::{CallbackRows, Verified};
 
-/// The fewest iterations of a loop that is tried in batches: set-up clears 144 KB, which a shorter loop doesn't earn
-/// back.
-pub(crate) const FEWEST: u32 = 2048;
+/// The fewest iterations of a loop that is tried in batches: set-up clears 144 KB, which takes some 3 µs.
+pub(crate) const FEWEST: u32 = 512;
 
 /// Runs the iterations of a loop call that main of this program made, one after another on the maps, up
 /// to the first that returns 1, or all. Gives the loop's answer: how many ran. The maps are of the

@@ -1,6 +1,10 @@
 -- What an undo log keeps.
-use Rattle.std.proofs.Common.{◌≡◌, ℕ, ◌<◌, Bool, true, false, List, length, get_or, inl, inr, refl, sym, ◌∙◌, ap, arith}
-use Rattle.std.proofs.lemmas.Bool.{cases_Bool, both_ways, false_from_ne_true, or_parts, cond-true, cond-false}
+use Rattle.std.proofs.Common.{◌≡◌, ℕ, ◌+◌, ◌*◌, ◌/◌, ◌<◌, ◌≤◌, not, Bool, true, false, List, length, get_or, inl, inr}
+use Rattle.std.proofs.Common.{refl, sym, subst, ◌∙◌, ap, arith}
+use Rattle.std.proofs.lemmas.Bool.{cases_Bool, cases_lt, both_ways, false_from_ne_true, or_parts, cond-true, cond-false}
+use Rattle.std.proofs.lemmas.Bool.{not-true, not_from_false}
+use Rattle.std.proofs.lemmas.List.{get_or_past}
+use Rattle.std.proofs.Math.Nat.{mul-div_cancel}
 use Rattle.std.proofs.lemmas.Grind.{same_number_lists}
 use Rattle.std.proofs.lemmas.List.FromFn.{get_or-map-range_with_len, length-map-range_with_len}
 use Rattle.loop_core_undo.specs.declared.undo_log.UndoLog.{UndoLog}
@@ -81,3 +85,24 @@ empty_words_before log now unsaved =
     let within : e < length now = omega (arith, inside, long) in
     get_or-map-range_with_len (word_before log now) 0 (length now) e e 0 within (omega arith)
     ∙ from_now log now e (unsaved e))
+
+-- whether any of all pages is saved says it of the pages of all elements
+pub pages_unset : (saved : List Bool) (count : ℕ) (any : Bool) → count ≡ length saved
+    → (any ≡ false → (k : ℕ) → k < count → get_or saved (0 + k) false ≡ false)
+    × (((k : ℕ) → k < count → get_or saved (0 + k) false ≡ false) → any ≡ false)
+    → (not any ≡ true → (e : ℕ) → get_or saved (e / 64) false ≡ false)
+    × (((e : ℕ) → get_or saved (e / 64) false ≡ false) → not any ≡ true)
+pages_unset saved count any all is = (
+  λ none e. elim (cases_lt (e / 64) count) [
+    | inl within ↦ from_zero (e / 64) (is.0 (not-true any none) (e / 64) within)
+    | inr past ↦ get_or_past saved (e / 64) false (omega (arith, past, all))
+  ],
+  λ unset. not_from_false any (is.1 (λ page within.
+      subst (λ (n : ℕ). get_or saved n false ≡ false) (at_page page) (unset (page * 64)))),
+)
+  where
+    from_zero : (page : ℕ) → get_or saved (0 + page) false ≡ false → get_or saved page false ≡ false
+    from_zero page = subst (λ (n : ℕ). get_or saved n false ≡ false) (omega arith)
+
+    at_page : (page : ℕ) → page * 64 / 64 ≡ 0 + page
+    at_page page = let same : page * 64 / 64 ≡ page = mul-div_cancel page (omega arith) in omega (arith, same)

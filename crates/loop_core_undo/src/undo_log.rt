@@ -26,7 +26,7 @@ pub struct UndoLog {
 
 impl UndoLog {
     ghost use Rattle.array_maps.specs.MapList.{MapList};
-    ghost use Rattle.loop_core_undo.specs.Undo.{log_elements, is_written, words_before, IsEmpty, MarksMore};
+    ghost use Rattle.loop_core_undo.specs.Undo.{log_elements, is_saved, is_written, words_before, IsEmpty, MarksMore};
 
     /// An empty one for maps of n elements, at most 65,536.
     pub fn try_new(alloc: Global, elements: u32) -> Result<UndoLog, AllocError>
@@ -47,6 +47,14 @@ impl UndoLog {
         ensures { result ≡ log_elements self.now }
     {
         self.written.len() as u32
+    }
+
+    /// Whether no words are saved: then nothing was written.
+    pub fn is_clear(&self) -> bool
+        ensures clear { (result ≡ true) ↔ ((e : ℕ) → is_saved self.now e ≡ false) }
+        ensures unwritten { result ≡ true → (e : ℕ) → is_written self.now e ≡ false }
+    {
+        !is_any_set(&self.saved, 0, self.saved.len())
     }
 
     /// Whether an element, which is in range, was written.

@@ -1,6 +1,7 @@
 -- Values after lanes that change them one after another.
-use Rattle.std.proofs.Common.{◌≡◌, ℕ, zero, suc, ◌+◌, ◌<◌, ◌||◌, if◌then◌else◌, min, max, Bool, true, false, refl, sym}
-use Rattle.std.proofs.Common.{◌∙◌, ap, arith}
+use Rattle.std.proofs.Common.{◌≡◌, ℕ, zero, suc, ◌+◌, ◌<◌, ◌||◌, min, max, Bool, true, false, refl}
+use Rattle.std.proofs.Common.{inl, inr, arith}
+use Rattle.std.proofs.lemmas.Bool.{cases_eq}
 use Rattle.loop_marks.specs.SiteMarks.{kept, over_lanes, set_by_lane}
 
 -- no lane changes anything
@@ -8,9 +9,9 @@ pub over_none : {A : Type 0} → (change : A → ℕ → A) (does : ℕ → Bool
     → ((lane : ℕ) → lane < lanes → does lane ≡ false) → over_lanes change does lanes old ≡ old
 over_none change does zero old none = refl
 over_none change does (suc lane) old none =
-    ap (λ (b : Bool). if b then change (over_lanes change does lane old) lane else over_lanes change does lane old)
-    (none lane (omega arith))
-    ∙ over_none change does lane old (λ l less. none l (omega (arith, less)))
+    let before = over_none change does lane old (λ l less. none l (omega (arith, less))) in
+    let now = none lane (omega arith) in
+    grind (arith, before, now)
 
 -- changes whose order doesn't matter, nor whether one is made twice
 pub record IsMerge {A : Type 0} (change : A → ℕ → A) : Type 0 where
@@ -37,15 +38,10 @@ module _ {A : Type 0} (change : A → ℕ → A) (merge : IsMerge change) where
   over_pushed : (does : ℕ → Bool) (lanes : ℕ) (old : A) (l : ℕ)
       → over_lanes change does lanes (change old l) ≡ change (over_lanes change does lanes old) l
   over_pushed does zero old l = refl
-  over_pushed does (suc lane) old l = go (does lane) (over_pushed does lane old l)
-    where
-      go : (b : Bool)
-          → over_lanes change does lane (change old l) ≡ change (over_lanes change does lane old) l
-          → (if b then change (over_lanes change does lane (change old l)) lane
-          else over_lanes change does lane (change old l))
-          ≡ change (if b then change (over_lanes change does lane old) lane else over_lanes change does lane old) l
-      go true before = ap (λ (a : A). change a lane) before ∙ merge.swaps (over_lanes change does lane old) l lane
-      go false before = before
+  over_pushed does (suc lane) old l =
+      let before = over_pushed does lane old l in
+      let swap = merge.swaps (over_lanes change does lane old) l lane in
+      grind (arith, before, swap)
 
   -- lanes that do one thing, and then all that do another, are lanes that do either
   pub over_both : (first second both : ℕ → Bool) → ((lane : ℕ) → both lane ≡ (first lane || second lane))
@@ -53,30 +49,44 @@ module _ {A : Type 0} (change : A → ℕ → A) (merge : IsMerge change) where
       → over_lanes change second lanes (over_lanes change first lanes old) ≡ over_lanes change both lanes old
   over_both first second both is zero old = refl
   over_both first second both is (suc lane) old =
-      go (first lane) (second lane) (over_both first second both is lane old)
-      ∙ sym (ap (λ (b : Bool). if b then change (over_lanes change both lane old) lane
-      else over_lanes change both lane old) (is lane))
-    where
-      before : A
-      before = over_lanes change first lane old
+      let so_far = over_both first second both is lane old in
+      let pushed = over_pushed second lane (over_lanes change first lane old) lane in
+      let again = merge.repeats (over_lanes change second lane (over_lanes change first lane old)) lane in
+      let either = is lane in
+      grind (arith, so_far, pushed, again, either)
 
-      go : (f s : Bool) → over_lanes change second lane before ≡ over_lanes change both lane old
-          → (if s then change (over_lanes change second lane (if f then change before lane else before))
-          lane else over_lanes change second lane (if f then change before lane else before))
-          ≡ (if f || s then change (over_lanes change both lane old) lane else over_lanes change both lane old)
-      go true true so_far = ap (λ (a : A). change a lane) (over_pushed second lane before lane)
-          ∙ merge.repeats (over_lanes change second lane before) lane ∙ ap (λ (a : A). change a lane) so_far
-      go true false so_far = over_pushed second lane before lane ∙ ap (λ (a : A). change a lane) so_far
-      go false true so_far = ap (λ (a : A). change a lane) so_far
-      go false false so_far = so_far
+  -- the change of one lane, if it covers those of the others, is all that is left
+  covered : (does : ℕ → Bool) (k lanes : ℕ) (old : A)
+      → ((a : A) (l : ℕ) → l < lanes → does l ≡ true → change (change a l) k ≡ change a k)
+      → change (over_lanes change does lanes old) k ≡ change old k
+  covered does k zero old covers = refl
+  covered does k (suc lane) old covers =
+      let before = covered does k lane old (λ a l less. covers a l (omega (arith, less))) in
+      let now = covers (over_lanes change does lane old) lane (omega arith) in
+      grind (arith, before, now)
+
+  pub over_covered : (does : ℕ → Bool) (k lanes : ℕ) (old : A) → does k ≡ true → k < lanes
+      → ((a : A) (l : ℕ) → l < lanes → does l ≡ true → change (change a l) k ≡ change a k)
+      → over_lanes change does lanes old ≡ change old k
+  over_covered does k zero old is less covers = absurd (omega (arith, less))
+  over_covered does k (suc lane) old is less covers =
+      let below : (a : A) (l : ℕ) → l < lane → does l ≡ true → change (change a l) k ≡ change a k =
+      λ a l less. covers a l (omega (arith, less)) in
+      elim (cases_eq k lane) [
+        | inl same ↦ let before = covered does k lane old below in grind (arith, before, same, is)
+        | inr other ↦
+            let before = over_covered does k lane old is (omega (arith, less, other)) below in
+            let swap = merge.swaps old k lane in
+            let now = covers old lane (omega arith) in
+            grind (arith, before, swap, now)
+      ]
 
 -- lanes below a number that do the same
 pub over_alike : {A : Type 0} → (change : A → ℕ → A) (does other : ℕ → Bool) (lanes : ℕ) (old : A)
     → ((lane : ℕ) → lane < lanes → does lane ≡ other lane)
     → over_lanes change does lanes old ≡ over_lanes change other lanes old
 over_alike change does other zero old alike = refl
-over_alike {A} change does other (suc lane) old alike =
-    ap (λ (b : Bool). if b then change (over_lanes change does lane old) lane else over_lanes change does lane old)
-    (alike lane (omega arith))
-    ∙ ap (λ (a : A). if other lane then change a lane else a)
-    (over_alike change does other lane old (λ l less. alike l (omega (arith, less))))
+over_alike change does other (suc lane) old alike =
+    let before = over_alike change does other lane old (λ l less. alike l (omega (arith, less))) in
+    let now = alike lane (omega arith) in
+    grind (arith, before, now)

@@ -1,7 +1,7 @@
 -- Marks of lanes, site by site.
 use Rattle.std.proofs.Common.{◌≡◌, ℕ, ◌+◌, ◌*◌, ◌<◌, ◌≤◌, ◌==◌, ◌&&◌, ◌||◌, if◌then◌else◌}
 use Rattle.std.proofs.Common.{Bool, true, false, List, [], ◌∷◌, length, drop, slice_index_or, refl, sym, subst}
-use Rattle.std.proofs.Common.{◌∙◌, ap, arith, map, ne_eqb, Option, Some, None}
+use Rattle.std.proofs.Common.{◌∙◌, ap, arith, map, Option, Some, None}
 use Rattle.std.proofs.Math.Bool.{or-false}
 use Rattle.std.proofs.lemmas.List.{drop_all, drop_more}
 use Rattle.array_maps.specs.declared.access.Op.{Op}
@@ -11,6 +11,7 @@ use Rattle.loop_core_model.specs.Planes.{bit_of}
 use Rattle.loop_core_batch.specs.Effects.{Effect, EffectLog, effects_of, with_effect}
 use Rattle.lane_rows.specs.declared.mask.Mask.{Mask}
 use Rattle.lane_rows.specs.declared.places.Places.{Places}
+use Rattle.lane_rows.specs.Lanes.{MaskHas}
 use Rattle.lane_rows.specs.Rows.{is_in, place_at}
 use Rattle.lane_stamps.specs.declared.kind.Kind.{Kind}
 use Rattle.lane_stamps.specs.declared.site.Site.{Site}
@@ -44,21 +45,11 @@ touches_one holds kind mask places values e lane =
     effect : Effect
     effect = effect_by kind (place_at places lane) (values lane)
 
-    either : (h b : Bool) → ((b && h) || false) ≡ (h && b)
-    either true true = refl
-    either true false = refl
-    either false true = refl
-    either false false = refl
-
-    none : (h : Bool) → false ≡ (h && false)
-    none true = refl
-    none false = refl
-
     go : (there : Bool) → is_touched_by holds e (map touch_by (with_effect (if there then Some effect else None) []))
         ≡ (holds (touch_by effect).kind
         && (there && (element_named (is_of_halves kind) (place_at places lane) == e)))
-    go true = either (holds (touch_by effect).kind) (element_named (is_of_halves kind) (place_at places lane) == e)
-    go false = none (holds (touch_by effect).kind)
+    go true = grind arith
+    go false = grind arith
 
 -- so lanes change values
 over_kind : {A : Type 0} → (change : A → ℕ → A) (holds : AccessKind → Bool) (kind : Kind) (mask : Mask)
@@ -77,16 +68,8 @@ and_false false = refl
 gets_none : (elements lanes : ℕ) (halves : Bool) (mask : Mask) (places : Places) (e : ℕ) → elements ≤ e
     → AreBelow elements lanes halves mask places → (lane : ℕ) → lane < lanes
     → gets_to halves mask places e lane ≡ false
-gets_none elements lanes halves mask places e past below lane less = go (is_in mask lane) refl
-  where
-    go : (there : Bool) → is_in mask lane ≡ there
-        → gets_to halves mask places e lane ≡ false
-    go true there =
-        let low : element_named halves (place_at places lane) < elements = below lane less there in
-        ap (λ (b : Bool). is_in mask lane && b)
-        (ne_eqb (element_named halves (place_at places lane)) e (λ same. absurd (omega (arith, low, same, past))))
-        ∙ and_false (is_in mask lane)
-    go false there = ap (λ (b : Bool). b && (element_named halves (place_at places lane) == e)) there
+gets_none elements lanes halves mask places e past below lane less =
+    let low = below lane less in grind (arith, low, past)
 
 set_plane : (elements lanes : ℕ) (done halves : Bool) (mask : Mask) (places : Places) (old new : List ℕ)
     → AreBelow elements lanes halves mask places → SetsBits (reaches halves mask places done) lanes old new
@@ -107,7 +90,6 @@ more_elements : (elements count : ℕ) (reached : Reached) (lie : Elements) → 
     → AreElements count lie reached.halves reached.mask.now reached.places.now reached.lanes
 more_elements elements count reached (One at) more are = record {
   within = (let low = are.within in omega (arith, low, more));
-  some = are.some;
   each = are.each;
 }
 more_elements elements count reached (Run start) more are = record {
@@ -122,6 +104,8 @@ pub more_reached : (elements count : ℕ) (reached : Reached) → elements ≤ c
 more_reached elements count reached more are = record {
   room = are.room;
   below = λ lane less there. (let low = are.below lane less there in omega (arith, low, more));
+  first = are.first;
+  last = are.last;
   elements = more_elements elements count reached reached.elements more are.elements;
 }
 
@@ -173,25 +157,23 @@ run_reached count start reached is are = lie_so count reached (Run start) is are
 
 module _ (reached : Reached) (done : Bool) where
   -- if nothing is done, all stays
-  none_reached : done ≡ false → (e lane : ℕ) → false ≡ reached_by reached done e lane
-  none_reached none e lane =
-      sym (ap (λ (b : Bool). b && gets_to reached.halves reached.mask.now reached.places.now e lane) none)
+  none_reached : done ≡ false → (e lane : ℕ) → lane < reached.lanes → reached_by reached done e lane ≡ false
+  none_reached none e lane less =
+      ap (λ (b : Bool). b && gets_to reached.halves reached.mask.now reached.places.now e lane) none
 
   pub none_set : (words : List ℕ) → done ≡ false → SetsBits (reached_by reached done) reached.lanes words words
-  none_set words none = sets_alike (λ e lane. false) (reached_by reached done) reached.lanes words words
-      (λ e lane less. none_reached none e lane) (record {
-        count = refl;
-        bits = λ e. sym (over_none set_by_lane (λ lane. false) reached.lanes (bit_of words e) (λ lane less. refl));
-      })
+  none_set words none = record {
+    count = refl;
+    bits = λ e. sym (over_none set_by_lane _ reached.lanes (bit_of words e) (none_reached none e));
+  }
 
   pub none_kept : (greatest : Bool) (index : ℕ) (numbers : List ℕ) → done ≡ false
       → KeepsNumbers greatest (reached_by reached done) reached.lanes index numbers numbers
-  none_kept greatest index numbers none = keeps_alike greatest (λ e lane. false) (reached_by reached done)
-      reached.lanes index numbers numbers (λ e lane less. none_reached none e lane) (record {
-        count = refl;
-        numbers = λ e. sym (over_none (kept greatest index) (λ lane. false) reached.lanes (slice_index_or numbers e 0)
-            (λ lane less. refl));
-      })
+  none_kept greatest index numbers none = record {
+    count = refl;
+    numbers = λ e. sym (over_none (kept greatest index) _ reached.lanes (slice_index_or numbers e 0)
+        (none_reached none e));
+  }
 
   -- what lanes do is known, if something is done
   done_reached : (does : ℕ → ℕ → Bool) → done ≡ true
@@ -365,22 +347,42 @@ marks_next_site sites rows index lanes k d old now next inside before one new ot
     (sites_next (effect_at rows (slice_index_or sites k d)) (log_of (drop (k + 1) sites) rows) index lanes now next new
     one others))
 
-tested_same : (index lanes : ℕ) (tested : Tested) → test_of tested ≡ Flow → TestedMarked [] index lanes tested tested
-tested_same index lanes (ByFlow planes) flow = record {
-  first = λ e. sym (over_none (kept false index) (λ lane. false) lanes (slice_index_or planes.first.items e 0)
-      (λ lane less. refl));
-  last = λ e. sym (over_none (kept true index) (λ lane. false) lanes (slice_index_or planes.last.items e 0)
-      (λ lane less. refl));
-}
-tested_same index lanes (ByLrpd planes) flow = absurd (cc)
+-- where no lane does anything nothing is marked
+module _ (log : EffectLog) (index lanes : ℕ) (none : (lane : ℕ) → lane < lanes → effects_of log lane ≡ []) where
+  untouched : (holds : AccessKind → Bool) (e lane : ℕ) → lane < lanes
+      → is_touched_by holds e (lane_touches log lane) ≡ false
+  untouched holds e lane less = ap (λ (effects : List Effect). is_touched_by holds e (map touch_by effects))
+      (none lane less)
+
+  tested_same : (tested : Tested) → test_of tested ≡ Flow → TestedMarked log index lanes tested tested
+  tested_same (ByFlow planes) flow = record {
+    first = λ e. sym (over_none (kept false index) _ lanes (slice_index_or planes.first.items e 0)
+        (untouched kind_writes e));
+    last = λ e. sym (over_none (kept true index) _ lanes (slice_index_or planes.last.items e 0)
+        (untouched kind_looks e));
+  }
+  tested_same (ByLrpd planes) flow = absurd (cc)
+
+  pub unmarked : (now : Planes) → ArePlanes now → test_of now.tested ≡ Flow → SitesMarked log index lanes now now
+  unmarked now are flow = record {
+    shape = record { whole = are; elements = refl; test = refl };
+    plain = λ e. sym (over_none set_by_lane _ lanes (bit_of now.plain.items e) (untouched kind_is_plain e));
+    by = λ op e. sym (over_none set_by_lane _ lanes (bit_of (plane_by now.operators op) e)
+        (untouched (kind_reduces_by op) e));
+    tested = tested_same now.tested flow;
+  }
 
 pub marks_of_all : (sites : List Site) (rows : LaneRows) (index lanes k : ℕ) (old now : Planes) → length sites ≤ k
     → ArePlanes now → test_of now.tested ≡ Flow → MarksUpTo sites rows index lanes k old now
     → SitesMarked (log_of sites rows) index lanes old now
-marks_of_all sites rows index lanes k old now all are flow before = before now (rw (drop_all k sites all) (record {
-  shape = record { whole = are; elements = refl; test = refl };
-  plain = λ e. sym (over_none set_by_lane (λ lane. false) lanes (bit_of now.plain.items e) (λ lane less. refl));
-  by = λ op e. sym (over_none set_by_lane (λ lane. false) lanes (bit_of (plane_by now.operators op) e)
-      (λ lane less. refl));
-  tested = tested_same index lanes now.tested flow;
-}))
+marks_of_all sites rows index lanes k old now all are flow before =
+    before now (rw (drop_all k sites all) (unmarked [] index lanes (λ lane less. refl) now are flow))
+
+pub none_made : (kind : Kind) (mask : Mask) (places : Places) (values : ℕ → ℕ) (index lanes : ℕ) (now : Planes)
+    → MaskHas lanes (λ _. false) mask → ArePlanes now → test_of now.tested ≡ Flow
+    → SitesMarked (effect_if kind mask places values ∷ []) index lanes now now
+none_made kind mask places values index lanes now none =
+    unmarked (effect_if kind mask places values ∷ []) index lanes
+    (λ lane less. ap (λ (b : Bool).
+    with_effect (if b then Some (effect_by kind (place_at places lane) (values lane)) else None) [])
+    (none lane less)) now

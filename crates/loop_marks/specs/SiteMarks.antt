@@ -92,14 +92,13 @@ pub record IsRun (count start : ℕ) (halves : Bool) (mask : Mask) (places : Pla
   pub small : start + lanes < 4294967296
   pub each : (e lane : ℕ) → lane < lanes → gets_to halves mask places e lane ≡ runs_to start e lane
 
--- or all to one element
-abbrev pub is_at : (at e lane : ℕ) → Bool
-is_at at e lane = at == e
+-- or those of a mask all to one element
+abbrev pub is_at : Mask → (at e lane : ℕ) → Bool
+is_at mask at e lane = (e == at) && is_in mask lane
 
 pub record IsOne (count at : ℕ) (halves : Bool) (mask : Mask) (places : Places) (lanes : ℕ) : Type 0 where
   pub within : at < count
-  pub some : 0 < lanes
-  pub each : (e lane : ℕ) → lane < lanes → gets_to halves mask places e lane ≡ is_at at e lane
+  pub each : (e lane : ℕ) → lane < lanes → gets_to halves mask places e lane ≡ is_at mask at e lane
 
 -- elements below a number lie so
 abbrev pub AreElements : (count : ℕ) → Elements → (halves : Bool) → Mask → Places → (lanes : ℕ) → Type 0
@@ -107,10 +106,19 @@ AreElements count (One at) halves mask places lanes = IsOne count at halves mask
 AreElements count (Run start) halves mask places lanes = IsRun count start halves mask places lanes
 AreElements count Any halves mask places lanes = Unit {0}
 
+-- a lane is the first of those that a mask has, or the last
+pub record IsEnd (mask : Mask) (greatest : Bool) (lanes end : ℕ) : Type 0 where
+  pub there : is_in mask end ≡ true
+  pub within : end < lanes
+  pub first : greatest ≡ false → (lane : ℕ) → lane < lanes → is_in mask lane ≡ true → end ≤ lane
+  pub last : greatest ≡ true → (lane : ℕ) → lane < lanes → is_in mask lane ≡ true → lane ≤ end
+
 -- lanes get to elements below a number, which lie as is said of them
 pub record AreReached (count : ℕ) (reached : Reached) : Type 0 where
   pub room : reached.lanes ≤ 256
   pub below : AreBelow count reached.lanes reached.halves reached.mask.now reached.places.now
+  pub first : IsEnd reached.mask.now false reached.lanes reached.first
+  pub last : IsEnd reached.mask.now true reached.lanes reached.last
   pub elements : AreElements count reached.elements reached.halves reached.mask.now reached.places.now reached.lanes
 
 -- numbers after each lane kept its own in the elements that it gets to

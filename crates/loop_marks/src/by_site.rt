@@ -1,22 +1,23 @@
 //! Marks of the lanes of a batch for the flow test, site by site.
 
-ghost use Rattle.std.specs.Prelude.{◌≡◌, ℕ, ◌+◌, ◌-◌, ◌*◌, ◌%◌, ◌^◌, ◌<◌, ◌≤◌, ◌∷◌, [], true, length};
-ghost use Rattle.std.specs.Prelude.{slice_index, if◌then◌else◌};
+ghost use Rattle.std.specs.Prelude.{◌≡◌, ℕ, ◌+◌, ◌-◌, ◌*◌, ◌%◌, ◌^◌, ◌<◌, ◌≤◌, ◌∷◌, [], true, false, length};
+ghost use Rattle.std.specs.Prelude.{slice_index, IfNone, IfSome};
 ghost use Rattle.std.specs.List.{All};
 ghost use Rattle.array_maps.specs.declared.access.Op.{Op as Operator};
+ghost use Rattle.lane_rows.specs.Lanes.{MaskHas};
 ghost use Rattle.lane_stamps.specs.Sites.{HasRows, IsWithin, effect_at, effect_if, is_of_halves, log_of};
 ghost use Rattle.lane_stamps.specs.Sites.{shown};
 ghost use Rattle.loop_core_model.specs.declared.loop_test.Test.TheVariants.{Flow};
 ghost use Rattle.shadow_marks.specs.Bits.{ChangesNumber, OrsBit};
 ghost use Rattle.shadow_marks.specs.Standing.{ArePlanes, EachPlane, plane_by, test_of};
-ghost use Rattle.loop_marks.specs.SiteMarks.{AreBelow, AreElements, AreReached, FlowKeeps, HaveNumbers, KeepsNumbers};
-ghost use Rattle.loop_marks.specs.SiteMarks.{SetsBits, SitesMarked, gets_to, kept, kind_is_plain, kind_looks};
-ghost use Rattle.loop_marks.specs.SiteMarks.{kind_reduces_by, kind_writes, reached_by, runs_to};
+ghost use Rattle.loop_marks.specs.SiteMarks.{AreBelow, AreElements, AreReached, FlowKeeps, HaveNumbers, IsEnd};
+ghost use Rattle.loop_marks.specs.SiteMarks.{KeepsNumbers, SetsBits, SitesMarked, gets_to, kept, kind_is_plain};
+ghost use Rattle.loop_marks.specs.SiteMarks.{kind_looks, kind_reduces_by, kind_writes, reached_by, runs_to};
 
 use crate::marking::access_of;
 use array_maps::Op;
 use lane_rows::{Mask, Places};
-use lane_stamps::{Form, Kind, Lanes, Site, element_of, form_of, has, place_of};
+use lane_stamps::{Form, Kind, Lanes, Site, element_of, form_of, place_on};
 use loop_core_model::Access;
 use shadow_marks::{OperatorPlanes, Planes, Tested};
 
@@ -74,6 +75,12 @@ fn mark_accesses(
     ensures { (values : ℕ → ℕ)
         → SitesMarked (effect_if kind mask.now places.now values ∷ []) index lanes planes.old planes.new }
 {
+    let Some(first) = end_of(mask, false, lanes) else {
+        return;
+    };
+    let Some(last) = end_of(mask, true, lanes) else {
+        return;
+    };
     let halves = kind.is_of_halves();
     let elements = elements_of(halves, mask, places, lanes, planes.elements);
     let reached = Reached {
@@ -81,6 +88,8 @@ fn mark_accesses(
         mask,
         places,
         lanes,
+        first,
+        last,
         elements,
     };
     let access = access_of(kind);
@@ -92,9 +101,9 @@ fn mark_accesses(
 /// How the elements of lanes lie.
 #[derive(Clone, Copy)]
 pub(crate) enum Elements {
-    /// All lanes get to this one.
+    /// All lanes of the mask get to this one.
     One(usize),
-    /// They all get to elements that run on one after another, from this one on.
+    /// All lanes get to elements that run on one after another, from this one on.
     Run(usize),
     /// Anyhow.
     Any,
@@ -111,6 +120,10 @@ pub(crate) struct Reached<'a> {
     places: &'a Places,
     /// How many lanes there are.
     lanes: u32,
+    /// The first of them that gets there.
+    first: u32,
+    /// And the last.
+    last: u32,
     /// How their elements lie.
     elements: Elements,
 }
@@ -120,13 +133,10 @@ fn elements_of(halves: bool, mask: &Mask, places: &Places, lanes: u32, elements:
     requires { lanes ≤ 256 }
     ensures { AreElements elements result halves mask.now places.now lanes }
 {
-    if !mask.all || lanes == 0 {
-        return Elements::Any;
-    }
     match form_of(places, halves, lanes as usize, elements as usize) {
         Form::One(place) => Elements::One(element_of(halves, place)),
-        Form::Run(first) => Elements::Run(element_of(halves, first)),
-        Form::Any => Elements::Any,
+        Form::Run(first) if mask.all => Elements::Run(element_of(halves, first)),
+        _ => Elements::Any,
     }
 }
 
@@ -181,9 +191,11 @@ fn set_each(words: &mut [u64], halves: bool, mask: &Mask, places: &Places, lanes
     requires within { AreBelow (64 * length words.old) lanes halves mask.now places.now }
     ensures { SetsBits (gets_to halves mask.now places.now) lanes words.old words.new }
 {
+    let all = mask.all;
+    let line = places.line;
     for lane in 0..lanes as usize {
-        if has(mask, lane) {
-            set_bit(words, element_of(halves, place_of(places, lane)));
+        if all || mask.lanes[lane] {
+            set_bit(words, element_of(halves, place_on(line, places, lane)));
         }
     }
 }
@@ -225,7 +237,11 @@ fn keep_numbers(numbers: &mut [u32], done: bool, greatest: bool, reached: Reache
     if done {
         match reached.elements {
             Elements::One(at) => {
-                let lane = kept_lane(greatest, reached.lanes);
+                let lane = if greatest {
+                    reached.last
+                } else {
+                    reached.first
+                };
                 keep(numbers, at, greatest, index, lane);
             }
             Elements::Run(start) => keep_run(numbers, greatest, start, reached.lanes, index),
@@ -257,9 +273,11 @@ fn keep_each(
     requires within { AreBelow (length numbers.old) lanes halves mask.now places.now }
     ensures { KeepsNumbers greatest (gets_to halves mask.now places.now) lanes index numbers.old numbers.new }
 {
+    let all = mask.all;
+    let line = places.line;
     for lane in 0..lanes {
-        if has(mask, lane as usize) {
-            let e = element_of(halves, place_of(places, lane as usize));
+        if all || mask.lanes[lane as usize] {
+            let e = element_of(halves, place_on(line, places, lane as usize));
             keep(numbers, e, greatest, index, lane);
         }
     }
@@ -276,13 +294,19 @@ fn keep_run(numbers: &mut [u32], greatest: bool, start: usize, lanes: u32, index
     }
 }
 
-/// The lane whose number an element keeps to which all get.
-#[inline(always)]
-fn kept_lane(greatest: bool, lanes: u32) -> u32
-    requires { 0 < lanes }
-    ensures { result ≡ if greatest then lanes - 1 else 0 }
+/// The first lane of a mask, or the last, if it has any.
+fn end_of(mask: &Mask, greatest: bool, lanes: u32) -> Option<u32>
+    requires { lanes ≤ 256 }
+    ensures end { IfSome result (IsEnd mask.now greatest lanes) }
+    ensures none { IfNone result (MaskHas lanes (λ _. false) mask.now) }
 {
-    if greatest { lanes - 1 } else { 0 }
+    for step in 0..lanes {
+        let lane = if greatest { lanes - 1 - step } else { step };
+        if mask.all || mask.lanes[lane as usize] {
+            return Some(lane);
+        }
+    }
+    None
 }
 
 /// Keeps the lesser of two numbers in an element, or the greater: the one that is there, and that of a lane.

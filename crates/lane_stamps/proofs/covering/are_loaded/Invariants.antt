@@ -1,9 +1,10 @@
 use Rattle.std.proofs.Common.{◌≡◌, ℕ, ◌<◌, true, slice_index_or}
 use Rattle.lane_stamps.specs.declared.site.Site.{Site}
 use Rattle.lane_stamps.specs.Sites.{shown}
-use Rattle.lane_stamps.specs.Marks.{IsPlain}
+use Rattle.lane_stamps.specs.Marks.{EachThere, IsPlain}
 use Rattle.lane_stamps.proofs.covering.are_loaded.Given as goal
 
 abbrev pub invariant-loop-site : goal.invariant-loop-site
 invariant-loop-site l = (k : ℕ) (d : Site) → k < l.site-index → (slice_index_or l.sites k d).watched ≡ true
-    → IsPlain l.sites (shown l.lanes) l.halves (slice_index_or l.sites k d)
+    → EachThere (shown l.lanes) l.count (slice_index_or l.sites k d)
+    (IsPlain l.sites (shown l.lanes) l.halves (slice_index_or l.sites k d))

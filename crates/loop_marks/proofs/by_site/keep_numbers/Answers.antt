@@ -1,20 +1,23 @@
-use Rattle.std.proofs.Common.{ℕ, length, slice_index, subst}
-use Rattle.shadow_marks.specs.Bits.{ChangesNumber}
-use Rattle.loop_marks.specs.SiteMarks.{is_at, kept, runs_to}
+use Rattle.std.proofs.Common.{length}
+use Rattle.loop_marks.specs.SiteMarks.{IsEnd, is_at, runs_to}
 use Rattle.loop_marks.proofs.OneLaws.{one_kept}
 use Rattle.loop_marks.proofs.SiteLaws.{none_kept, one_reached, run_reached, some_kept}
 use Rattle.loop_marks.proofs.by_site.keep_numbers.Goals as goal
+use Rattle.loop_marks.proofs.by_site.keep_numbers.Goals.{then-greatest, else-greatest}
 
-pub returns-in-One : goal.returns-in-One
-returns-in-One c =
-    let one = one_reached (length c.args.numbers.now) c.in-One.at c.args.reached c.in-One.is c.requires.reached in
-    some_kept c.args.reached c.args.done (is_at c.in-One.at) c.args.greatest c.args.index c.args.numbers.now
-    c.keep.new.numbers c.if-done.true one.each
-    (one_kept c.in-One.at c.args.reached.lanes one.some c.args.greatest c.args.index c.args.numbers.now
-    c.keep.new.numbers
-    (subst (λ (lane : ℕ). ChangesNumber c.args.numbers.now c.keep.new.numbers c.in-One.at
-    (kept c.args.greatest c.args.index (slice_index c.args.numbers.now c.in-One.at) lane)) c.kept_lane-lane.ensures
-    c.keep.ensures))
+pub returns-after-greatest : goal.returns-after-greatest
+returns-after-greatest c =
+    let at = c.in-One.at in
+    let one = one_reached (length c.args.numbers.now) at c.args.reached c.in-One.is c.requires.reached in
+    let end : IsEnd c.args.reached.mask.now c.args.greatest c.args.reached.lanes c.if-greatest.lane =
+    elim c.if-greatest.branch [
+      | then-greatest w ↦ rw w.lane-is (rw w.if-greatest.true c.requires.reached.last)
+      | else-greatest w ↦ rw w.lane-is (rw w.if-greatest.false c.requires.reached.first)
+    ] in
+    some_kept c.args.reached c.args.done (is_at c.args.reached.mask.now at) c.args.greatest c.args.index
+    c.args.numbers.now c.keep.new.numbers c.if-done.true one.each
+    (one_kept c.args.reached.mask.now at c.args.reached.lanes c.args.greatest c.args.index c.if-greatest.lane
+    c.args.numbers.now c.keep.new.numbers end c.keep.ensures)
 
 pub returns-in-Run : goal.returns-in-Run
 returns-in-Run c =

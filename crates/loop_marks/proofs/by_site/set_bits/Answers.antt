@@ -6,9 +6,11 @@ use Rattle.loop_marks.proofs.by_site.set_bits.Goals as goal
 
 pub returns-in-One : goal.returns-in-One
 returns-in-One c =
-    let one = one_reached (64 * length c.args.words.now) c.in-One.at c.args.reached c.in-One.is c.requires in
-    some_set c.args.reached c.args.done (is_at c.in-One.at) c.args.words.now c.set_bit.new.words c.if-done.true
-    one.each (one_set c.in-One.at c.args.reached.lanes one.some c.args.words.now c.set_bit.new.words c.set_bit.ensures)
+    let at = c.in-One.at in
+    let one = one_reached (64 * length c.args.words.now) at c.args.reached c.in-One.is c.requires in
+    some_set c.args.reached c.args.done (is_at c.args.reached.mask.now at) c.args.words.now c.set_bit.new.words
+    c.if-done.true one.each (one_set c.args.reached.mask.now at c.args.reached.lanes c.args.reached.first
+    c.args.words.now c.set_bit.new.words c.requires.first c.set_bit.ensures)
 
 pub returns-in-Run : goal.returns-in-Run
 returns-in-Run c =
