@@ -1,9 +1,8 @@
 -- Loops whose iterations are marked, each on the start words.
 use Rattle.std.proofs.Common.{◌≡◌, ℕ, ◌+◌, ◌-◌, ◌<◌, ◌≤◌, true, false, ◌⊎◌, inl, inr, leb, map, Some}
-use Rattle.std.proofs.Common.{min, List, length, refl, sym, ap, subst, ◌∙◌, arith}
+use Rattle.std.proofs.Common.{List, length, refl, sym, ap, subst, ◌∙◌, arith}
 use Rattle.std.specs.List.{All, AllPairs}
 use Rattle.std.proofs.lemmas.Bool.Decides.{leb_tells}
-use Rattle.std.proofs.lemmas.List.{length-take}
 use Rattle.array_maps.specs.MapList.{AreWords}
 use Rattle.bpf_insn_types.specs.Program.{Program}
 use Rattle.bpf_step_model.specs.State.{LoopCall}
@@ -123,13 +122,6 @@ pub marked_log : (batch : Batch) (sites : List Site) (rows : LaneRows) → sites
 marked_log batch sites rows sites_are rows_are index lanes planes marked marks =
     subst (λ (log : EffectLog). LanesMarked log index lanes planes marked)
     (ap (λ (s : List Site). log_of s rows) sites_are ∙ ap (log_of (sites_of batch)) rows_are) marks
-
--- a batch has few sites
-pub few_sites : (batch : Batch) (sites : List Site) → sites ≡ sites_of batch → batch.count ≤ 64 → length sites ≤ 4096
-few_sites batch sites same few =
-    let many : length sites ≡ min batch.count (length batch.sites) =
-    ap length same ∙ length-take batch.count batch.sites in
-    omega (arith, many, few)
 
 -- the verdict by the program and the call that are a run's own
 pub have_verdict : (run : LoopRun) (program : Program) (call : LoopCall) → run.program.now ≡ program

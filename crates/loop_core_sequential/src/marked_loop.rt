@@ -19,7 +19,7 @@ use loop_marks::{LoopMarks, law_of_marked_loops};
 
 /// Marks what the iterations of a loop call that main of this program made do, each on these maps, in batches. The
 /// verdict on the loop is that of the marks, which elements conflict among them. `false` where one returns 1, or loads
-/// what it left itself, or they can't be run in batches: then the marks are of some iterations only. The maps are of the
+/// what it left itself, or they can't be run or marked in batches: then the marks are of some iterations only. The maps are of the
 /// program's sizes; the marks are for as many elements, and nothing is marked yet.
 pub fn mark_iterations(
     program: &Verified,
@@ -105,8 +105,7 @@ impl Batches {
         }
         let sites = self.batch.sites();
         let of_lanes = self.batch.lanes();
-        marks.mark_lanes(sites, of_lanes, lanes, index);
-        true
+        marks.mark_lanes(sites, of_lanes, lanes, index)
     }
 
     /// Runs so many iterations from an index on, each on the words of the maps. Whether all of them return 0, and load

@@ -10,11 +10,9 @@ use Rattle.loop_core_batch.specs.Effects.{EffectLog, effects_of}
 use Rattle.lane_stamps.specs.declared.kind.Kind.{Kind}
 use Rattle.lane_stamps.specs.declared.kind.Kind.TheVariants.{Load, LoadHalf, Store, Fetch, Replace, FetchHalf}
 use Rattle.lane_stamps.specs.declared.kind.Kind.TheVariants.{AddHalf, Apply}
-use Rattle.shadow_marks.specs.declared.iter_flags.IterFlags.{IterFlags}
 use Rattle.shadow_marks.specs.declared.planes.Planes.{Planes}
-use Rattle.shadow_marks.specs.Iteration.{flags_at}
 use Rattle.shadow_marks.specs.Standing.{StandFor, test_of}
-use Rattle.loop_marks.specs.Touches.{Touch, flags_after, touch_by, touches_of}
+use Rattle.loop_marks.specs.Touches.{Touch, touch_by, touches_of}
 use Rattle.loop_marks.specs.MarkedVerdicts.{marked_elements, visits_below}
 
 -- what is done at a site of a kind, as far as marks go: where a half is replaced its word is read and written
@@ -31,10 +29,6 @@ access_kind (Apply op) = Reduce op
 -- what a lane touches
 abbrev pub lane_touches : EffectLog → (lane : ℕ) → List Touch
 lane_touches log lane = map touch_by (effects_of log lane)
-
--- flags after more is touched, element by element
-abbrev pub FlagsMore : (old new : IterFlags) → List Touch → Type 0
-FlagsMore old new touches = (e : ℕ) → flags_at new e ≡ flags_after (flags_at old e) e touches
 
 -- iterations from an index on touch what the lanes do
 abbrev pub LanesTouch : EffectLog → (index lanes : ℕ) → (made : ℕ → List Access) → Type 0

@@ -10,11 +10,11 @@ ghost use Rattle.lane_stamps.specs.Sites.{shown};
 ghost use Rattle.loop_core_model.specs.declared.loop_test.Test.TheVariants.{Flow};
 ghost use Rattle.shadow_marks.specs.Bits.{ChangesNumber, OrsBit};
 ghost use Rattle.shadow_marks.specs.Standing.{ArePlanes, EachPlane, plane_by, test_of};
+ghost use Rattle.loop_marks.specs.LaneMarks.{access_kind};
 ghost use Rattle.loop_marks.specs.SiteMarks.{AreBelow, AreElements, AreReached, FlowKeeps, HaveNumbers, IsEnd};
 ghost use Rattle.loop_marks.specs.SiteMarks.{KeepsNumbers, SetsBits, SitesMarked, gets_to, kept, kind_is_plain};
 ghost use Rattle.loop_marks.specs.SiteMarks.{kind_looks, kind_reduces_by, kind_writes, reached_by, runs_to};
 
-use crate::marking::access_of;
 use array_maps::Op;
 use lane_rows::{Mask, Places};
 use lane_stamps::{Form, Kind, Lanes, Site, element_of, form_of, place_on};
@@ -373,5 +373,19 @@ fn reduces(access: Access, op: Op) -> bool
     match access {
         Access::Reduce(other) => op == other,
         _ => false,
+    }
+}
+
+/// What an access of a kind is, as far as marks go.
+#[inline(always)]
+pub(crate) fn access_of(kind: Kind) -> Access
+    ensures { result ≡ access_kind kind }
+{
+    match kind {
+        Kind::Load | Kind::LoadHalf => Access::Read,
+        Kind::Store => Access::Write,
+        Kind::Fetch | Kind::Replace | Kind::FetchHalf => Access::Both,
+        Kind::AddHalf => Access::Reduce(Op::AddH),
+        Kind::Apply(op) => Access::Reduce(op),
     }
 }

@@ -2,7 +2,6 @@
 #![tactic(auto)]
 
 mod by_site;
-mod marking;
 mod marks;
 mod unseen;
 

@@ -1,18 +1,17 @@
 //! Marks of a loop's iterations.
 
-ghost use Rattle.std.specs.Prelude.{◌≡◌, ℕ, ◌+◌, ◌≤◌, IfOk, List, length};
+ghost use Rattle.std.specs.Prelude.{◌≡◌, ◌+◌, ◌≤◌, true, false, IfOk};
 ghost use Rattle.std.specs.List.{All};
 ghost use Rattle.lane_stamps.specs.Sites.{HasRows, IsWithin, log_of, shown};
-ghost use Rattle.loop_core_model.specs.Marks.{Visit};
 ghost use Rattle.shadow_marks.specs.Ending.{KeepsShape};
-ghost use Rattle.shadow_marks.specs.Iteration.{IsEmptied, element_count};
 ghost use Rattle.shadow_marks.specs.Standing.{ArePlanes, StandFor, no_visits, test_of};
 
-use crate::marking::mark_lanes;
+use crate::by_site::mark_sites;
+use crate::unseen::go_by_site;
 use lane_planes::{conflict_plane, verdict_of};
 use lane_stamps::{Lanes, Site};
 use loop_core_model::{Test, Verdict, law_of_planes};
-use shadow_marks::{IterFlags, Planes};
+use shadow_marks::Planes;
 use std::alloc::{AllocError, Global};
 
 /// What the iterations of a loop did, by their indexes, at each of n elements. All room is made once.
@@ -20,10 +19,6 @@ use std::alloc::{AllocError, Global};
 pub struct LoopMarks {
     /// The marks of iterations that ended.
     pub(crate) planes: Planes,
-    /// What the iteration under way did: nothing, between two of them.
-    flags: IterFlags,
-    ghost as_many: { element_count flags ≡ planes.elements },
-    ghost emptied: { IsEmptied flags },
 }
 
 impl LoopMarks {
@@ -38,7 +33,6 @@ impl LoopMarks {
     {
         Ok(LoopMarks {
             planes: Planes::try_new(alloc, elements, test)?,
-            flags: IterFlags::try_new(alloc, elements)?,
         })
     }
 
@@ -55,34 +49,29 @@ impl LoopMarks {
     }
 
     /// Marks what the first lanes of a batch did: they are the iterations from an index on, up to which marks were made.
-    pub fn mark_lanes(&mut self, sites: &[Site], of_lanes: Lanes<'_>, lanes: u32, index: u32)
+    /// `false` if they can't be marked site by site: the test isn't Flow, or a lane looks where it stored before. Then
+    /// the marks are as before.
+    pub fn mark_lanes(
+        &mut self,
+        sites: &[Site],
+        of_lanes: Lanes<'_>,
+        lanes: u32,
+        index: u32,
+    ) -> bool
         requires whole { ArePlanes self.old.planes }
-        requires few { length sites.now ≤ 4096 }
         requires room { lanes ≤ 256 }
         requires indexes { index + lanes ≤ 4294967295 }
         requires rows { All (HasRows (shown of_lanes)) sites.now }
         requires within { All (IsWithin self.old.planes.elements lanes (shown of_lanes)) sites.now }
         ensures shape { KeepsShape self.old.planes self.new.planes }
-        ensures marked { LanesMarked (log_of sites.now (shown of_lanes.entry)) index lanes self.old.planes
-            self.new.planes }
+        ensures marked { result ≡ true → LanesMarked (log_of sites.now (shown of_lanes.entry)) index lanes
+            self.old.planes self.new.planes }
+        ensures kept { result ≡ false → self.new ≡ self.old }
     {
-        mark_lanes(
-            &mut self.planes,
-            &mut self.flags,
-            sites,
-            of_lanes,
-            lanes,
-            index,
-        );
-    }
-
-    /// Takes away the marks of all iterations.
-    pub fn clear(&mut self)
-        requires { ArePlanes self.old.planes }
-        ensures shape { KeepsShape self.old.planes self.new.planes }
-        ensures none { (visits : ℕ → List Visit) → StandFor self.old.planes visits
-            → StandFor self.new.planes no_visits }
-    {
-        self.planes.clear();
+        if !go_by_site(&self.planes, sites, of_lanes, lanes) {
+            return false;
+        }
+        mark_sites(&mut self.planes, sites, of_lanes, lanes, index);
+        true
     }
 }

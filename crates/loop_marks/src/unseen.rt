@@ -1,20 +1,36 @@
-//! Sites at which no lane looks where it stored before.
+//! Whether lanes are marked site by site: so they are if none looks where it stored before.
 
 ghost use Rattle.std.specs.Prelude.{◌≡◌, ℕ, ◌<◌, ◌≤◌, true, false, length};
 ghost use Rattle.std.specs.List.{All};
 ghost use Rattle.lane_stamps.specs.Forms.{IsFormOf};
 ghost use Rattle.lane_stamps.specs.Sites.{HasRows, element_named, is_of_halves, place_of as place_in};
 ghost use Rattle.lane_stamps.specs.Sites.{places_of, shown};
+ghost use Rattle.loop_core_model.specs.declared.loop_test.Test.TheVariants.{Flow};
+ghost use Rattle.shadow_marks.specs.Standing.{test_of};
 ghost use Rattle.loop_marks.specs.SiteMarks.{AreUnseen, IsApart, IsUnseen, kind_looks};
 ghost use Rattle.loop_marks.specs.LaneMarks.{access_kind};
 
-use crate::by_site::looks;
-use crate::marking::access_of;
+use crate::by_site::{access_of, looks};
 use lane_stamps::{Form, Lanes, Site, element_of, form_of, has, place_of};
+use loop_core_model::Test;
+use shadow_marks::Planes;
+
+/// Whether lanes may be marked site by site: so they are for the flow test, if no lane looks where it stored before.
+pub(crate) fn go_by_site(planes: &Planes, sites: &[Site], of_lanes: Lanes<'_>, lanes: u32) -> bool
+    requires room { lanes ≤ 256 }
+    requires rows { All (HasRows (shown of_lanes)) sites.now }
+    ensures test { result ≡ true → test_of planes.now.tested ≡ Flow }
+    ensures unseen { result ≡ true → AreUnseen (shown of_lanes.entry) lanes sites.now }
+{
+    match planes.test() {
+        Test::Lrpd => false,
+        Test::Flow => are_unseen(sites, of_lanes, lanes),
+    }
+}
 
 /// Whether no lane looks at an element at a site where it stored at an earlier one: so what it does may be marked in
 /// any order of the sites.
-pub(crate) fn are_unseen(sites: &[Site], of_lanes: Lanes<'_>, lanes: u32) -> bool
+fn are_unseen(sites: &[Site], of_lanes: Lanes<'_>, lanes: u32) -> bool
     requires room { lanes ≤ 256 }
     requires rows { All (HasRows (shown of_lanes)) sites.now }
     ensures { result ≡ true → AreUnseen (shown of_lanes.entry) lanes sites.now }
