@@ -9,7 +9,7 @@ from pathlib import Path
 
 from .items import Item, without_comments
 
-USE = re.compile(r"(?:ghost )?use Rattle\.([\w.]+?)(?:\.\{([^}]*)\}| as (\w+))?;?$")
+USE = re.compile(r"(?:ghost )?use Rattle\.(.+?);?$")
 DEFINES = re.compile(r"(?:abbrev|unfoldable|opaque|pub)\s+(?:pub\s+)?(?:(?:record|data|abbrev|unfoldable)\s+)?(\S+)")
 CONSTRUCTOR = re.compile(r"  (?:pub )?([^\W\d]\w*'*) :")
 STD = "std"
@@ -35,16 +35,32 @@ class Imports:
 
     def read(self, line: str) -> None:
         """Reads one line, where it is an import."""
-        found = USE.fullmatch(line.strip())
-        if not found:
+        if not (found := USE.fullmatch(line.strip())):
             return
-        path, names, alias = found.groups()
-        place = Place(tuple(path.split(".")))
-        if alias:
-            self.places[alias] = place
-        for name in (names or "").split(","):
-            there, _, here = name.strip().partition(" as ")
-            self.names[here or there] = (place, there)
+        whole = "{" not in line
+        for path in _paths(found.group(1)):
+            there, _, here = path.partition(" as ")
+            *parts, name = there.split(".")
+            if whole:
+                self.places[here or name] = Place((*parts, name))
+            else:
+                self.names[here or name] = (Place(tuple(parts)), name)
+
+
+def _paths(text: str) -> Iterator[str]:
+    """The paths of an import: `a.{b.{c, d as e}, f}` imports `a.b.c`, `a.b.d as e` and `a.f`."""
+    if not text.endswith("}"):
+        yield text
+        return
+    before, _, inside = text[:-1].partition("{")
+    depth, part = 0, ""
+    for character in inside + ",":
+        depth += {"{": 1, "}": -1}.get(character, 0)
+        if character != "," or depth:
+            part += character
+            continue
+        yield from (before + path for path in _paths(part.strip()))
+        part = ""
 
 
 @dataclass

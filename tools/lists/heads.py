@@ -13,7 +13,7 @@ cites and no clause before it. The clause itself is in `src/`.
 Callers are proved to meet what is required. A call with an empty body is a theorem: its contract is the statement. If
 memory can run out, a contract says what is left then, never that memory suffices.
 
-`order` rests on theorems of `bpf_verify_sound` and `bpf_step_ir_sound`, `replay` and `run` also on those of
+`order` rests on theorems of `bpf_verify_sound` and `bpf_step`, `replay` and `run` also on those of
 `loop_core_model`, and `run` on that of `spec_run_workers`.
 """
 

@@ -57,7 +57,7 @@ pub use number::Number;
 """,
     "crates/halves/src/hidden.rt": "/// Not offered.\npub fn hide()\n{}\n",
     "crates/halves/src/number.rt": """\
-ghost use Rattle.halves.specs.Half.{whole_half, shared, IsSmall};
+ghost use Rattle.halves.specs.{Half.{whole_half, shared, IsSmall}};
 ghost use Rattle.halves.specs.Half as half;
 
 /// A number.

@@ -1,10 +1,7 @@
 -- A list of accesses acts on each element by itself.
-use Rattle.std.proofs.Common.{◌≡◌, ℕ, ◌<◌, Bool, true, false, List, [], ◌∷◌, length}
-use Rattle.std.proofs.Common.{slice_set, refl, sym, ◌∙◌, ap, subst}
-use Rattle.std.specs.Prelude.{slice_index, if◌then◌else◌, ◌==◌}
-use Rattle.std.proofs.Math.ListN.{length-set}
-use Rattle.std.proofs.lemmas.Bool.{eqb-true, eqb-false}
-use Rattle.std.proofs.lemmas.List.{get_or-set_same, get_or-set_other}
+use Rattle.std.proofs.Common.{◌≡◌, ℕ, ◌<◌, Bool, true, false, List, [], ◌∷◌, length, slice_set, refl, sym, ◌∙◌, ap}
+use Rattle.std.{proofs.{Common.{subst}, Math.ListN.{length-set}}, specs.Prelude.{slice_index, if◌then◌else◌, ◌==◌}}
+use Rattle.std.proofs.lemmas.{Bool.{eqb-true, eqb-false}, List.{get_or-set_same, get_or-set_other}}
 use Rattle.array_maps.specs.Accesses.{Access, left_by, left_by_all, actions_at, words_after, words_after_all}
 
 -- an access makes no element and loses none

@@ -1,12 +1,8 @@
 -- How many values lists of values have together.
-use Rattle.std.proofs.Common.{◌≡◌, ℕ, zero, suc, ◌+◌, ◌<◌, ◌≤◌, List, Vec, [], ◌∷◌, ◌++◌, length}
-use Rattle.std.proofs.Common.{get_or, refl, sym, ap, ◌∙◌, length-append, take, arith}
-use Rattle.std.proofs.lemmas.List.{append-nil, map-append}
-use Rattle.std.proofs.lemmas.List.Folds.{concat-append}
-use Rattle.std.proofs.lemmas.List.Sums.{sum_by-cons}
-use Rattle.std.proofs.Math.Seq.{take-suc}
-use Rattle.std.specs.declared.alloc.Global.{Global}
-use Rattle.std.specs.List.{concat, sum}
+use Rattle.std.proofs.Common.{◌≡◌, ℕ, zero, suc, ◌+◌, ◌<◌, ◌≤◌, List, Vec, [], ◌∷◌, ◌++◌, length, get_or, refl, sym, ap}
+use Rattle.std.proofs.{Common.{◌∙◌, length-append, take, arith}, lemmas.List.{append-nil, map-append}}
+use Rattle.std.proofs.{lemmas.List.{Folds.{concat-append}, Sums.{sum_by-cons}}, Math.Seq.{take-suc}}
+use Rattle.std.specs.{declared.alloc.Global.{Global}, List.{concat, sum}}
 use Rattle.array_maps.specs.MapList.{lists, lengths}
 
 -- a sum without its first number

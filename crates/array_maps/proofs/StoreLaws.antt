@@ -1,7 +1,6 @@
 -- Runs over any store.
 use Rattle.std.proofs.Common.{◌≡◌, List, [], ◌∷◌, ◌++◌, ℕ, refl, subst}
-use Rattle.array_maps.specs.Accesses.{Access, words_after, words_after_all}
-use Rattle.array_maps.specs.Store.{Effects}
+use Rattle.array_maps.specs.{Accesses.{Access, words_after, words_after_all}, Store.{Effects}}
 
 -- one access more at the end
 pub effects-more : {S : Type 0} (effect : S → Access → S → Type 0) (old between new : S) (accesses : List Access)

@@ -1,16 +1,10 @@
 -- What a program does to the elements of its maps. The maps are one list of words: the elements of map 0, then
 -- those of map 1, and so on.
-use Rattle.std.specs.Prelude.{◌≡◌, ℕ, zero, suc, ◌+◌, ◌<◌, ◌==◌, if◌then◌else◌}
-use Rattle.std.specs.Prelude.{List, [], ◌∷◌, length, slice_index, slice_set}
-use Rattle.bpf_insn_types.specs.declared.insn.Width.TheVariants.{W64}
-use Rattle.bpf_insn_types.specs.declared.insn.AluOp.{AluOp}
-use Rattle.bpf_insn_types.specs.Words.{alu}
-use Rattle.array_maps.specs.declared.access.Op.{Op}
-use Rattle.array_maps.specs.declared.access.Op.TheVariants.{Add, Or, And, Xor, AddH}
-use Rattle.array_maps.specs.declared.access.Rmw.{Rmw}
-use Rattle.array_maps.specs.declared.access.Rmw.TheVariants.{Op as Applies, Xchg, CmpXchg}
-use Rattle.array_maps.specs.declared.access.Half.TheVariants.{Low}
-use Rattle.array_maps.specs.declared.access.Part.{Part}
+use Rattle.std.specs.Prelude.{◌≡◌, ℕ, zero, suc, ◌+◌, ◌<◌, ◌==◌, if◌then◌else◌, List, [], ◌∷◌, length, slice_index}
+use Rattle.std.specs.Prelude.{slice_set}
+use Rattle.bpf_insn_types.specs.{declared.insn.{Width.TheVariants.{W64}, AluOp.{AluOp}}, Words.{alu}}
+use Rattle.array_maps.specs.declared.access.{Op.{Op, TheVariants.{Add, Or, And, Xor, AddH}}, Rmw.{Rmw}, Part.{Part}}
+use Rattle.array_maps.specs.declared.access.{Rmw.TheVariants.{Op as Applies, Xchg, CmpXchg}, Half.TheVariants.{Low}}
 use Rattle.array_maps.specs.declared.access.Part.TheVariants.{Whole, Half as Of}
 use Rattle.array_maps.specs.Halves.{half_of, with_half, halves_added}
 

@@ -1,8 +1,6 @@
 -- The halves of a word, as accesses of 4 bytes see them.
 use Rattle.std.specs.Prelude.{ℕ, ◌+◌, ◌*◌, ◌/◌, ◌%◌, ◌^◌}
-use Rattle.array_maps.specs.declared.access.Half.{Half}
-use Rattle.array_maps.specs.declared.access.Half.TheVariants.{Low, High}
-use Rattle.array_maps.specs.declared.access.Part.{Part}
+use Rattle.array_maps.specs.declared.access.{Half.{Half, TheVariants.{Low, High}}, Part.{Part}}
 use Rattle.array_maps.specs.declared.access.Part.TheVariants.{Whole, Half as Of}
 
 -- the lower or the upper 32 bits of a word

@@ -1,6 +1,5 @@
 -- A map list: the words of array maps of given sizes.
-use Rattle.std.specs.Prelude.{ℕ, ◌<◌, ◌^◌, List, Vec, length, map, take, replicate}
-use Rattle.std.specs.declared.alloc.Global.{Global}
+use Rattle.std.specs.{Prelude.{ℕ, ◌<◌, ◌^◌, List, Vec, length, map, take, replicate}, declared.alloc.Global.{Global}}
 use Rattle.std.specs.List.{AllByRecursion, concat, sum}
 
 -- the sizes of maps, and their words: those of map 0, then those of map 1, and so on

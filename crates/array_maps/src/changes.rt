@@ -1,8 +1,7 @@
 //! What accesses leave of a word.
 
 ghost use Rattle.std.specs.Prelude.{◌≡◌};
-ghost use Rattle.array_maps.specs.Halves.{halves_added};
-ghost use Rattle.array_maps.specs.Accesses.{combined, changed, exchanged};
+ghost use Rattle.array_maps.specs.{Halves.{halves_added}, Accesses.{combined, changed, exchanged}};
 
 use crate::access::{Half, Op, Part, Rmw};
 use crate::halves::{half_of, with_half};

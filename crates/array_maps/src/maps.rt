@@ -1,8 +1,7 @@
 //! The array maps of a program.
 
-ghost use Rattle.std.specs.Prelude.{◌≡◌, ◌≢◌, ℕ, ◌+◌, ◌<◌, ◌≤◌, ◌↔◌, length, slice_index, slice_range};
-ghost use Rattle.std.specs.Prelude.{slice_set, IfOk, OnOk, IfSome, IfNone, IsErrOf, false};
-ghost use Rattle.std.specs.List.{concat, sum};
+ghost use Rattle.std.specs.Prelude.{◌≡◌, ◌≢◌, ℕ, ◌+◌, ◌<◌, ◌≤◌, ◌↔◌, length, slice_index, slice_range, slice_set, IfOk};
+ghost use Rattle.std.specs.{Prelude.{OnOk, IfSome, IfNone, IsErrOf, false}, List.{concat, sum}};
 ghost use Rattle.bpf_insn_types.specs.Limits.{AreSizes, sizes_fit};
 ghost use Rattle.array_maps.specs.Accesses.{Reduce, Write, words_after_run};
 ghost use Rattle.array_maps.specs.MapList.{MapList, AreWords, base_of, zero_maps, lists, lengths, maps_of};

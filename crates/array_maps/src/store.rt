@@ -2,8 +2,7 @@
 
 ghost use Rattle.std.specs.Prelude.{◌≡◌, ◌≢◌, ℕ, ◌+◌, ◌<◌, ◌≤◌, ◌^◌, List, length, slice_index};
 ghost use Rattle.array_maps.specs.Accesses.{Access, Action, Read, Write, ReadWrite, Reduce, exchanged, words_after};
-ghost use Rattle.array_maps.specs.MapList.{AreWords};
-ghost use Rattle.array_maps.specs.Halves.{part_of, with_half};
+ghost use Rattle.array_maps.specs.{MapList.{AreWords}, Halves.{part_of, with_half}};
 
 use crate::access::{Half, Op, Part, Rmw};
 use crate::changes::{combine, exchange};
@@ -70,7 +69,7 @@ pub trait Store {
     ghost uses_one: { (old new : Self) (access : Access) → effect old access new → serves old ≤ serves new + 1 };
 }
 
-/// Maps always serve 4,096 accesses, and keep nothing beside their words.
+/// Maps always serve 4,096 accesses, and keep nothing but their words.
 impl Store for Maps {
     ghost use Rattle.std.proofs.Common.{ap, arith};
     ghost use Rattle.array_maps.specs.MapList.{MapList};

@@ -1,9 +1,6 @@
 -- The elements of a copy.
-use Rattle.std.proofs.Common.{ℕ, ◌<◌, length, arith}
-use Rattle.std.specs.Prelude.{slice_index}
-use Rattle.private_copy.specs.declared.private.Private.{Private}
-use Rattle.private_copy.specs.Cells.{cell_at}
-use Rattle.private_copy.specs.Shown.{copy_of, seen_word}
+use Rattle.std.{proofs.Common.{ℕ, ◌<◌, length, arith}, specs.Prelude.{slice_index}}
+use Rattle.private_copy.specs.{declared.private.Private.{Private}, Cells.{cell_at}, Shown.{copy_of, seen_word}}
 use Rattle.private_copy.proofs.AccessLaws.{shown_length}
 
 -- an element of the start words is one of those that are seen

@@ -1,14 +1,10 @@
 -- Slots and their bytes.
-use Rattle.std.proofs.Common.{◌≡◌, ℕ, zero, suc, ◌+◌, ◌*◌, ◌/◌, ◌%◌, ◌^◌, ◌≤◌, ◌<◌, List, []}
-use Rattle.std.proofs.Common.{◌∷◌, ◌++◌, length, get_or, refl, ap, ◌∙◌, arith, Fits}
-use Rattle.std.specs.Prelude.{ℤ, FitsSigned}
+use Rattle.std.proofs.Common.{◌≡◌, ℕ, zero, suc, ◌+◌, ◌*◌, ◌/◌, ◌%◌, ◌^◌, ◌≤◌, ◌<◌, List, [], ◌∷◌, ◌++◌, length, get_or}
+use Rattle.std.{proofs.Common.{refl, ap, ◌∙◌, arith, Fits}, specs.Prelude.{ℤ, FitsSigned}}
 use Rattle.std.specs.Int.{w16, w32, to_le_bytes, from_le_bytes, cast_unsigned, cast_signed}
 use Rattle.std.proofs.lemmas.Nat.{le_bytes_2, le_bytes_4, from_le_bytes-to_le_bytes_2, from_le_bytes-to_le_bytes_4}
-use Rattle.std.proofs.lemmas.Int.{of_z-to_z, to_z-of_z}
-use Rattle.std.proofs.Math.Facts.{sfits_to_z, Fits-of_z}
-use Rattle.bpf_insn.specs.declared.slot.Slot.{Slot}
-use Rattle.bpf_insn.specs.SlotBytes.{slot_bytes, slots_bytes, slot_at}
-use Rattle.bpf_insn.specs.Reading.{slots_in}
+use Rattle.std.proofs.{lemmas.Int.{of_z-to_z, to_z-of_z}, Math.Facts.{sfits_to_z, Fits-of_z}}
+use Rattle.bpf_insn.specs.{declared.slot.Slot.{Slot}, SlotBytes.{slot_bytes, slots_bytes, slot_at}, Reading.{slots_in}}
 use Rattle.bpf_insn.proofs.Spelled.{Holds}
 
 -- each number is a byte

@@ -1,29 +1,19 @@
 -- Reading instructions one after the other, as a loop does.
-use Rattle.std.proofs.Common.{◌≡◌, ℕ, zero, suc, ◌+◌, ◌-◌, ◌*◌, ◌/◌, ◌%◌, ◌≤◌, ◌<◌, cond, ltb, List, []}
-use Rattle.std.proofs.Common.{◌∷◌, ◌++◌, length, drop, take, Option, Some, None, Result, Ok, Err, refl}
-use Rattle.std.proofs.Common.{sym, ap, subst, ◌∙◌, append_assoc, length-drop, arith, inl, inr}
-use Rattle.std.proofs.lemmas.List.{append-nil, drop-drop, nil_from_length, get_or-drop, take_all}
-use Rattle.std.proofs.lemmas.Bool.{le-ltb, lt-ltb, cases_lt}
-use Rattle.bpf_insn_types.specs.declared.insn.Insn.{Insn}
-use Rattle.bpf_insn.specs.declared.slot.Slot.{Slot}
-use Rattle.bpf_insn.specs.declared.codec_error.CodecFault.{CodecFault}
-use Rattle.bpf_insn.specs.declared.codec_error.CodecFault.TheVariants as faults
-use Rattle.bpf_insn.specs.declared.codec_error.CodecError.{CodecError}
-use Rattle.bpf_insn.specs.declared.codec_error.CodecError.TheVariants.{Refused, Memory}
-use Rattle.bpf_insn_types.specs.Slots.{slots_of}
-use Rattle.bpf_insn.specs.SlotBytes.{slot_at}
-use Rattle.bpf_insn.specs.Reading.{insn_of_slot, front_slot, first_insn, FailsFirst, slots_in, first}
-use Rattle.bpf_insn.specs.Reading.{more_of, insn_before, end_of_bytes, insns_in, reading}
+use Rattle.std.proofs.Common.{◌≡◌, ℕ, zero, suc, ◌+◌, ◌-◌, ◌*◌, ◌/◌, ◌%◌, ◌≤◌, ◌<◌, cond, ltb, List, [], ◌∷◌, ◌++◌}
+use Rattle.std.proofs.Common.{length, drop, take, Option, Some, None, Result, Ok, Err, refl, sym, ap, subst, ◌∙◌}
+use Rattle.std.proofs.{Common.{append_assoc, length-drop, arith, inl, inr}, lemmas.Bool.{le-ltb, lt-ltb, cases_lt}}
+use Rattle.std.{proofs.lemmas.List.{append-nil, drop-drop, nil_from_length, get_or-drop, take_all}, specs.Global.{Vec}}
 use Rattle.std.specs.Prelude.{IfOk}
-use Rattle.std.specs.Global.{Vec}
+use Rattle.bpf_insn_types.specs.{declared.insn.Insn.{Insn}, Slots.{slots_of}, Values.{AreInsns}}
 use Rattle.bpf_insn_types.specs.Outcome.{RefusalMatches, MatchesUnlessMemory}
-use Rattle.bpf_insn.specs.CodecRefusal.{codec_refusal}
-use Rattle.bpf_insn_types.specs.Values.{AreInsns}
-use Rattle.bpf_insn.specs.Spelling.{program_spelling}
-use Rattle.bpf_insn.proofs.Spelled.{Reads}
-use Rattle.bpf_insn.proofs.SlotReads.{slot_reads}
+use Rattle.bpf_insn.specs.declared.{slot.Slot.{Slot}, codec_error.{CodecFault.{CodecFault}, CodecError.{CodecError}}}
+use Rattle.bpf_insn.specs.{declared.codec_error.CodecError.TheVariants.{Refused, Memory}, SlotBytes.{slot_at}}
+use Rattle.bpf_insn.specs.Reading.{insn_of_slot, front_slot, first_insn, FailsFirst, slots_in, first, more_of}
+use Rattle.bpf_insn.specs.{Reading.{insn_before, end_of_bytes, insns_in, reading}, CodecRefusal.{codec_refusal}}
+use Rattle.bpf_insn.{specs.Spelling.{program_spelling}, proofs.{Spelled.{Reads}, SlotReads.{slot_reads}}}
 use Rattle.bpf_insn.proofs.Bytes.{IsBytes, AreSlots, slots_in-are}
 use Rattle.bpf_insn.proofs.Programs.{of_ok, next_holds, taken_len, reading_found}
+use Rattle.bpf_insn.specs.declared.codec_error.CodecFault.TheVariants as faults
 
 -- ---- the slot at the front
 

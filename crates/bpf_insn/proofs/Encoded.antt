@@ -1,15 +1,10 @@
 -- Spelling instructions one after the other, as a loop does.
-use Rattle.std.proofs.Common.{◌≡◌, ℕ, ◌+◌, ◌*◌, ◌/◌, ◌%◌, ◌<◌, List, ◌∷◌, ◌++◌, length, drop, get_or, Result}
-use Rattle.std.proofs.Common.{Ok, Err, refl, sym, ap, ◌∙◌, append_assoc, length-append, arith}
-use Rattle.std.proofs.lemmas.List.{drop_more}
-use Rattle.bpf_insn_types.specs.declared.insn.Insn.{Insn}
-use Rattle.bpf_insn.specs.declared.codec_error.CodecError.{CodecError}
-use Rattle.bpf_insn.specs.declared.codec_error.CodecError.TheVariants.{Refused, Memory}
-use Rattle.bpf_insn_types.specs.Slots.{slots_of}
+use Rattle.std.proofs.Common.{◌≡◌, ℕ, ◌+◌, ◌*◌, ◌/◌, ◌%◌, ◌<◌, List, ◌∷◌, ◌++◌, length, drop, get_or, Result, Ok, Err}
+use Rattle.std.proofs.{Common.{refl, sym, ap, ◌∙◌, append_assoc, length-append, arith}, lemmas.List.{drop_more}}
+use Rattle.bpf_insn_types.specs.{declared.insn.Insn.{Insn}, Slots.{slots_of}, Outcome.{RefusalMatches}}
+use Rattle.bpf_insn.specs.declared.codec_error.CodecError.{CodecError, TheVariants.{Refused, Memory}}
 use Rattle.bpf_insn.specs.Spelling.{spelling, bytes_at, both_or_refusal, spelling_from, program_spelling, Appends}
-use Rattle.bpf_insn_types.specs.Outcome.{RefusalMatches}
-use Rattle.bpf_insn.specs.CodecRefusal.{codec_refusal}
-use Rattle.bpf_insn.proofs.Lengths.{spelled_len}
+use Rattle.bpf_insn.{specs.CodecRefusal.{codec_refusal}, proofs.Lengths.{spelled_len}}
 
 -- the first k instructions are spelled, and the rest is still to spell
 pub record IsBegun (is : List Insn) (k : ℕ) (bytes : List ℕ) : Type 0 where

@@ -1,18 +1,11 @@
 -- The opcode tables both ways, by computation.
-use Rattle.std.proofs.Common.{◌≡◌, ℕ, zero, suc, ◌<◌, Bool, true, false, Option, Some}
-use Rattle.std.proofs.Common.{None, refl, sym, subst, arith, eqb, inl, inr}
-use Rattle.std.specs.Prelude.{IfSome, ◌&&◌}
-use Rattle.std.proofs.lemmas.Bool.{eqb-true, cases_eq}
-use Rattle.bpf_insn_types.specs.declared.insn.Width.{Width}
-use Rattle.bpf_insn_types.specs.declared.insn.Size.{Size}
-use Rattle.bpf_insn_types.specs.declared.insn.ByteOrder.{ByteOrder}
-use Rattle.bpf_insn_types.specs.declared.insn.Compare.{Compare}
+use Rattle.std.proofs.Common.{◌≡◌, ℕ, zero, suc, ◌<◌, Bool, true, false, Option, Some, None, refl, sym, subst, arith}
+use Rattle.std.{proofs.{Common.{eqb, inl, inr}, lemmas.Bool.{eqb-true, cases_eq}}, specs.Prelude.{IfSome, ◌&&◌}}
+use Rattle.bpf_insn_types.specs.declared.insn.{Width.{Width}, Size.{Size}, ByteOrder.{ByteOrder}, Compare.{Compare}}
 use Rattle.bpf_insn_types.proofs.Cases.{each_width, each_size, each_order, EachCompare, each_compare}
-use Rattle.bpf_insn.specs.declared.form.AluCode.{AluCode}
+use Rattle.bpf_insn.specs.{declared.form.{AluCode.{AluCode}, Form.{Form}}, Opcode.{opcode, form_at}}
 use Rattle.bpf_insn.specs.declared.form.AluCode.TheVariants as alu
-use Rattle.bpf_insn.specs.declared.form.Form.{Form}
 use Rattle.bpf_insn.specs.declared.form.Form.TheVariants as form
-use Rattle.bpf_insn.specs.Opcode.{opcode, form_at}
 
 -- the form that an opcode says, if one does, has this opcode
 abbrev agrees_with : Option Form → ℕ → Bool

@@ -1,30 +1,21 @@
 -- The slots of an instruction have bytes.
-use Rattle.std.proofs.Common.{ℕ, zero, suc, ◌^◌, ◌≤◌, ◌<◌, Bool, true, false, arith}
+use Rattle.std.{proofs.Common.{ℕ, zero, suc, ◌^◌, ◌≤◌, ◌<◌, Bool, true, false, arith}, specs.Int.{w16, w32}}
 use Rattle.std.specs.Prelude.{IfOk, ℤ, pos, negsuc, FitsSigned}
-use Rattle.std.specs.Int.{w16, w32}
-use Rattle.bpf_insn_types.specs.declared.insn.Width.TheVariants.{W32, W64}
+use Rattle.bpf_insn_types.specs.declared.insn.{Width.TheVariants.{W32, W64}, EndianBits.{EndianBits}, AluOp.{AluOp}}
+use Rattle.bpf_insn_types.specs.declared.insn.{Operand.TheVariants.{Imm, Reg}, AtomicOp.{AtomicOp}, ImmKind.{ImmKind}}
+use Rattle.bpf_insn_types.specs.declared.insn.{AtomicOp.TheVariants.{Simple, Fetch, Xchg, Cmpxchg}, Insn.{Insn}}
+use Rattle.bpf_insn_types.specs.Values.{InsnFits}
 use Rattle.bpf_insn_types.specs.declared.insn.Size.TheVariants as size
-use Rattle.bpf_insn_types.specs.declared.insn.EndianBits.{EndianBits}
 use Rattle.bpf_insn_types.specs.declared.insn.EndianBits.TheVariants as endian
 use Rattle.bpf_insn_types.specs.declared.insn.MovsxBits.TheVariants as movsx
-use Rattle.bpf_insn_types.specs.declared.insn.AluOp.{AluOp}
 use Rattle.bpf_insn_types.specs.declared.insn.AluOp.TheVariants as op
-use Rattle.bpf_insn_types.specs.declared.insn.Operand.TheVariants.{Imm, Reg}
 use Rattle.bpf_insn_types.specs.declared.insn.SimpleOp.TheVariants as simple
-use Rattle.bpf_insn_types.specs.declared.insn.AtomicOp.{AtomicOp}
-use Rattle.bpf_insn_types.specs.declared.insn.AtomicOp.TheVariants.{Simple, Fetch, Xchg, Cmpxchg}
-use Rattle.bpf_insn_types.specs.declared.insn.ImmKind.{ImmKind}
-use Rattle.bpf_insn_types.specs.declared.insn.Insn.{Insn}
 use Rattle.bpf_insn_types.specs.declared.insn.Insn.TheVariants as insn
+use Rattle.bpf_insn.specs.{declared.form.Form.{Form}, SlotBytes.{slot}, Spelling.{two_slots, spelling}}
+use Rattle.bpf_insn.specs.Spelling.{op_offset, endian_imm, callee_src, atomic_imm, kind_src, has_next, second, both}
+use Rattle.bpf_insn.proofs.{Bytes.{HasBytes, HaveBytes}, ReadsBack.{callee_src-le, kind_src-le}}
 use Rattle.bpf_insn.specs.declared.form.AluCode.TheVariants as alu
-use Rattle.bpf_insn.specs.declared.form.Form.{Form}
 use Rattle.bpf_insn.specs.declared.form.Form.TheVariants as form
-use Rattle.bpf_insn.specs.SlotBytes.{slot}
-use Rattle.bpf_insn.specs.Spelling.{op_offset, endian_imm, callee_src, atomic_imm, kind_src}
-use Rattle.bpf_insn.specs.Spelling.{has_next, second, both, two_slots, spelling}
-use Rattle.bpf_insn_types.specs.Values.{InsnFits}
-use Rattle.bpf_insn.proofs.Bytes.{HasBytes, HaveBytes}
-use Rattle.bpf_insn.proofs.ReadsBack.{callee_src-le, kind_src-le}
 
 fits16 : (n : ℕ) → n < 2 ^ 15 → FitsSigned w16 (pos n)
 fits16 n h = record { sfits = h }

@@ -1,18 +1,12 @@
 -- How many bytes an instruction takes.
-use Rattle.std.proofs.Common.{◌≡◌, ℕ, zero, suc, ◌*◌, Bool, true, false, List}
-use Rattle.std.proofs.Common.{length, Result, Ok, Err, refl, sym, ap, ◌∙◌}
-use Rattle.std.specs.Prelude.{ℤ, pos, negsuc, IfOk}
-use Rattle.bpf_insn_types.specs.declared.insn.Width.TheVariants.{W32, W64}
+use Rattle.std.proofs.Common.{◌≡◌, ℕ, zero, suc, ◌*◌, Bool, true, false, List, length, Result, Ok, Err, refl, sym, ap}
+use Rattle.std.{proofs.Common.{◌∙◌}, specs.Prelude.{ℤ, pos, negsuc, IfOk}}
+use Rattle.bpf_insn_types.specs.declared.insn.{Width.TheVariants.{W32, W64}, Operand.TheVariants.{Imm, Reg}}
+use Rattle.bpf_insn_types.specs.{declared.insn.{ImmKind.{ImmKind}, Insn.{Insn}}, Slots.{slots_of}}
 use Rattle.bpf_insn_types.specs.declared.insn.Size.TheVariants as size
 use Rattle.bpf_insn_types.specs.declared.insn.MovsxBits.TheVariants as movsx
-use Rattle.bpf_insn_types.specs.declared.insn.Operand.TheVariants.{Imm, Reg}
-use Rattle.bpf_insn_types.specs.declared.insn.ImmKind.{ImmKind}
-use Rattle.bpf_insn_types.specs.declared.insn.Insn.{Insn}
 use Rattle.bpf_insn_types.specs.declared.insn.Insn.TheVariants as insn
-use Rattle.bpf_insn.specs.declared.slot.Slot.{Slot}
-use Rattle.bpf_insn.specs.declared.codec_error.CodecFault.{CodecFault}
-use Rattle.bpf_insn_types.specs.Slots.{slots_of}
-use Rattle.bpf_insn.specs.SlotBytes.{slots_bytes}
+use Rattle.bpf_insn.specs.{declared.{slot.Slot.{Slot}, codec_error.CodecFault.{CodecFault}}, SlotBytes.{slots_bytes}}
 use Rattle.bpf_insn.specs.Spelling.{two_slots, has_next, spelling, bytes_at}
 
 -- slots of 8 bytes

@@ -1,24 +1,15 @@
 -- The two laws: what is read is spelled so, and what is spelled so is read.
-use Rattle.std.proofs.Common.{◌≡◌, ℕ, zero, suc, ◌+◌, ◌-◌, ◌*◌, ◌%◌, ◌≤◌, List, [], ◌∷◌, ◌++◌, length, Some}
-use Rattle.std.proofs.Common.{Result, Ok, Err, refl, sym, ap, subst, ◌∙◌, length-append, arith, inl, inr}
-use Rattle.std.specs.Prelude.{IfOk}
-use Rattle.bpf_insn_types.specs.declared.insn.Insn.{Insn}
-use Rattle.bpf_insn.specs.declared.slot.Slot.{Slot}
-use Rattle.bpf_insn.specs.declared.codec_error.CodecFault.{CodecFault}
-use Rattle.bpf_insn.specs.declared.codec_error.CodecFault.TheVariants as faults
-use Rattle.bpf_insn.specs.declared.codec_error.CodecError.{CodecError}
-use Rattle.bpf_insn_types.specs.Slots.{slots_of}
-use Rattle.bpf_insn.specs.SlotBytes.{slots_bytes}
+use Rattle.std.proofs.Common.{◌≡◌, ℕ, zero, suc, ◌+◌, ◌-◌, ◌*◌, ◌%◌, ◌≤◌, List, [], ◌∷◌, ◌++◌, length, Some, Result, Ok}
+use Rattle.std.{proofs.Common.{Err, refl, sym, ap, subst, ◌∙◌, length-append, arith, inl, inr}, specs.Prelude.{IfOk}}
+use Rattle.bpf_insn_types.specs.{declared.insn.Insn.{Insn}, Slots.{slots_of}, Values.{InsnFits, AreInsns}}
+use Rattle.bpf_insn.specs.declared.{slot.Slot.{Slot}, codec_error.{CodecFault.{CodecFault}, CodecError.{CodecError}}}
+use Rattle.bpf_insn.{specs.SlotBytes.{slots_bytes}, proofs.{Lengths.{spelled_len}, Spelled.{Reads}}}
 use Rattle.bpf_insn.specs.Spelling.{spelling, bytes_at, insn_bytes, both_or_refusal, spelling_from, program_spelling}
-use Rattle.bpf_insn_types.specs.Values.{InsnFits, AreInsns}
 use Rattle.bpf_insn.specs.Reading.{insn_of_slot, first, more_of, insn_before, insns_in, slots_in, reading}
-use Rattle.bpf_insn.proofs.Lengths.{spelled_len}
-use Rattle.bpf_insn.proofs.Spelled.{Reads}
-use Rattle.bpf_insn.proofs.SlotReads.{NextHolds, slot_reads}
-use Rattle.bpf_insn.proofs.ReadsBack.{ReadsBack, reads_back}
-use Rattle.bpf_insn.proofs.HasBytes.{spelling_has}
-use Rattle.bpf_insn.proofs.Bytes.{IsBytes, AreSlots, HaveBytes, slots_bytes-slots_in}
-use Rattle.bpf_insn.proofs.Bytes.{slots_in-are, slots_in-slots_bytes}
+use Rattle.bpf_insn.proofs.{SlotReads.{NextHolds, slot_reads}, ReadsBack.{ReadsBack, reads_back}}
+use Rattle.bpf_insn.proofs.{HasBytes.{spelling_has}, Bytes.{slots_in-slots_bytes}}
+use Rattle.bpf_insn.proofs.Bytes.{IsBytes, AreSlots, HaveBytes, slots_bytes-slots_in, slots_in-are}
+use Rattle.bpf_insn.specs.declared.codec_error.CodecFault.TheVariants as faults
 
 -- ---- results
 

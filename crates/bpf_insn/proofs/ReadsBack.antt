@@ -1,42 +1,29 @@
 -- What is spelled is read again.
-use Rattle.std.proofs.Common.{◌≡◌, ℕ, zero, suc, ◌≤◌, Bool, true, false, cond, ltb, List, []}
-use Rattle.std.proofs.Common.{◌∷◌, Option, Some, Result, Ok, Err, refl, ap, ◌∙◌, arith}
-use Rattle.std.specs.Prelude.{◌||◌, ℤ, pos, negsuc}
+use Rattle.std.proofs.Common.{◌≡◌, ℕ, zero, suc, ◌≤◌, Bool, true, false, cond, ltb, List, [], ◌∷◌, Option, Some, Result}
+use Rattle.std.{proofs.Common.{Ok, Err, refl, ap, ◌∙◌, arith}, specs.Prelude.{◌||◌, ℤ, pos, negsuc}}
 use Rattle.std.proofs.lemmas.Bool.{le-ltb}
-use Rattle.bpf_insn_types.specs.declared.insn.Width.{Width}
-use Rattle.bpf_insn_types.specs.declared.insn.Width.TheVariants.{W32, W64}
+use Rattle.bpf_insn_types.specs.declared.insn.{Width.{Width, TheVariants.{W32, W64}}, ByteOrder.{ByteOrder}}
+use Rattle.bpf_insn_types.specs.declared.insn.{EndianBits.{EndianBits}, AluOp.{AluOp}, Operand.TheVariants.{Imm, Reg}}
+use Rattle.bpf_insn_types.specs.declared.insn.{Callee.{Callee, TheVariants.{Helper, Local, Btf}}, AtomicOp.{AtomicOp}}
+use Rattle.bpf_insn_types.specs.declared.insn.{AtomicOp.TheVariants.{Simple, Fetch, Xchg, Cmpxchg}, ImmKind.{ImmKind}}
+use Rattle.bpf_insn_types.specs.{declared.insn.Insn.{Insn}, Values.{InsnFits}}
 use Rattle.bpf_insn_types.specs.declared.insn.Size.TheVariants as size
-use Rattle.bpf_insn_types.specs.declared.insn.ByteOrder.{ByteOrder}
-use Rattle.bpf_insn_types.specs.declared.insn.EndianBits.{EndianBits}
 use Rattle.bpf_insn_types.specs.declared.insn.EndianBits.TheVariants as endian
 use Rattle.bpf_insn_types.specs.declared.insn.MovsxBits.TheVariants as movsx
-use Rattle.bpf_insn_types.specs.declared.insn.AluOp.{AluOp}
 use Rattle.bpf_insn_types.specs.declared.insn.AluOp.TheVariants as op
-use Rattle.bpf_insn_types.specs.declared.insn.Operand.TheVariants.{Imm, Reg}
-use Rattle.bpf_insn_types.specs.declared.insn.Callee.{Callee}
-use Rattle.bpf_insn_types.specs.declared.insn.Callee.TheVariants.{Helper, Local, Btf}
 use Rattle.bpf_insn_types.specs.declared.insn.SimpleOp.TheVariants as simple
-use Rattle.bpf_insn_types.specs.declared.insn.AtomicOp.{AtomicOp}
-use Rattle.bpf_insn_types.specs.declared.insn.AtomicOp.TheVariants.{Simple, Fetch, Xchg, Cmpxchg}
-use Rattle.bpf_insn_types.specs.declared.insn.ImmKind.{ImmKind}
 use Rattle.bpf_insn_types.specs.declared.insn.ImmKind.TheVariants as kind
-use Rattle.bpf_insn_types.specs.declared.insn.Insn.{Insn}
 use Rattle.bpf_insn_types.specs.declared.insn.Insn.TheVariants as insn
-use Rattle.bpf_insn.specs.declared.form.AluCode.TheVariants as alu
-use Rattle.bpf_insn.specs.declared.form.Form.{Form}
-use Rattle.bpf_insn.specs.declared.form.Form.TheVariants as form
-use Rattle.bpf_insn.specs.declared.slot.Slot.{Slot}
-use Rattle.bpf_insn.specs.declared.codec_error.CodecFault.{CodecFault}
-use Rattle.bpf_insn.specs.declared.codec_error.CodecFault.TheVariants as faults
-use Rattle.bpf_insn.specs.Opcode.{opcode, form_at}
-use Rattle.bpf_insn.specs.SlotBytes.{slot}
-use Rattle.bpf_insn.specs.Spelling.{code_of, op_offset, endian_imm, callee_src, atomic_imm}
-use Rattle.bpf_insn.specs.Spelling.{kind_src, has_next, second, two_slots, spelling}
-use Rattle.bpf_insn_types.specs.Values.{InsnFits}
+use Rattle.bpf_insn.specs.declared.{form.Form.{Form}, slot.Slot.{Slot}, codec_error.CodecFault.{CodecFault}}
+use Rattle.bpf_insn.specs.{Opcode.{opcode, form_at}, SlotBytes.{slot}, Spelling.{two_slots, spelling}}
+use Rattle.bpf_insn.specs.Spelling.{code_of, op_offset, endian_imm, callee_src, atomic_imm, kind_src, has_next, second}
 use Rattle.bpf_insn.specs.Reading.{unused_are_zero, alu_op_at, alu_reg_insn, mov_at, endian_at, call_at, atomic_at}
 use Rattle.bpf_insn.specs.Reading.{imm_kind_at, load_imm_at, insn_of_form, checked_slot, insn_of_slot}
 use Rattle.bpf_insn.proofs.Forms.{form_at-alu_imm, form_at-alu_reg, form_at-jump_imm, form_at-jump_reg, form_at-neg}
 use Rattle.bpf_insn.proofs.Forms.{form_at-endian, form_at-load, form_at-store_imm, form_at-store, form_at-atomic}
+use Rattle.bpf_insn.specs.declared.form.AluCode.TheVariants as alu
+use Rattle.bpf_insn.specs.declared.form.Form.TheVariants as form
+use Rattle.bpf_insn.specs.declared.codec_error.CodecFault.TheVariants as faults
 
 -- the slots of a spelling are read as this instruction
 abbrev pub ReadsBack : Insn → Result (List Slot) CodecFault → Type 0

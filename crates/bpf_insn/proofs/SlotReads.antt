@@ -1,37 +1,26 @@
 -- What is read from slots is spelled by them: every form.
-use Rattle.std.proofs.Common.{◌≡◌, ℕ, zero, suc, ◌<◌, Bool, true, false, cond, eqb, ltb, List, [], ◌∷◌, Option}
-use Rattle.std.proofs.Common.{Some, None, Result, Ok, Err, refl, sym, ap, ◌∙◌, arith, inl, inr}
-use Rattle.std.specs.Prelude.{IfOk, IfSome, ◌&&◌, ◌||◌, not, ℤ, pos, negsuc}
-use Rattle.std.proofs.lemmas.Bool.{eqb-true, ltb-false}
-use Rattle.bpf_insn_types.specs.declared.insn.Width.{Width}
-use Rattle.bpf_insn_types.specs.declared.insn.Size.TheVariants as size
-use Rattle.bpf_insn_types.specs.declared.insn.ByteOrder.{ByteOrder}
-use Rattle.bpf_insn_types.specs.declared.insn.EndianBits.{EndianBits}
-use Rattle.bpf_insn_types.specs.declared.insn.EndianBits.TheVariants as endian
-use Rattle.bpf_insn_types.specs.declared.insn.Callee.{Callee}
-use Rattle.bpf_insn_types.specs.declared.insn.Callee.TheVariants.{Helper, Local, Btf}
-use Rattle.bpf_insn_types.specs.declared.insn.SimpleOp.TheVariants as simple
-use Rattle.bpf_insn_types.specs.declared.insn.AtomicOp.{AtomicOp}
-use Rattle.bpf_insn_types.specs.declared.insn.AtomicOp.TheVariants.{Simple, Fetch, Xchg, Cmpxchg}
-use Rattle.bpf_insn_types.specs.declared.insn.ImmKind.{ImmKind}
-use Rattle.bpf_insn_types.specs.declared.insn.ImmKind.TheVariants as kind
+use Rattle.std.proofs.Common.{◌≡◌, ℕ, zero, suc, ◌<◌, Bool, true, false, cond, eqb, ltb, List, [], ◌∷◌, Option, Some}
+use Rattle.std.proofs.Common.{None, Result, Ok, Err, refl, sym, ap, ◌∙◌, arith, inl, inr}
+use Rattle.std.{specs.Prelude.{IfOk, IfSome, ◌&&◌, ◌||◌, not, ℤ, pos, negsuc}, proofs.lemmas.Bool.{eqb-true, ltb-false}}
+use Rattle.bpf_insn_types.specs.declared.insn.{Width.{Width}, ByteOrder.{ByteOrder}, EndianBits.{EndianBits}}
+use Rattle.bpf_insn_types.specs.declared.insn.{Callee.{Callee, TheVariants.{Helper, Local, Btf}}, AtomicOp.{AtomicOp}}
+use Rattle.bpf_insn_types.specs.declared.insn.{AtomicOp.TheVariants.{Simple, Fetch, Xchg, Cmpxchg}, ImmKind.{ImmKind}}
 use Rattle.bpf_insn_types.specs.declared.insn.Insn.{Insn}
+use Rattle.bpf_insn_types.specs.declared.insn.Size.TheVariants as size
+use Rattle.bpf_insn_types.specs.declared.insn.EndianBits.TheVariants as endian
+use Rattle.bpf_insn_types.specs.declared.insn.SimpleOp.TheVariants as simple
+use Rattle.bpf_insn_types.specs.declared.insn.ImmKind.TheVariants as kind
 use Rattle.bpf_insn_types.specs.declared.insn.Insn.TheVariants as insn
-use Rattle.bpf_insn.specs.declared.form.AluCode.TheVariants as alu
-use Rattle.bpf_insn.specs.declared.form.Form.{Form}
-use Rattle.bpf_insn.specs.declared.form.Form.TheVariants as form
-use Rattle.bpf_insn.specs.declared.slot.Slot.{Slot}
-use Rattle.bpf_insn.specs.declared.codec_error.CodecFault.{CodecFault}
-use Rattle.bpf_insn.specs.declared.codec_error.CodecFault.TheVariants as faults
-use Rattle.bpf_insn.specs.Opcode.{opcode, form_at}
-use Rattle.bpf_insn.specs.SlotBytes.{slot}
+use Rattle.bpf_insn.specs.declared.{form.Form.{Form}, slot.Slot.{Slot}, codec_error.CodecFault.{CodecFault}}
+use Rattle.bpf_insn.specs.{Opcode.{opcode, form_at}, SlotBytes.{slot}, Reading.{checked_slot, insn_of_slot}}
 use Rattle.bpf_insn.specs.Spelling.{endian_imm, callee_src, atomic_imm, kind_src, has_next, second, both, two_slots}
-use Rattle.bpf_insn.specs.Reading.{is, uses_dst, uses_src, uses_offset, uses_imm, unused_are_zero}
-use Rattle.bpf_insn.specs.Reading.{endian_at, call_at, atomic_at, atomic_insn, imm_kind_at, is_second}
-use Rattle.bpf_insn.specs.Reading.{load_imm_at, insn_of_form, checked_slot, insn_of_slot}
-use Rattle.bpf_insn.proofs.Forms.{opcode-form_at}
-use Rattle.bpf_insn.proofs.Spelled.{Holds, Reads, Passed, if_ok, if_some, and_true, or_false, not_false}
-use Rattle.bpf_insn.proofs.Spelled.{is_true, slot_is, one_is, imm_reads, reg_reads, mov_reads}
+use Rattle.bpf_insn.specs.Reading.{is, uses_dst, uses_src, uses_offset, uses_imm, unused_are_zero, endian_at, call_at}
+use Rattle.bpf_insn.specs.Reading.{atomic_at, atomic_insn, imm_kind_at, is_second, load_imm_at, insn_of_form}
+use Rattle.bpf_insn.proofs.{Forms.{opcode-form_at}, Spelled.{slot_is, one_is, imm_reads, reg_reads, mov_reads}}
+use Rattle.bpf_insn.proofs.Spelled.{Holds, Reads, Passed, if_ok, if_some, and_true, or_false, not_false, is_true}
+use Rattle.bpf_insn.specs.declared.form.AluCode.TheVariants as alu
+use Rattle.bpf_insn.specs.declared.form.Form.TheVariants as form
+use Rattle.bpf_insn.specs.declared.codec_error.CodecFault.TheVariants as faults
 
 -- ---- byte orders, calls
 

@@ -1,31 +1,19 @@
 -- What is read from slots is spelled by them.
-use Rattle.std.proofs.Common.{◌≡◌, ℕ, ◌≤◌, Bool, true, false, cond, eqb, [], ◌∷◌, Option}
-use Rattle.std.proofs.Common.{Some, Result, Ok, Err, refl, sym, ap, ◌∙◌, inl, ◌⊎◌}
+use Rattle.std.proofs.Common.{◌≡◌, ℕ, ◌≤◌, Bool, true, false, cond, eqb, [], ◌∷◌, Option, Some, Result, Ok, Err, refl}
+use Rattle.std.{proofs.{Common.{sym, ap, ◌∙◌, inl, ◌⊎◌}, lemmas.Bool.{eqb-true}}, specs.Int.{w16, w32}}
 use Rattle.std.specs.Prelude.{IfOk, IfSome, ◌&&◌, ◌||◌, not, ℤ, pos, negsuc, FitsSigned}
-use Rattle.std.specs.Int.{w16, w32}
-use Rattle.std.proofs.lemmas.Bool.{eqb-true}
-use Rattle.bpf_insn_types.specs.declared.insn.Width.{Width}
-use Rattle.bpf_insn_types.specs.declared.insn.Width.TheVariants.{W32, W64}
+use Rattle.bpf_insn_types.specs.declared.insn.{Width.{Width, TheVariants.{W32, W64}}, AluOp.{AluOp}, Operand.{Operand}}
+use Rattle.bpf_insn_types.specs.{declared.insn.{Operand.TheVariants.{Imm, Reg}, Insn.{Insn}}, Values.{InsnFits}}
 use Rattle.bpf_insn_types.specs.declared.insn.MovsxBits.TheVariants as movsx
-use Rattle.bpf_insn_types.specs.declared.insn.AluOp.{AluOp}
 use Rattle.bpf_insn_types.specs.declared.insn.AluOp.TheVariants as op
-use Rattle.bpf_insn_types.specs.declared.insn.Operand.{Operand}
-use Rattle.bpf_insn_types.specs.declared.insn.Operand.TheVariants.{Imm, Reg}
-use Rattle.bpf_insn_types.specs.declared.insn.Insn.{Insn}
 use Rattle.bpf_insn_types.specs.declared.insn.Insn.TheVariants as insn
-use Rattle.bpf_insn.specs.declared.form.AluCode.{AluCode}
+use Rattle.bpf_insn.specs.{declared.{form.{AluCode.{AluCode}, Form.{Form}}, slot.Slot.{Slot}}, Opcode.{opcode, form_at}}
+use Rattle.bpf_insn.specs.{declared.codec_error.CodecFault.{CodecFault}, SlotBytes.{slot}}
+use Rattle.bpf_insn.specs.{Spelling.{code_of, op_offset, one_slot, spelling}, Reading.{alu_insn, movsx_32, mov_at}}
+use Rattle.bpf_insn.specs.Reading.{is, uses_dst, uses_src, uses_offset, uses_imm, has_signed, signed_op_at, alu_op_at}
 use Rattle.bpf_insn.specs.declared.form.AluCode.TheVariants as alu
-use Rattle.bpf_insn.specs.declared.form.Form.{Form}
 use Rattle.bpf_insn.specs.declared.form.Form.TheVariants as form
-use Rattle.bpf_insn.specs.declared.slot.Slot.{Slot}
-use Rattle.bpf_insn.specs.declared.codec_error.CodecFault.{CodecFault}
 use Rattle.bpf_insn.specs.declared.codec_error.CodecFault.TheVariants as faults
-use Rattle.bpf_insn.specs.Opcode.{opcode, form_at}
-use Rattle.bpf_insn.specs.SlotBytes.{slot}
-use Rattle.bpf_insn.specs.Spelling.{code_of, op_offset, one_slot, spelling}
-use Rattle.bpf_insn_types.specs.Values.{InsnFits}
-use Rattle.bpf_insn.specs.Reading.{is, uses_dst, uses_src, uses_offset, uses_imm, has_signed}
-use Rattle.bpf_insn.specs.Reading.{signed_op_at, alu_op_at, alu_insn, movsx_32, mov_at}
 
 -- the signed fields of a slot fit
 pub record Holds (s : Slot) : Type 0 where

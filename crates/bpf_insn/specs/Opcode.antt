@@ -1,16 +1,11 @@
 -- The opcode of each form, and the form that an opcode says.
-use Rattle.std.specs.Prelude.{ℕ, ◌+◌, ◌*◌, ◌/◌, ◌%◌, Option, Some, None, ◌==◌, if◌then◌else◌}
-use Rattle.std.specs.Option.{option_map}
-use Rattle.bpf_insn_types.specs.declared.insn.Width.{Width}
-use Rattle.bpf_insn_types.specs.declared.insn.Width.TheVariants.{W32, W64}
-use Rattle.bpf_insn_types.specs.declared.insn.Size.{Size}
+use Rattle.std.specs.{Prelude.{ℕ, ◌+◌, ◌*◌, ◌/◌, ◌%◌, Option, Some, None, ◌==◌, if◌then◌else◌}, Option.{option_map}}
+use Rattle.bpf_insn_types.specs.declared.insn.{Width.{Width, TheVariants.{W32, W64}}, Size.{Size}, Compare.{Compare}}
 use Rattle.bpf_insn_types.specs.declared.insn.Size.TheVariants.{B, H, W, Dw}
 use Rattle.bpf_insn_types.specs.declared.insn.ByteOrder.TheVariants as order
-use Rattle.bpf_insn_types.specs.declared.insn.Compare.{Compare}
 use Rattle.bpf_insn_types.specs.declared.insn.Compare.TheVariants as compare
-use Rattle.bpf_insn.specs.declared.form.AluCode.{AluCode}
+use Rattle.bpf_insn.specs.declared.form.{AluCode.{AluCode}, Form.{Form}}
 use Rattle.bpf_insn.specs.declared.form.AluCode.TheVariants as alu
-use Rattle.bpf_insn.specs.declared.form.Form.{Form}
 use Rattle.bpf_insn.specs.declared.form.Form.TheVariants as form
 
 -- the low three bits of arithmetic at a width: ALU, ALU64 (RFC 9669, section 3.1)

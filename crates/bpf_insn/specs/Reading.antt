@@ -1,37 +1,24 @@
 -- What slots say: an instruction, or the least number that applies to the first slot with a fault.
-use Rattle.std.specs.Prelude.{◌≡◌, ℕ, zero, suc, ◌+◌, ◌-◌, ◌%◌, ℤ, pos, negsuc, Bool, true}
-use Rattle.std.specs.Prelude.{false, ◌||◌, ◌&&◌, not, List, [], ◌∷◌, length, drop, Option, Some}
-use Rattle.std.specs.Prelude.{None, Result, Ok, Err, ◌==◌, nat_lt, if◌then◌else◌}
-use Rattle.bpf_insn_types.specs.declared.insn.Width.{Width}
-use Rattle.bpf_insn_types.specs.declared.insn.Width.TheVariants.{W32, W64}
-use Rattle.bpf_insn_types.specs.declared.insn.ByteOrder.{ByteOrder}
+use Rattle.std.specs.Prelude.{◌≡◌, ℕ, zero, suc, ◌+◌, ◌-◌, ◌%◌, ℤ, pos, negsuc, Bool, true, false, ◌||◌, ◌&&◌, not}
+use Rattle.std.specs.Prelude.{List, [], ◌∷◌, length, drop, Option, Some, None, Result, Ok, Err, ◌==◌, nat_lt}
+use Rattle.std.specs.Prelude.{if◌then◌else◌}
+use Rattle.bpf_insn_types.specs.declared.insn.{Width.{Width, TheVariants.{W32, W64}}, ByteOrder.{ByteOrder}}
+use Rattle.bpf_insn_types.specs.declared.insn.{AluOp.{AluOp}, Operand.{Operand, TheVariants.{Imm, Reg}}, Insn.{Insn}}
+use Rattle.bpf_insn_types.specs.declared.insn.{Callee.TheVariants.{Helper, Local, Btf}, AtomicOp.{AtomicOp}}
+use Rattle.bpf_insn_types.specs.declared.insn.{AtomicOp.TheVariants.{Simple, Fetch, Xchg, Cmpxchg}, ImmKind.{ImmKind}}
+use Rattle.bpf_insn_types.specs.Slots.{slots_of}
 use Rattle.bpf_insn_types.specs.declared.insn.EndianBits.TheVariants as endian
 use Rattle.bpf_insn_types.specs.declared.insn.MovsxBits.TheVariants as movsx
-use Rattle.bpf_insn_types.specs.declared.insn.AluOp.{AluOp}
 use Rattle.bpf_insn_types.specs.declared.insn.AluOp.TheVariants as op
-use Rattle.bpf_insn_types.specs.declared.insn.Operand.{Operand}
-use Rattle.bpf_insn_types.specs.declared.insn.Operand.TheVariants.{Imm, Reg}
-use Rattle.bpf_insn_types.specs.declared.insn.Callee.TheVariants.{Helper, Local, Btf}
 use Rattle.bpf_insn_types.specs.declared.insn.SimpleOp.TheVariants as simple
-use Rattle.bpf_insn_types.specs.declared.insn.AtomicOp.{AtomicOp}
-use Rattle.bpf_insn_types.specs.declared.insn.AtomicOp.TheVariants.{Simple, Fetch, Xchg, Cmpxchg}
-use Rattle.bpf_insn_types.specs.declared.insn.ImmKind.{ImmKind}
 use Rattle.bpf_insn_types.specs.declared.insn.ImmKind.TheVariants as kind
-use Rattle.bpf_insn_types.specs.declared.insn.Insn.{Insn}
 use Rattle.bpf_insn_types.specs.declared.insn.Insn.TheVariants as insn
-use Rattle.bpf_insn.specs.declared.form.AluCode.{AluCode}
+use Rattle.bpf_insn.specs.{declared.{form.{AluCode.{AluCode}, Form.{Form}}, slot.Slot.{Slot}}, Opcode.{form_at}}
+use Rattle.bpf_insn.specs.{declared.codec_error.{CodecFault.{CodecFault}, CodecError.{CodecError}}, SlotBytes.{slot_at}}
+use Rattle.bpf_insn.specs.{declared.codec_error.CodecError.TheVariants.{Refused, Memory}, Spelling.{has_next}}
 use Rattle.bpf_insn.specs.declared.form.AluCode.TheVariants as alu
-use Rattle.bpf_insn.specs.declared.form.Form.{Form}
 use Rattle.bpf_insn.specs.declared.form.Form.TheVariants as form
-use Rattle.bpf_insn.specs.declared.slot.Slot.{Slot}
-use Rattle.bpf_insn.specs.declared.codec_error.CodecFault.{CodecFault}
 use Rattle.bpf_insn.specs.declared.codec_error.CodecFault.TheVariants as faults
-use Rattle.bpf_insn.specs.declared.codec_error.CodecError.{CodecError}
-use Rattle.bpf_insn.specs.declared.codec_error.CodecError.TheVariants.{Refused, Memory}
-use Rattle.bpf_insn.specs.Opcode.{form_at}
-use Rattle.bpf_insn_types.specs.Slots.{slots_of}
-use Rattle.bpf_insn.specs.SlotBytes.{slot_at}
-use Rattle.bpf_insn.specs.Spelling.{has_next}
 
 -- whether a signed field is this number
 abbrev pub is : ℤ → ℕ → Bool

@@ -1,9 +1,7 @@
 -- A slot and its 8 bytes.
 use Rattle.std.specs.Prelude.{ℕ, ℤ, ◌+◌, ◌*◌, ◌/◌, ◌%◌, ◌<◌, List, [], ◌∷◌, ◌++◌, slice_index}
 use Rattle.std.specs.Int.{w16, w32, to_le_bytes, from_le_bytes, cast_unsigned, cast_signed}
-use Rattle.bpf_insn.specs.declared.form.Form.{Form}
-use Rattle.bpf_insn.specs.declared.slot.Slot.{Slot}
-use Rattle.bpf_insn.specs.Opcode.{opcode}
+use Rattle.bpf_insn.specs.{declared.{form.Form.{Form}, slot.Slot.{Slot}}, Opcode.{opcode}}
 
 -- the slot of a form with these fields
 abbrev pub slot : Form → ℕ → ℕ → ℤ → ℤ → Slot

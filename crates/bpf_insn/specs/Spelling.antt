@@ -1,38 +1,25 @@
 -- The one spelling of each instruction, a case a form.
-use Rattle.std.specs.Prelude.{◌≡◌, ℕ, zero, ℤ, pos, ◌+◌, ◌/◌, length, IfSome, Bool}
-use Rattle.std.specs.Prelude.{true, false, List, [], ◌∷◌, ◌++◌, Result, Ok, Err}
-use Rattle.std.specs.Option.{option_to_list}
-use Rattle.bpf_insn_types.specs.declared.insn.Width.TheVariants.{W32}
+use Rattle.std.specs.Prelude.{◌≡◌, ℕ, zero, ℤ, pos, ◌+◌, ◌/◌, length, IfSome, Bool, true, false, List, [], ◌∷◌, ◌++◌}
+use Rattle.std.specs.{Prelude.{Result, Ok, Err}, Option.{option_to_list}}
+use Rattle.bpf_insn_types.specs.declared.insn.{Width.TheVariants.{W32}, EndianBits.{EndianBits}, MovsxBits.{MovsxBits}}
+use Rattle.bpf_insn_types.specs.declared.insn.{AluOp.{AluOp}, Operand.TheVariants.{Imm, Reg}, Callee.{Callee}}
+use Rattle.bpf_insn_types.specs.declared.insn.{Callee.TheVariants.{Helper, Local, Btf}, SimpleOp.{SimpleOp}}
+use Rattle.bpf_insn_types.specs.declared.insn.AtomicOp.{AtomicOp, TheVariants.{Simple, Fetch, Xchg, Cmpxchg}}
+use Rattle.bpf_insn_types.specs.{declared.insn.{ImmKind.{ImmKind}, Insn.{Insn}}, Slots.{slots_of}}
 use Rattle.bpf_insn_types.specs.declared.insn.Size.TheVariants as size
-use Rattle.bpf_insn_types.specs.declared.insn.EndianBits.{EndianBits}
 use Rattle.bpf_insn_types.specs.declared.insn.EndianBits.TheVariants as endian
-use Rattle.bpf_insn_types.specs.declared.insn.MovsxBits.{MovsxBits}
 use Rattle.bpf_insn_types.specs.declared.insn.MovsxBits.TheVariants as movsx
-use Rattle.bpf_insn_types.specs.declared.insn.AluOp.{AluOp}
 use Rattle.bpf_insn_types.specs.declared.insn.AluOp.TheVariants as op
-use Rattle.bpf_insn_types.specs.declared.insn.Operand.TheVariants.{Imm, Reg}
-use Rattle.bpf_insn_types.specs.declared.insn.Callee.{Callee}
-use Rattle.bpf_insn_types.specs.declared.insn.Callee.TheVariants.{Helper, Local, Btf}
-use Rattle.bpf_insn_types.specs.declared.insn.SimpleOp.{SimpleOp}
 use Rattle.bpf_insn_types.specs.declared.insn.SimpleOp.TheVariants as simple
-use Rattle.bpf_insn_types.specs.declared.insn.AtomicOp.{AtomicOp}
-use Rattle.bpf_insn_types.specs.declared.insn.AtomicOp.TheVariants.{Simple, Fetch, Xchg, Cmpxchg}
-use Rattle.bpf_insn_types.specs.declared.insn.ImmKind.{ImmKind}
 use Rattle.bpf_insn_types.specs.declared.insn.ImmKind.TheVariants as kind
-use Rattle.bpf_insn_types.specs.declared.insn.Insn.{Insn}
 use Rattle.bpf_insn_types.specs.declared.insn.Insn.TheVariants as insn
-use Rattle.bpf_insn.specs.declared.form.AluCode.{AluCode}
-use Rattle.bpf_insn.specs.declared.form.AluCode.TheVariants as alu
-use Rattle.bpf_insn.specs.declared.form.Form.{Form}
-use Rattle.bpf_insn.specs.declared.form.Form.TheVariants as form
-use Rattle.bpf_insn.specs.declared.slot.Slot.{Slot}
-use Rattle.bpf_insn.specs.declared.codec_error.CodecFault.{CodecFault}
-use Rattle.bpf_insn.specs.declared.codec_error.CodecFault.TheVariants as faults
-use Rattle.bpf_insn.specs.declared.codec_error.CodecError.{CodecError}
+use Rattle.bpf_insn.specs.declared.{form.{AluCode.{AluCode}, Form.{Form}}, slot.Slot.{Slot}, encoding.Spelled.{Spelled}}
+use Rattle.bpf_insn.specs.declared.codec_error.{CodecFault.{CodecFault}, CodecError.{CodecError}}
 use Rattle.bpf_insn.specs.declared.codec_error.CodecError.TheVariants.{Refused, Memory}
-use Rattle.bpf_insn_types.specs.Slots.{slots_of}
-use Rattle.bpf_insn.specs.declared.encoding.Spelled.{Spelled}
 use Rattle.bpf_insn.specs.SlotBytes.{slot, slots_bytes, SlotFits}
+use Rattle.bpf_insn.specs.declared.form.AluCode.TheVariants as alu
+use Rattle.bpf_insn.specs.declared.form.Form.TheVariants as form
+use Rattle.bpf_insn.specs.declared.codec_error.CodecFault.TheVariants as faults
 
 -- the code of an operation; signed division and modulo share theirs (RFC 9669, section 4.1)
 abbrev pub code_of : AluOp → AluCode

@@ -1,16 +1,13 @@
 //! Bytes to instructions.
 
-ghost use Rattle.std.specs.Prelude.{◌≡◌, ◌≤◌, ◌<◌, ◌*◌, List, length, drop, ◌++◌};
-ghost use Rattle.std.specs.Prelude.{◌∷◌, [], IfOk, IfErr, OnOk, MatchResult};
-ghost use Rattle.bpf_insn_types.specs.Slots.{slots_of};
+ghost use Rattle.std.specs.Prelude.{◌≡◌, ◌≤◌, ◌<◌, ◌*◌, List, length, drop, ◌++◌, ◌∷◌, [], IfOk, IfErr, OnOk};
+ghost use Rattle.std.specs.Prelude.{MatchResult};
+ghost use Rattle.bpf_insn_types.specs.{Slots.{slots_of}, Outcome.{MatchesUnlessMemory}, Values.{AreInsns}};
+ghost use Rattle.bpf_insn_types.specs.declared.insn.Insn.{Insn};
 ghost use Rattle.bpf_insn.specs.Reading.{signed_op_at, alu_op_at, alu_insn, mov_at, alu_reg_insn, endian_at, call_at};
 ghost use Rattle.bpf_insn.specs.Reading.{atomic_at, atomic_insn, imm_kind_at, is_second, load_imm_at, insn_of_form};
 ghost use Rattle.bpf_insn.specs.Reading.{insn_of_slot, front_slot, first_insn, FailsFirst, reading};
-ghost use Rattle.bpf_insn_types.specs.Outcome.{MatchesUnlessMemory};
-ghost use Rattle.bpf_insn.specs.CodecRefusal.{codec_refusal};
-ghost use Rattle.bpf_insn_types.specs.Values.{AreInsns};
-ghost use Rattle.bpf_insn.specs.Spelling.{program_spelling};
-ghost use Rattle.bpf_insn_types.specs.declared.insn.Insn.{Insn};
+ghost use Rattle.bpf_insn.specs.{CodecRefusal.{codec_refusal}, Spelling.{program_spelling}};
 
 use crate::codec_error::{CodecError, CodecFault};
 use crate::encoding::has_next_imm;

@@ -1,12 +1,10 @@
 //! Instructions to bytes.
 
 ghost use Rattle.std.specs.Prelude.{◌≡◌, ◌≤◌, ◌∷◌, [], MatchResult, IfOk, Some};
-ghost use Rattle.bpf_insn.specs.SlotBytes.{slot, SlotFits};
-ghost use Rattle.bpf_insn.specs.Spelling.{code_of, op_offset, movsx_offset, endian_imm, callee_src};
-ghost use Rattle.bpf_insn.specs.Spelling.{atomic_imm, kind_src, has_next, two_slots, spelling, spelled_slots};
-ghost use Rattle.bpf_insn.specs.Spelling.{SpelledFits, Appends, program_spelling};
+ghost use Rattle.bpf_insn.specs.{SlotBytes.{slot, SlotFits}, Spelling.{program_spelling}, CodecRefusal.{codec_refusal}};
+ghost use Rattle.bpf_insn.specs.Spelling.{code_of, op_offset, movsx_offset, endian_imm, callee_src, atomic_imm};
+ghost use Rattle.bpf_insn.specs.Spelling.{kind_src, has_next, two_slots, spelling, spelled_slots, SpelledFits, Appends};
 ghost use Rattle.bpf_insn_types.specs.Outcome.{MatchesUnlessMemory};
-ghost use Rattle.bpf_insn.specs.CodecRefusal.{codec_refusal};
 
 use crate::codec_error::{CodecError, CodecFault};
 use crate::form::{AluCode, Form};

@@ -1,9 +1,9 @@
 //! What an opcode says (RFC 9669, section 3): the one place of the opcode tables.
 
 ghost use Rattle.std.specs.Prelude.{◌≡◌, ◌/◌, ◌%◌, ◌≤◌};
-ghost use Rattle.bpf_insn.specs.Opcode.{alu_code, alu_class, jump_code, jump_class, size_bits, opcode};
-ghost use Rattle.bpf_insn.specs.Opcode.{alu_code_at, compare_at, size_at, alu_form, jump_form, load_form};
-ghost use Rattle.bpf_insn.specs.Opcode.{store_imm_form, store_form, form_at};
+ghost use Rattle.bpf_insn.specs.Opcode.{alu_code, alu_class, jump_code, jump_class, size_bits, opcode, alu_code_at};
+ghost use Rattle.bpf_insn.specs.Opcode.{compare_at, size_at, alu_form, jump_form, load_form, store_imm_form};
+ghost use Rattle.bpf_insn.specs.Opcode.{store_form, form_at};
 
 use bpf_insn_types::{ByteOrder, Compare, Size, Width};
 

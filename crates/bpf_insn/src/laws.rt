@@ -1,11 +1,8 @@
 //! Laws of the bytes of programs, as functions that do nothing: what they ensure is the law.
 
 ghost use Rattle.std.specs.Prelude.{◌≡◌, ℕ, List, ◌++◌, Ok};
-ghost use Rattle.bpf_insn_types.specs.declared.insn.Insn.{Insn};
-ghost use Rattle.bpf_insn_types.specs.Values.{InsnFits, AreInsns};
-ghost use Rattle.bpf_insn.specs.SlotBytes.{AreBytes};
-ghost use Rattle.bpf_insn.specs.Spelling.{insn_bytes, program_spelling};
-ghost use Rattle.bpf_insn.specs.Reading.{reading};
+ghost use Rattle.bpf_insn_types.specs.{declared.insn.Insn.{Insn}, Values.{InsnFits, AreInsns}};
+ghost use Rattle.bpf_insn.specs.{SlotBytes.{AreBytes}, Spelling.{insn_bytes, program_spelling}, Reading.{reading}};
 
 /// Bytes spell one program at most.
 pub fn one_program()

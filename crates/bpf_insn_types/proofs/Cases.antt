@@ -1,24 +1,17 @@
 -- Properties of all values of an enum, each with the property of one value after the other.
-use Rattle.bpf_insn_types.specs.declared.insn.Width.{Width}
+use Rattle.bpf_insn_types.specs.declared.insn.{Width.{Width}, Size.{Size}, ByteOrder.{ByteOrder}, MovsxBits.{MovsxBits}}
+use Rattle.bpf_insn_types.specs.declared.insn.{EndianBits.{EndianBits}, AluOp.{AluOp}, Compare.{Compare}}
+use Rattle.bpf_insn_types.specs.declared.insn.{Callee.{Callee}, ImmKind.{ImmKind}, AtomicOp.{AtomicOp}}
 use Rattle.bpf_insn_types.specs.declared.insn.Width.TheVariants as width
-use Rattle.bpf_insn_types.specs.declared.insn.Size.{Size}
 use Rattle.bpf_insn_types.specs.declared.insn.Size.TheVariants as size
-use Rattle.bpf_insn_types.specs.declared.insn.ByteOrder.{ByteOrder}
 use Rattle.bpf_insn_types.specs.declared.insn.ByteOrder.TheVariants as order
-use Rattle.bpf_insn_types.specs.declared.insn.EndianBits.{EndianBits}
 use Rattle.bpf_insn_types.specs.declared.insn.EndianBits.TheVariants as endian
-use Rattle.bpf_insn_types.specs.declared.insn.MovsxBits.{MovsxBits}
 use Rattle.bpf_insn_types.specs.declared.insn.MovsxBits.TheVariants as movsx
-use Rattle.bpf_insn_types.specs.declared.insn.AluOp.{AluOp}
 use Rattle.bpf_insn_types.specs.declared.insn.AluOp.TheVariants as op
-use Rattle.bpf_insn_types.specs.declared.insn.Compare.{Compare}
 use Rattle.bpf_insn_types.specs.declared.insn.Compare.TheVariants as compare
-use Rattle.bpf_insn_types.specs.declared.insn.Callee.{Callee}
 use Rattle.bpf_insn_types.specs.declared.insn.Callee.TheVariants as callee
-use Rattle.bpf_insn_types.specs.declared.insn.ImmKind.{ImmKind}
 use Rattle.bpf_insn_types.specs.declared.insn.ImmKind.TheVariants as kind
 use Rattle.bpf_insn_types.specs.declared.insn.SimpleOp.TheVariants as simple
-use Rattle.bpf_insn_types.specs.declared.insn.AtomicOp.{AtomicOp}
 use Rattle.bpf_insn_types.specs.declared.insn.AtomicOp.TheVariants as atomic
 
 abbrev pub EachWidth : (Width → Type 0) → Type 0

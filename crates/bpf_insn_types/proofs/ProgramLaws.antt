@@ -1,12 +1,8 @@
 -- Where the instructions of a list stand.
 use Rattle.std.proofs.Common.{◌≡◌, ◌≢◌, ℕ, zero, suc, ◌+◌, ◌-◌, ◌<◌, ◌≤◌, Bool, true, false, List, [], ◌∷◌, ◌++◌, take}
 use Rattle.std.proofs.Common.{drop, length, get_or, refl, ap, sym, ◌∙◌, arith, add-one, lit≤, Option, Some, None}
-use Rattle.std.specs.Prelude.{nat_lt, if◌then◌else◌}
-use Rattle.std.specs.List.{cons_option}
-use Rattle.std.proofs.lemmas.Bool.Decides.{nat_tests}
-use Rattle.bpf_insn_types.specs.declared.insn.Insn.{Insn}
-use Rattle.bpf_insn_types.specs.declared.insn.Insn.TheVariants.{LoadImm}
-use Rattle.bpf_insn_types.specs.Slots.{slots_of}
+use Rattle.std.{specs.{Prelude.{nat_lt, if◌then◌else◌}, List.{cons_option}}, proofs.lemmas.Bool.Decides.{nat_tests}}
+use Rattle.bpf_insn_types.specs.{declared.insn.Insn.{Insn, TheVariants.{LoadImm}}, Slots.{slots_of}}
 use Rattle.bpf_insn_types.specs.Program.{slot_count, insn_at, named_by, named_from}
 
 -- an instruction takes 1 or 2 slots

@@ -1,13 +1,9 @@
 -- Signed quotients and remainders of a width, computed in 64 bits.
 use Rattle.std.proofs.Common.{◌≡◌, ◌∙◌, ℕ, suc, zero, ◌/◌, ◌%◌, ◌<◌, ◌≤◌, ◌^◌, ap, refl, arith, ℤ, pos, negsuc}
 use Rattle.std.specs.Prelude.{int_div, int_rem, unsigned_abs, FitsSigned, neg_ℤ, if◌then◌else◌, ◌==◌}
-use Rattle.std.specs.Int.{w64, cast_unsigned, cast_signed, int_wrapping_div}
-use Rattle.std.proofs.lemmas.Int.{of_z-to_z, to_z-of_z}
-use Rattle.std.proofs.lemmas.Nat.{div-add-mod'}
-use Rattle.std.proofs.lemmas.Bool.Decides.{nat_tests}
-use Rattle.std.proofs.Math.Nat.{div-le_self}
-use Rattle.bpf_insn_types.specs.declared.insn.Width.{Width}
-use Rattle.bpf_insn_types.specs.declared.insn.Width.TheVariants.{W32, W64}
+use Rattle.std.{specs.Int.{w64, cast_unsigned, cast_signed, int_wrapping_div}, proofs.lemmas.Int.{of_z-to_z, to_z-of_z}}
+use Rattle.std.proofs.{lemmas.{Nat.{div-add-mod'}, Bool.Decides.{nat_tests}}, Math.Nat.{div-le_self}}
+use Rattle.bpf_insn_types.specs.declared.insn.Width.{Width, TheVariants.{W32, W64}}
 use Rattle.bpf_insn_types.specs.Words.{modulus, integers, signed, signed_quotient, signed_remainder}
 
 -- the greatest absolute value of a signed number of the width

@@ -1,8 +1,6 @@
 -- How large a program and its maps may be.
-use Rattle.std.specs.Prelude.{◌≡◌, ◌≤◌, ℕ, Bool, true, ◌&&◌, nat_le, List, length, sum}
-use Rattle.std.specs.List.{list_all}
-use Rattle.bpf_insn_types.specs.Values.{AreInsns}
-use Rattle.bpf_insn_types.specs.Program.{Program, slot_count}
+use Rattle.std.specs.{Prelude.{◌≡◌, ◌≤◌, ℕ, Bool, true, ◌&&◌, nat_le, List, length, sum}, List.{list_all}}
+use Rattle.bpf_insn_types.specs.{Values.{AreInsns}, Program.{Program, slot_count}}
 
 -- sizes within the limits: 1 to 16 maps, each of at least 1 element, and at most 65,536 elements over all
 abbrev pub sizes_fit : List ℕ → Bool

@@ -1,8 +1,7 @@
 -- Worked values of the operators, worked out by hand from RFC 9669, sections 4.1 to 4.3.
 use Rattle.std.specs.Prelude.{◌≡◌, ◌+◌, ◌-◌, ◌^◌, true, false, negsuc}
-use Rattle.bpf_insn_types.specs.declared.insn.Width.TheVariants.{W32, W64}
-use Rattle.bpf_insn_types.specs.declared.insn.AluOp.TheVariants.{Add, Sub, Mul, Div, Sdiv, Or, And, Lsh}
-use Rattle.bpf_insn_types.specs.declared.insn.AluOp.TheVariants.{Rsh, Mod, Smod, Xor, Mov, Arsh}
+use Rattle.bpf_insn_types.specs.declared.insn.{Width.TheVariants.{W32, W64}, AluOp.TheVariants.{Xor, Mov, Arsh}}
+use Rattle.bpf_insn_types.specs.declared.insn.AluOp.TheVariants.{Add, Sub, Mul, Div, Sdiv, Or, And, Lsh, Rsh, Mod, Smod}
 use Rattle.bpf_insn_types.specs.declared.insn.Compare.TheVariants.{Eq, Gt, Ge, Set, Ne, Sgt, Sge, Lt, Le, Slt, Sle}
 use Rattle.bpf_insn_types.specs.declared.insn.ByteOrder.TheVariants.{Le as To_le, Be as To_be, Swap}
 use Rattle.bpf_insn_types.specs.declared.insn.EndianBits.TheVariants.{B16, B32, B64}

@@ -1,7 +1,6 @@
 //! The order of a word's low bytes, on a little-endian host.
 
-ghost use Rattle.std.specs.Prelude.{◌≡◌, ◌%◌};
-ghost use Rattle.std.specs.Int.{swap_bytes};
+ghost use Rattle.std.specs.{Prelude.{◌≡◌, ◌%◌}, Int.{swap_bytes}};
 ghost use Rattle.bpf_insn_types.specs.Words.{in_order, endian_modulus, endian_integers};
 
 use crate::insn::{ByteOrder, EndianBits};

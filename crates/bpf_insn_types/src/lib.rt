@@ -13,8 +13,7 @@ pub mod reg;
 pub mod unit;
 mod widths;
 
-ghost use Rattle.bpf_insn_types.specs.WordBounds.{ResultsFit};
-ghost use Rattle.bpf_insn_types.specs.WordRows.{WordRows};
+ghost use Rattle.bpf_insn_types.specs.{WordBounds.{ResultsFit}, WordRows.{WordRows}};
 
 pub use arithmetic::{alu_word, neg_word};
 pub use byte_orders::endian_word;

@@ -1,8 +1,7 @@
 //! How large a program and its maps may be.
 
 ghost use Rattle.std.specs.Prelude.{◌≡◌, ◌<◌, ◌≤◌, false, IfSome, IfNone, sum};
-ghost use Rattle.bpf_insn_types.specs.Limits.{AreSizes, sizes_fit};
-ghost use Rattle.bpf_insn_types.specs.Program.{slot_count};
+ghost use Rattle.bpf_insn_types.specs.{Limits.{AreSizes, sizes_fit}, Program.{slot_count}};
 
 use crate::insn::{Insn, slots};
 

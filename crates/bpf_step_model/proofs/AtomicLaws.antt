@@ -1,27 +1,17 @@
 -- An atomic operation does the same to a number of a frame and to a part of an element.
-use Rattle.std.proofs.Common.{◌≡◌, ℕ, ◌+◌, ◌-◌, ◌%◌, ◌^◌, ◌<◌, Bool, true, false, refl}
-use Rattle.std.proofs.Common.{sym, ◌∙◌, ap, arith, bit_and, bit_or, bit_xor}
-use Rattle.std.specs.Prelude.{if◌then◌else◌, ◌==◌}
+use Rattle.std.proofs.Common.{◌≡◌, ℕ, ◌+◌, ◌-◌, ◌%◌, ◌^◌, ◌<◌, Bool, true, false, refl, sym, ◌∙◌, ap, arith, bit_and}
+use Rattle.std.{proofs.Common.{bit_or, bit_xor}, specs.Prelude.{if◌then◌else◌, ◌==◌}}
 use Rattle.std.specs.Int.Bits.{or_zero_r, xor_zero_r}
 use Rattle.std.proofs.lemmas.Nat.{and_shr, or_shr, xor_shr, and_mod, or_mod, xor_mod, and_mask}
-use Rattle.bpf_insn_types.specs.declared.insn.Width.TheVariants.{W32, W64}
-use Rattle.bpf_insn_types.specs.declared.insn.AluOp.{AluOp}
-use Rattle.bpf_insn_types.specs.declared.insn.AtomicOp.{AtomicOp}
-use Rattle.bpf_insn_types.specs.declared.insn.AtomicOp.TheVariants.{Simple, Fetch, Xchg, Cmpxchg}
-use Rattle.bpf_insn_types.specs.declared.insn.SimpleOp.{SimpleOp}
+use Rattle.bpf_insn_types.specs.declared.insn.{Width.TheVariants.{W32, W64}, AluOp.{AluOp}, AtomicOp.{AtomicOp}}
+use Rattle.bpf_insn_types.specs.declared.insn.{AtomicOp.TheVariants.{Simple, Fetch, Xchg, Cmpxchg}, SimpleOp.{SimpleOp}}
+use Rattle.bpf_insn_types.{specs.Words.{alu, computed, operator}, proofs.WordLaws.{alu-words}}
 use Rattle.bpf_insn_types.specs.declared.insn.SimpleOp.TheVariants as simple
-use Rattle.bpf_insn_types.specs.Words.{alu, computed, operator}
-use Rattle.bpf_insn_types.proofs.WordLaws.{alu-words}
-use Rattle.array_maps.specs.declared.access.Half.{Half}
-use Rattle.array_maps.specs.declared.access.Half.TheVariants.{Low, High}
-use Rattle.array_maps.specs.declared.access.Part.{Part}
+use Rattle.array_maps.specs.{declared.access.{Half.{Half, TheVariants.{Low, High}}, Part.{Part}}, Accesses.{combined}}
 use Rattle.array_maps.specs.declared.access.Part.TheVariants.{Whole, Half as Of}
 use Rattle.array_maps.specs.Halves.{half_of, part_of, with_half, halves_added}
-use Rattle.array_maps.specs.Accesses.{combined}
-use Rattle.bpf_step_model.specs.State.{Machine}
+use Rattle.bpf_step_model.specs.{State.{Machine}, Run.{after_request}, Atomics.{width_of, other, element_left}}
 use Rattle.bpf_step_model.specs.Step.{atomic_left, tells, request_of, map_operator, half_operator, idle_operand}
-use Rattle.bpf_step_model.specs.Run.{after_request}
-use Rattle.bpf_step_model.specs.Atomics.{width_of, other, element_left}
 
 -- halves of a word with one of them replaced
 replaced : (half : Half) (word n : ℕ) → half_of half (with_half half word n) ≡ n % 2 ^ 32

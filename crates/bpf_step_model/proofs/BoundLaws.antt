@@ -1,19 +1,16 @@
 -- With a greater bound nothing changes but that what was unfinished may end.
-use Rattle.std.proofs.Common.{ℕ, zero, suc, ◌+◌, ◌≤◌, Bool, true, false, inl, inr, List, []}
-use Rattle.std.proofs.Common.{◌∷◌, Option, Some, None, refl, sym, ap, subst, arith}
-use Rattle.std.specs.Prelude.{slice_get, if◌then◌else◌, ◌==◌}
+use Rattle.std.proofs.Common.{ℕ, zero, suc, ◌+◌, ◌≤◌, Bool, true, false, inl, inr, List, [], ◌∷◌, Option, Some, None}
+use Rattle.std.{proofs.Common.{refl, sym, ap, subst, arith}, specs.Prelude.{slice_get, if◌then◌else◌, ◌==◌}}
 use Rattle.array_maps.specs.Accesses.{Access, words_after}
 use Rattle.bpf_insn_types.specs.Program.{Program}
 use Rattle.bpf_step_model.specs.State.{Machine, LoopCall, callback_entry, main_entry}
 use Rattle.bpf_step_model.specs.Step.{Request, StepOutcome, NoStep, Next, Asks, Loops, Refuses, Exits, step}
-use Rattle.bpf_step_model.specs.Run.{BoundedResult, Ended, Stuck, Unfinished, StopReason, Exit, Loop}
-use Rattle.bpf_step_model.specs.Run.{Refused, RunSegment, action_of, after_request, mapped, followed}
-use Rattle.bpf_step_model.specs.Run.{with_first_step, after_access, after_step, run}
-use Rattle.bpf_step_model.specs.Iteration.{Iterated, exited, iteration}
+use Rattle.bpf_step_model.specs.Run.{BoundedResult, Ended, Stuck, Unfinished, StopReason, Exit, Loop, Refused}
+use Rattle.bpf_step_model.specs.Run.{RunSegment, action_of, after_request, mapped, followed, with_first_step}
+use Rattle.bpf_step_model.specs.{Run.{after_access, after_step, run}, Iteration.{Iterated, exited, iteration}}
 use Rattle.bpf_step_model.specs.LoopInOrder.{Looped, behind, loop_from, loop_in_order}
-use Rattle.bpf_step_model.specs.ProgramInOrder.{Finished, with_loop, resumed, after_loop, after_stop}
-use Rattle.bpf_step_model.specs.ProgramInOrder.{after_segment, main_from, program_in_order}
-use Rattle.bpf_step_model.specs.Bounds.{Extends, GreaterBoundAgrees}
+use Rattle.bpf_step_model.specs.ProgramInOrder.{Finished, with_loop, resumed, after_loop, after_stop, after_segment}
+use Rattle.bpf_step_model.specs.{ProgramInOrder.{main_from, program_in_order}, Bounds.{Extends, GreaterBoundAgrees}}
 
 -- a changed value
 pub mapped_extends : {A B : Type 0} (change : A → B) {e g : BoundedResult A} → Extends e g

@@ -1,15 +1,13 @@
 -- A run is a list of states.
-use Rattle.std.proofs.Common.{◌≡◌, ℕ, zero, suc, ◌≤◌, List, [], ◌∷◌, Option, Some}
-use Rattle.std.proofs.Common.{None, refl, sym, ◌∙◌, ap, subst, arith}
-use Rattle.std.specs.Prelude.{slice_get}
+use Rattle.std.proofs.Common.{◌≡◌, ℕ, zero, suc, ◌≤◌, List, [], ◌∷◌, Option, Some, None, refl, sym, ◌∙◌, ap, subst}
+use Rattle.std.{proofs.Common.{arith}, specs.Prelude.{slice_get}}
 use Rattle.array_maps.specs.Accesses.{Access, words_after}
 use Rattle.bpf_insn_types.specs.Program.{Program}
-use Rattle.bpf_step_model.specs.State.{Machine}
+use Rattle.bpf_step_model.{specs.State.{Machine}, proofs.Endings.{mapped_from, ended_same}}
 use Rattle.bpf_step_model.specs.Step.{Request, StepOutcome, NoStep, Next, Asks, Loops, Refuses, Exits, step}
 use Rattle.bpf_step_model.specs.Run.{BoundedResult, Ended, StopReason, Exit, Loop, Refused, RunSegment, after_request}
 use Rattle.bpf_step_model.specs.Run.{mapped, with_first_step, ended_by, after_access, after_step, run}
 use Rattle.bpf_step_model.specs.Steps.{access_of, GoesOn, EndsBy, Steps, IsListOfStates, RunIsListOfStates}
-use Rattle.bpf_step_model.proofs.Endings.{mapped_from, ended_same}
 
 module _ (program : Program) where
   -- what is claimed of a run that ended

@@ -1,15 +1,12 @@
 -- A run is stuck exactly where its states come to one that has no step.
-use Rattle.std.proofs.Common.{◌≡◌, ℕ, zero, suc, ◌<◌, List, [], ◌∷◌, ◌++◌, Option}
-use Rattle.std.proofs.Common.{Some, None, refl, sym, ap, subst, arith}
-use Rattle.std.specs.Prelude.{slice_get}
+use Rattle.std.proofs.Common.{◌≡◌, ℕ, zero, suc, ◌<◌, List, [], ◌∷◌, ◌++◌, Option, Some, None, refl, sym, ap, subst}
+use Rattle.std.{proofs.Common.{arith}, specs.Prelude.{slice_get}}
 use Rattle.array_maps.specs.Accesses.{Access, words_after}
 use Rattle.bpf_insn_types.specs.Program.{Program}
-use Rattle.bpf_step_model.specs.State.{Machine}
+use Rattle.bpf_step_model.{specs.{State.{Machine}, Run.{after_access, after_step, run}}, proofs.Endings.{mapped_stuck}}
 use Rattle.bpf_step_model.specs.Step.{Request, StepOutcome, NoStep, Next, Asks, Loops, Refuses, Exits, step}
-use Rattle.bpf_step_model.specs.Run.{BoundedResult, Stuck, RunSegment, after_request, mapped}
-use Rattle.bpf_step_model.specs.Run.{with_first_step, after_access, after_step, run}
+use Rattle.bpf_step_model.specs.Run.{BoundedResult, Stuck, RunSegment, after_request, mapped, with_first_step}
 use Rattle.bpf_step_model.specs.Steps.{access_of, GoesOn, Steps, HasNoStep, LeadsToNoStep, RunIsStuck}
-use Rattle.bpf_step_model.proofs.Endings.{mapped_stuck}
 
 module _ (program : Program) where
   -- what is claimed of a run that is stuck

@@ -1,17 +1,9 @@
 -- An atomic operation does the same to a number of a frame and to a part of a map's element.
 use Rattle.std.specs.Prelude.{◌≡◌, ℕ, ◌<◌, ◌^◌}
-use Rattle.bpf_insn_types.specs.declared.insn.Width.{Width}
-use Rattle.bpf_insn_types.specs.declared.insn.Width.TheVariants.{W32, W64}
-use Rattle.bpf_insn_types.specs.declared.insn.AtomicOp.{AtomicOp}
-use Rattle.array_maps.specs.declared.access.Half.{Half}
-use Rattle.array_maps.specs.declared.access.Half.TheVariants.{Low, High}
-use Rattle.array_maps.specs.declared.access.Part.{Part}
-use Rattle.array_maps.specs.declared.access.Part.TheVariants.{Whole, Half as Of}
-use Rattle.array_maps.specs.Halves.{half_of, part_of}
-use Rattle.array_maps.specs.Accesses.{left_by}
-use Rattle.bpf_step_model.specs.State.{Machine}
-use Rattle.bpf_step_model.specs.Step.{atomic_left, tells, request_of}
-use Rattle.bpf_step_model.specs.Run.{action_of, after_request}
+use Rattle.bpf_insn_types.specs.declared.insn.{Width.{Width, TheVariants.{W32, W64}}, AtomicOp.{AtomicOp}}
+use Rattle.array_maps.specs.{declared.access.{Half.{Half, TheVariants.{Low, High}}, Part.{Part}}, Accesses.{left_by}}
+use Rattle.array_maps.specs.{declared.access.Part.TheVariants.{Whole, Half as Of}, Halves.{half_of, part_of}}
+use Rattle.bpf_step_model.specs.{State.{Machine}, Step.{atomic_left, tells, request_of}, Run.{action_of, after_request}}
 
 -- the width of an operation on a part
 abbrev pub width_of : Part → Width
@@ -27,7 +19,7 @@ other High = Low
 abbrev pub element_left : Part → AtomicOp → (src word operand compare : ℕ) → ℕ
 element_left part op src word operand compare = left_by (action_of (request_of part op src operand compare) word) word
 
--- of words it leaves in the part what it leaves of such a number of a frame, and the other half as it was; and it tells
+-- of words it leaves in the part what it leaves of such a number of a frame, and the other half as it was; and it loads
 -- the same register the same number
 pub record AtomicsAgree : Type 0 where
   pub left : (part : Part) (op : AtomicOp) (src word operand compare : ℕ) → word < 2 ^ 64 → operand < 2 ^ 64

@@ -1,11 +1,8 @@
 -- A bound decides nothing but whether there is an answer yet.
 use Rattle.std.specs.Prelude.{◌≡◌, ℕ, ◌≤◌, ◌⊎◌, List}
 use Rattle.bpf_insn_types.specs.Program.{Program}
-use Rattle.bpf_step_model.specs.State.{Machine, LoopCall}
-use Rattle.bpf_step_model.specs.Run.{BoundedResult, Unfinished, run}
-use Rattle.bpf_step_model.specs.Iteration.{iteration}
-use Rattle.bpf_step_model.specs.LoopInOrder.{loop_in_order}
-use Rattle.bpf_step_model.specs.ProgramInOrder.{program_in_order}
+use Rattle.bpf_step_model.specs.{State.{Machine, LoopCall}, Run.{BoundedResult, Unfinished, run}, Iteration.{iteration}}
+use Rattle.bpf_step_model.specs.{LoopInOrder.{loop_in_order}, ProgramInOrder.{program_in_order}}
 
 -- the first is not finished, or the second is the same
 abbrev pub Extends : {A : Type 0} → BoundedResult A → BoundedResult A → Type 0

@@ -13,6 +13,7 @@ pub mod ProgramRows
 pub mod LoopRows
 pub mod StepRows
 pub mod MapRows
+pub mod AreaWords
 pub mod Steps
 pub mod Bounds
 pub mod Atomics

@@ -1,17 +1,11 @@
 -- Lines that worked programs are made of, and what such programs give.
 use Rattle.std.specs.Prelude.{◌≡◌, ℕ, ℤ, pos, negsuc, List, [], ◌∷◌}
-use Rattle.bpf_insn_types.specs.declared.insn.Size.TheVariants.{Dw}
-use Rattle.bpf_insn_types.specs.declared.insn.Width.TheVariants.{W64}
-use Rattle.bpf_insn_types.specs.declared.insn.AluOp.{AluOp}
-use Rattle.bpf_insn_types.specs.declared.insn.AluOp.TheVariants.{Add, Sub, Lsh, Mov}
-use Rattle.bpf_insn_types.specs.declared.insn.Operand.TheVariants.{Imm, Reg}
-use Rattle.bpf_insn_types.specs.declared.insn.Callee.TheVariants.{Helper}
-use Rattle.bpf_insn_types.specs.declared.insn.ImmKind.TheVariants.{Code, Map, MapValue}
-use Rattle.bpf_insn_types.specs.declared.insn.Insn.{Insn}
-use Rattle.bpf_insn_types.specs.declared.insn.Insn.TheVariants.{Alu, Call, Exit, Load, StoreImm, LoadImm}
+use Rattle.bpf_insn_types.specs.declared.insn.{Size.TheVariants.{Dw}, Width.TheVariants.{W64}, AluOp.{AluOp}}
+use Rattle.bpf_insn_types.specs.declared.insn.{AluOp.TheVariants.{Add, Sub, Lsh, Mov}, Operand.TheVariants.{Imm, Reg}}
+use Rattle.bpf_insn_types.specs.declared.insn.{Callee.TheVariants.{Helper}, ImmKind.TheVariants.{Code, Map, MapValue}}
+use Rattle.bpf_insn_types.specs.declared.insn.Insn.{Insn, TheVariants.{Alu, Call, Exit, Load, StoreImm, LoadImm}}
 use Rattle.bpf_insn_types.specs.Program.{Program}
-use Rattle.bpf_step_model.specs.Run.{Ended, Stuck, mapped}
-use Rattle.bpf_step_model.specs.ProgramInOrder.{Finished, program_in_order}
+use Rattle.bpf_step_model.specs.{Run.{Ended, Stuck, mapped}, ProgramInOrder.{Finished, program_in_order}}
 
 -- mov64 r, n
 abbrev pub mov : ℕ → ℕ → Insn

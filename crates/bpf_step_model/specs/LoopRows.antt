@@ -1,21 +1,13 @@
 -- Worked loops in order: what they return and leave. Each is worked out by hand from bpf-helpers(7) and RFC 9669.
 use Rattle.std.specs.Prelude.{◌≡◌, ℕ, ℤ, pos, negsuc, List, [], ◌∷◌, ◌++◌, Option, Some, None, replicate}
-use Rattle.bpf_insn_types.specs.declared.insn.Size.TheVariants.{Dw}
-use Rattle.bpf_insn_types.specs.declared.insn.Width.TheVariants.{W64}
+use Rattle.bpf_insn_types.specs.declared.insn.{Size.TheVariants.{Dw}, Width.TheVariants.{W64}, Compare.TheVariants.{Ne}}
 use Rattle.bpf_insn_types.specs.declared.insn.SimpleOp.TheVariants.{Add as AddOp, Or as OrOp, And as AndOp}
-use Rattle.bpf_insn_types.specs.declared.insn.AtomicOp.TheVariants.{Simple, Fetch}
-use Rattle.bpf_insn_types.specs.declared.insn.AluOp.TheVariants.{Add, Or, And, Mov}
-use Rattle.bpf_insn_types.specs.declared.insn.Compare.TheVariants.{Ne}
-use Rattle.bpf_insn_types.specs.declared.insn.Operand.TheVariants.{Imm}
-use Rattle.bpf_insn_types.specs.declared.insn.Callee.TheVariants.{Helper}
-use Rattle.bpf_insn_types.specs.declared.insn.ImmKind.TheVariants.{Code, Number}
-use Rattle.bpf_insn_types.specs.declared.insn.Insn.{Insn}
-use Rattle.bpf_insn_types.specs.declared.insn.Insn.TheVariants.{Alu, Call, Exit, Jump, Load, Store}
-use Rattle.bpf_insn_types.specs.declared.insn.Insn.TheVariants.{StoreImm, Atomic, LoadImm}
+use Rattle.bpf_insn_types.specs.declared.insn.{AtomicOp.TheVariants.{Simple, Fetch}, Operand.TheVariants.{Imm}}
+use Rattle.bpf_insn_types.specs.declared.insn.{AluOp.TheVariants.{Add, Or, And, Mov}, Callee.TheVariants.{Helper}}
+use Rattle.bpf_insn_types.specs.declared.insn.{ImmKind.TheVariants.{Code, Number}, Insn.{Insn, TheVariants.{LoadImm}}}
+use Rattle.bpf_insn_types.specs.declared.insn.Insn.TheVariants.{Alu, Call, Exit, Jump, Load, Store, StoreImm, Atomic}
 use Rattle.bpf_insn_types.specs.Program.{Program}
-use Rattle.bpf_step_model.specs.State.{LoopCall, Bytes, fresh_frame}
-use Rattle.bpf_step_model.specs.Memory.{written_at}
-use Rattle.bpf_step_model.specs.Run.{Ended, Stuck}
+use Rattle.bpf_step_model.specs.{State.{LoopCall, Bytes, fresh_frame}, Memory.{written_at}, Run.{Ended, Stuck}}
 use Rattle.bpf_step_model.specs.ProgramInOrder.{LoopMade, Finished, program_in_order, valid_call, refused_call}
 use Rattle.bpf_step_model.specs.Lines.{mov, alu_imm, alu_reg, map_value, end, element_address, loop_with, loop_of}
 

@@ -1,20 +1,15 @@
 -- Worked accesses of maps: elements of two maps, and halves of elements. Each is worked out by hand from RFC 9669 and
 -- the profile.
 use Rattle.std.specs.Prelude.{◌≡◌, ℕ, ℤ, pos, negsuc, List, [], ◌∷◌, ◌++◌}
-use Rattle.bpf_insn_types.specs.declared.insn.Size.TheVariants.{B, H, W, Dw}
-use Rattle.bpf_insn_types.specs.declared.insn.Width.TheVariants.{W32}
-use Rattle.bpf_insn_types.specs.declared.insn.AtomicOp.{AtomicOp}
-use Rattle.bpf_insn_types.specs.declared.insn.AtomicOp.TheVariants.{Simple, Fetch, Xchg, Cmpxchg}
-use Rattle.bpf_insn_types.specs.declared.insn.SimpleOp.TheVariants as simple
-use Rattle.bpf_insn_types.specs.declared.insn.AluOp.TheVariants.{Mov}
-use Rattle.bpf_insn_types.specs.declared.insn.ImmKind.TheVariants.{Number}
-use Rattle.bpf_insn_types.specs.declared.insn.Insn.{Insn}
+use Rattle.bpf_insn_types.specs.declared.insn.{Size.TheVariants.{B, H, W, Dw}, Width.TheVariants.{W32}, Insn.{Insn}}
+use Rattle.bpf_insn_types.specs.declared.insn.AtomicOp.{AtomicOp, TheVariants.{Simple, Fetch, Xchg, Cmpxchg}}
+use Rattle.bpf_insn_types.specs.declared.insn.{AluOp.TheVariants.{Mov}, ImmKind.TheVariants.{Number}}
 use Rattle.bpf_insn_types.specs.declared.insn.Insn.TheVariants.{Exit, Load, LoadSx, StoreImm, Store, Atomic, LoadImm}
 use Rattle.bpf_insn_types.specs.Program.{Program}
-use Rattle.array_maps.specs.declared.access.Op.TheVariants as op
+use Rattle.bpf_insn_types.specs.declared.insn.SimpleOp.TheVariants as simple
 use Rattle.array_maps.specs.Accesses.{Access, Action, Read, ReadWrite, Reduce}
-use Rattle.bpf_step_model.specs.State.{main_entry}
-use Rattle.bpf_step_model.specs.Run.{Ended, Stuck, Exit as Exited, run}
+use Rattle.array_maps.specs.declared.access.Op.TheVariants as op
+use Rattle.bpf_step_model.specs.{State.{main_entry}, Run.{Ended, Stuck, Exit as Exited, run}}
 use Rattle.bpf_step_model.specs.ProgramInOrder.{program_in_order}
 use Rattle.bpf_step_model.specs.Lines.{mov, alu_reg, map_value, look_up, end, over_two, LinesGive, IsStuck}
 
@@ -69,7 +64,7 @@ pub record HalfStoreRows : Type 0 where
   pub two_bytes : IsStuck (at_one (StoreImm H 3 (pos 0) (pos 1) ∷ end))
 
 -- an atomic operation of 4 bytes at element 1 with 2 ^ 32 + 6 in r1, of which 6 counts, and 2 ^ 32 + 7 in r0; what was
--- told in r1 is returned
+-- loaded into r1 is returned
 abbrev pub half_atomic : AtomicOp → ℤ → List Insn
 half_atomic change offset =
     at_one (LoadImm Number 1 (pos 6) (pos 1) ∷ LoadImm Number 0 (pos 7) (pos 1) ∷ Atomic W32 change 3 1 offset

@@ -1,21 +1,14 @@
 -- Worked programs without loops: what they return in order. Each is worked out by hand from RFC 9669.
 use Rattle.std.specs.Prelude.{◌≡◌, ℕ, pos, negsuc, List, [], ◌∷◌}
-use Rattle.bpf_insn_types.specs.declared.insn.Size.TheVariants.{W, Dw}
-use Rattle.bpf_insn_types.specs.declared.insn.Width.TheVariants.{W32, W64}
+use Rattle.bpf_insn_types.specs.declared.insn.{Size.TheVariants.{W, Dw}, Width.TheVariants.{W32, W64}, Insn.{Insn}}
 use Rattle.bpf_insn_types.specs.declared.insn.AluOp.TheVariants.{Add, Div, Sdiv, Mod, Smod, Lsh, Mov, Arsh}
-use Rattle.bpf_insn_types.specs.declared.insn.Compare.TheVariants.{Eq, Gt}
-use Rattle.bpf_insn_types.specs.declared.insn.Operand.TheVariants.{Imm, Reg}
-use Rattle.bpf_insn_types.specs.declared.insn.MovsxBits.TheVariants.{B8, B16}
-use Rattle.bpf_insn_types.specs.declared.insn.ByteOrder.TheVariants.{Le, Be, Swap}
-use Rattle.bpf_insn_types.specs.declared.insn.EndianBits.TheVariants.{B16 as E16, B64 as E64}
-use Rattle.bpf_insn_types.specs.declared.insn.Callee.TheVariants.{Helper}
-use Rattle.bpf_insn_types.specs.declared.insn.ImmKind.TheVariants.{Number, Map}
-use Rattle.bpf_insn_types.specs.declared.insn.Insn.{Insn}
-use Rattle.bpf_insn_types.specs.declared.insn.Insn.TheVariants.{Alu, Neg, Movsx, Endian, Ja32, Call, Exit}
-use Rattle.bpf_insn_types.specs.declared.insn.Insn.TheVariants.{Jump, Load, StoreImm, LoadImm}
-use Rattle.bpf_insn_types.specs.Program.{Program}
-use Rattle.bpf_step_model.specs.Run.{Ended, Stuck}
-use Rattle.bpf_step_model.specs.ProgramInOrder.{program_in_order}
+use Rattle.bpf_insn_types.specs.declared.insn.{Compare.TheVariants.{Eq, Gt}, Operand.TheVariants.{Imm, Reg}}
+use Rattle.bpf_insn_types.specs.declared.insn.{MovsxBits.TheVariants.{B8, B16}, ByteOrder.TheVariants.{Le, Be, Swap}}
+use Rattle.bpf_insn_types.specs.{declared.insn.EndianBits.TheVariants.{B16 as E16, B64 as E64}, Program.{Program}}
+use Rattle.bpf_insn_types.specs.declared.insn.{Callee.TheVariants.{Helper}, ImmKind.TheVariants.{Number, Map}}
+use Rattle.bpf_insn_types.specs.declared.insn.Insn.TheVariants.{Alu, Neg, Movsx, Endian, Ja32, Call, Exit, Jump, Load}
+use Rattle.bpf_insn_types.specs.declared.insn.Insn.TheVariants.{StoreImm, LoadImm}
+use Rattle.bpf_step_model.specs.{Run.{Ended, Stuck}, ProgramInOrder.{program_in_order}}
 use Rattle.bpf_step_model.specs.Lines.{mov, alu_imm, alu_reg, over_two, Returns}
 
 -- the least signed number in r0, and a line after it

@@ -2,12 +2,11 @@
 use Rattle.std.specs.Prelude.{◌≡◌, ℕ, zero, suc, ◌<◌, ◌≤◌, ◌↔◌, List, [], ◌∷◌, ◌++◌, slice_get, Some, None}
 use Rattle.array_maps.specs.Accesses.{Access, words_after}
 use Rattle.bpf_insn_types.specs.Program.{Program}
-use Rattle.bpf_step_model.specs.State.{Machine}
+use Rattle.bpf_step_model.specs.{State.{Machine}, Run.{after_request, run}}
 use Rattle.bpf_step_model.specs.Step.{Request, StepOutcome, NoStep, Next, Asks, Loops, Refuses, Exits, step}
-use Rattle.bpf_step_model.specs.Run.{Ended, Stuck, StopReason, Exit, Loop, Refused}
-use Rattle.bpf_step_model.specs.Run.{RunSegment, action_of, after_request, run}
+use Rattle.bpf_step_model.specs.Run.{Ended, Stuck, StopReason, Exit, Loop, Refused, RunSegment, action_of}
 
--- the access that a request is, where a word stands
+-- the access that a request is, by the word there
 abbrev pub access_of : ℕ → Request → ℕ → Access
 access_of element request word = record { element = element; action = action_of request word }
 

@@ -2,12 +2,8 @@
 //! laws, and what a refused loop call asked for: nothing runs here.
 #![tactic(auto)]
 
-ghost use Rattle.bpf_step_model.specs.Atomics.{AtomicsAgree};
-ghost use Rattle.bpf_step_model.specs.Bounds.{GreaterBoundAgrees};
-ghost use Rattle.bpf_step_model.specs.LoopRows.{LoopRows};
-ghost use Rattle.bpf_step_model.specs.MapRows.{MapRows};
-ghost use Rattle.bpf_step_model.specs.ProgramRows.{ProgramRows};
-ghost use Rattle.bpf_step_model.specs.StepRows.{StepRows};
+ghost use Rattle.bpf_step_model.specs.{Atomics.{AtomicsAgree}, Bounds.{GreaterBoundAgrees}, LoopRows.{LoopRows}};
+ghost use Rattle.bpf_step_model.specs.{MapRows.{MapRows}, ProgramRows.{ProgramRows}, StepRows.{StepRows}};
 ghost use Rattle.bpf_step_model.specs.Steps.{RunIsListOfStates, RunIsStuck};
 
 mod refused_call;

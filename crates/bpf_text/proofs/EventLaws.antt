@@ -1,11 +1,9 @@
 -- Reading lines of events one after the other, as a loop does.
 use Rattle.std.proofs.Common.{◌≡◌, ℕ, List, [], ◌∷◌, ◌++◌, Result, Ok, refl, ap}
-use Rattle.bpf_text_lex.specs.Words.{words_of}
-use Rattle.bpf_text_lex.specs.declared.text_error.TextError.{TextError}
+use Rattle.bpf_text_lex.specs.{Words.{words_of}, declared.text_error.TextError.{TextError}}
+use Rattle.bpf_text_lex.{specs.Refusals.{at_line, ◌>>=◌, text_refusal}, proofs.RefusalLaws.{bind_fails}}
 use Rattle.bpf_insn_types.specs.Outcome.{RefusalMatches}
-use Rattle.bpf_text_lex.specs.Refusals.{at_line, ◌>>=◌, text_refusal}
 use Rattle.loop_core_model.specs.declared.event.Event.{Event}
-use Rattle.bpf_text_lex.proofs.RefusalLaws.{bind_fails}
 use Rattle.bpf_text.specs.EventsText.{events_of, events_behind}
 
 pub events_behind-line : (before : List Event) (line : ℕ × List ℕ) (lines : List (ℕ × List ℕ)) (more : List Event) →

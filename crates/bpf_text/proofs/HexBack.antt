@@ -1,30 +1,20 @@
 -- A unit is read back from its hex form, so no other unit has it.
 use Rattle.std.proofs.Common.{◌≡◌, ℕ, zero, suc, ◌+◌, ◌*◌, ◌/◌, ◌%◌, ◌<◌, ◌≤◌, true, List, [], ◌∷◌, ◌++◌, length, take}
 use Rattle.std.proofs.Common.{drop, get_or, Ok, Err, refl, sym, ap, ap₂, ◌∙◌, subst, append_assoc, append-nil, arith}
-use Rattle.std.specs.Prelude.{nat_le, nat_lt}
-use Rattle.std.specs.List.{list_all}
+use Rattle.std.{specs.{Prelude.{nat_le, nat_lt}, List.{list_all}}, proofs.lemmas.List.Sums.{AllPass-from_list_all}}
 use Rattle.std.proofs.lemmas.Bool.{le-leb, le-ltb, and_parts, and_from, cond-true, cond-false}
 use Rattle.std.proofs.lemmas.List.{length-append, length-take-le, take-append-drop}
-use Rattle.std.proofs.lemmas.List.Sums.{AllPass-from_list_all}
 use Rattle.hex.specs.Hex.{lower_digits, encode_with, encode_lower}
 use Rattle.hex.proofs.HexLemmas.{length-encode_with, decode_of-encode_lower}
-use Rattle.bpf_insn_types.specs.declared.insn.Insn.{Insn}
-use Rattle.bpf_insn.specs.Spelling.{program_spelling}
-use Rattle.bpf_insn.proofs.Programs.{one_program}
-use Rattle.bpf_text_lex.specs.Lines.{lines_of, contents_from, contents_of}
-use Rattle.bpf_text_lex.specs.Words.{words_of}
+use Rattle.bpf_insn_types.specs.{declared.insn.Insn.{Insn}, Limits.{AreSizes, IsUnit}, Program.{Program, slot_count}}
+use Rattle.bpf_insn.{specs.Spelling.{program_spelling}, proofs.Programs.{one_program}}
+use Rattle.bpf_text_lex.specs.{Lines.{lines_of, contents_from, contents_of}, Words.{words_of}, Refusals.{at_line}}
+use Rattle.bpf_text_lex.{specs.PrintedLines.{head_spelling}, proofs.ResultLaws.{same_ok, mapped}}
+use Rattle.bpf_text_lex.proofs.{SolidWords.{is_solid, solids_in_line, ends_word, Line}, PrintedLineLaws.{contents-line}}
+use Rattle.bpf_text_lex.proofs.PrintedHead.{word_first, head_back, head_is_line, head_short}
 use Rattle.bpf_text_lex.specs.declared.text_error.TextFault.TheVariants as faults
 use Rattle.bpf_text_lex.specs.declared.text_error.TextError.TheVariants as errors
-use Rattle.bpf_text_lex.specs.Refusals.{at_line}
-use Rattle.bpf_insn_types.specs.Limits.{AreSizes, IsUnit}
-use Rattle.bpf_text_lex.specs.PrintedLines.{head_spelling}
-use Rattle.bpf_text.specs.PrintedUnits.{slot_lines, hex_lines, hex_form}
-use Rattle.bpf_text.proofs.HexLines.{slot_lines-slot}
-use Rattle.bpf_text_lex.proofs.ResultLaws.{same_ok, mapped}
-use Rattle.bpf_insn_types.specs.Program.{Program, slot_count}
-use Rattle.bpf_text_lex.proofs.SolidWords.{is_solid, solids_in_line, ends_word, Line}
-use Rattle.bpf_text_lex.proofs.PrintedLineLaws.{contents-line}
-use Rattle.bpf_text_lex.proofs.PrintedHead.{word_first, head_back, head_is_line, head_short}
+use Rattle.bpf_text.{specs.PrintedUnits.{slot_lines, hex_lines, hex_form}, proofs.HexLines.{slot_lines-slot}}
 use Rattle.bpf_text.specs.HexText.{SizesAndBytes, as_bytes, bytes_of_lines, bytes_behind, hex_parts_of, hex_text}
 use Rattle.bpf_text.proofs.HexLaws.{bytes_behind-line, bytes_behind-end}
 use Rattle.bpf_text.proofs.SpelledBytes.{Bytes, bytes-parts, bytes_at_index, SlotBytes, spelled_bytes}

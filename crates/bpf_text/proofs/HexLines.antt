@@ -1,7 +1,6 @@
 -- Lines of hex digits, a slot at a time.
-use Rattle.std.proofs.Common.{◌≡◌, ℕ, ◌<◌, ◌≤◌, List, [], ◌∷◌, ◌++◌, length, take, drop}
-use Rattle.std.proofs.Common.{codes, refl, arith, ap, sym, ◌∙◌, append_assoc}
-use Rattle.std.proofs.lemmas.List.{append-nil}
+use Rattle.std.proofs.Common.{◌≡◌, ℕ, ◌<◌, ◌≤◌, List, [], ◌∷◌, ◌++◌, length, take, drop, codes, refl, arith, ap, sym}
+use Rattle.std.proofs.{Common.{◌∙◌, append_assoc}, lemmas.List.{append-nil}}
 use Rattle.hex.specs.Hex.{encode_lower}
 use Rattle.bpf_text.specs.PrintedUnits.{slot_lines}
 

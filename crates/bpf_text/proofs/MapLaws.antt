@@ -1,10 +1,8 @@
 -- Reading maps one after the other, as a loop does.
 use Rattle.std.proofs.Common.{◌≡◌, ℕ, ◌+◌, List, [], ◌∷◌, ◌++◌, length, Result, Ok, refl, ap, subst, arith}
-use Rattle.bpf_text_lex.specs.Words.{words_of}
-use Rattle.bpf_text_lex.specs.declared.text_error.TextError.{TextError}
+use Rattle.bpf_text_lex.specs.{Words.{words_of}, declared.text_error.TextError.{TextError}}
+use Rattle.bpf_text_lex.{specs.Refusals.{at_line, ◌>>=◌, text_refusal}, proofs.RefusalLaws.{bind_fails}}
 use Rattle.bpf_insn_types.specs.Outcome.{RefusalMatches}
-use Rattle.bpf_text_lex.specs.Refusals.{at_line, ◌>>=◌, text_refusal}
-use Rattle.bpf_text_lex.proofs.RefusalLaws.{bind_fails}
 use Rattle.bpf_text.specs.MapsText.{values_read, values_held, maps_behind}
 
 -- one more map, with its values

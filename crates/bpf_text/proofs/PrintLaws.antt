@@ -1,6 +1,6 @@
 -- Printing maps one after the other, as a loop does.
-use Rattle.std.proofs.Common.{◌≡◌, ℕ, zero, suc, ◌+◌, ◌<◌, List, [], ◌∷◌, ◌++◌, length, drop}
-use Rattle.std.proofs.Common.{get_or, Vec, Global, sym, ap, append_assoc, arith}
+use Rattle.std.proofs.Common.{◌≡◌, ℕ, zero, suc, ◌+◌, ◌<◌, List, [], ◌∷◌, ◌++◌, length, drop, get_or, Vec, Global, sym}
+use Rattle.std.proofs.Common.{ap, append_assoc, arith}
 use Rattle.bpf_text.specs.MapsText.{lists, map_spelling, map_spellings_from}
 
 -- one more map is printed

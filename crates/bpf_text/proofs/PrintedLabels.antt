@@ -1,11 +1,7 @@
 -- A printed line is no label.
-use Rattle.std.proofs.Common.{◌≡◌, ℕ, ◌+◌, ◌-◌, Bool, true, false, ◌&&◌, ◌==◌, get_or}
-use Rattle.std.proofs.Common.{List, [], ◌∷◌, ◌++◌, length, refl, ap, ◌∙◌, arith}
-use Rattle.std.proofs.lemmas.List.{length-append}
-use Rattle.std.proofs.Math.Seq.{get_or-append_seam}
-use Rattle.bpf_text_lex.specs.Names.{is_name}
-use Rattle.bpf_text_lex.proofs.SolidWords.{Ends, Line}
-use Rattle.bpf_text_lex.proofs.PrintedLineLaws.{solid_no_colon}
+use Rattle.std.proofs.Common.{◌≡◌, ℕ, ◌+◌, ◌-◌, Bool, true, false, ◌&&◌, ◌==◌, get_or, List, [], ◌∷◌, ◌++◌, length}
+use Rattle.std.proofs.{Common.{refl, ap, ◌∙◌, arith}, lemmas.List.{length-append}, Math.Seq.{get_or-append_seam}}
+use Rattle.bpf_text_lex.{specs.Names.{is_name}, proofs.{SolidWords.{Ends, Line}, PrintedLineLaws.{solid_no_colon}}}
 use Rattle.bpf_text.specs.AssemblerText.{name_of, is_label}
 
 last_byte : (line : List ℕ) → (e : Ends line) → get_or line (length line - 1) 0 ≡ e.last

@@ -1,14 +1,10 @@
 -- Reading a unit's lines one after the other, as loops do.
 use Rattle.std.proofs.Common.{◌≡◌, ℕ, ◌+◌, List, [], ◌∷◌, ◌++◌, Option, Some, None, Result, Ok, refl, ap, ◌∙◌, subst}
-use Rattle.bpf_insn_types.specs.declared.insn.Insn.{Insn}
-use Rattle.bpf_text_lex.specs.declared.text_error.TextError.{TextError}
-use Rattle.bpf_insn_types.specs.Outcome.{RefusalMatches}
-use Rattle.bpf_text_lex.specs.Refusals.{at_line, ◌>>=◌, text_refusal}
-use Rattle.bpf_text_lex.proofs.RefusalLaws.{bind_fails}
-use Rattle.bpf_text_operands.specs.declared.labels.Label.{Label}
 use Rattle.std.specs.Option.{option_or}
-use Rattle.bpf_text_operands.proofs.LabelLaws.{option_or-none}
-use Rattle.bpf_insn_types.specs.Program.{slot_count}
+use Rattle.bpf_insn_types.specs.{declared.insn.Insn.{Insn}, Outcome.{RefusalMatches}, Program.{slot_count}}
+use Rattle.bpf_text_lex.specs.{declared.text_error.TextError.{TextError}, Refusals.{at_line, ◌>>=◌, text_refusal}}
+use Rattle.bpf_text_lex.proofs.RefusalLaws.{bind_fails}
+use Rattle.bpf_text_operands.{specs.declared.labels.Label.{Label}, proofs.LabelLaws.{option_or-none}}
 use Rattle.bpf_text.specs.AssemblerText.{line_slots, line_label, labels_from, line_at, insns_behind}
 
 -- ---- labels

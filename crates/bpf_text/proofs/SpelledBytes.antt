@@ -1,39 +1,23 @@
 -- What instructions spell is bytes, 8 a slot.
-use Rattle.std.proofs.Common.{◌≡◌, ℕ, zero, suc, ◌+◌, ◌*◌, ◌<◌, ◌≤◌, List, [], ◌∷◌, ◌++◌}
-use Rattle.std.proofs.Common.{length, get_or, Result, Ok, sym, subst, arith}
-use Rattle.std.specs.Prelude.{IfOk, ℤ, pos, negsuc, Bool, true, false, nat_le}
-use Rattle.std.specs.Int.{w16, w32, to_le_bytes, cast_unsigned}
-use Rattle.std.proofs.lemmas.List.{length-append}
-use Rattle.std.proofs.lemmas.Bool.{leb-true}
-use Rattle.bpf_insn_types.proofs.Cases.{each_width, each_size, each_compare}
-use Rattle.bpf_insn_types.specs.declared.insn.Width.{Width}
-use Rattle.bpf_insn_types.specs.declared.insn.Width.TheVariants.{W32, W64}
-use Rattle.bpf_insn_types.specs.declared.insn.Size.{Size}
+use Rattle.std.proofs.Common.{◌≡◌, ℕ, zero, suc, ◌+◌, ◌*◌, ◌<◌, ◌≤◌, List, [], ◌∷◌, ◌++◌, length, get_or, Result, Ok}
+use Rattle.std.{proofs.Common.{sym, subst, arith}, specs.Prelude.{IfOk, ℤ, pos, negsuc, Bool, true, false, nat_le}}
+use Rattle.std.{specs.Int.{w16, w32, to_le_bytes, cast_unsigned}, proofs.lemmas.{List.{length-append}, Bool.{leb-true}}}
+use Rattle.bpf_insn_types.{proofs.Cases.{each_width, each_size, each_compare}, specs.declared.insn.Width.{Width}}
+use Rattle.bpf_insn_types.specs.declared.insn.{Width.TheVariants.{W32, W64}, Size.{Size}, Compare.{Compare}}
+use Rattle.bpf_insn_types.specs.declared.insn.{Operand.TheVariants.{Imm, Reg}, ImmKind.{ImmKind}, Insn.{Insn}}
+use Rattle.bpf_insn_types.specs.{Slots.{slots_of}, Values.{AreInsns}, Program.{slot_count}}
 use Rattle.bpf_insn_types.specs.declared.insn.Size.TheVariants as size
 use Rattle.bpf_insn_types.specs.declared.insn.MovsxBits.TheVariants as movsx
 use Rattle.bpf_insn_types.specs.declared.insn.ByteOrder.TheVariants as order
-use Rattle.bpf_insn_types.specs.declared.insn.Compare.{Compare}
-use Rattle.bpf_insn_types.specs.declared.insn.Operand.TheVariants.{Imm, Reg}
-use Rattle.bpf_insn_types.specs.declared.insn.ImmKind.{ImmKind}
-use Rattle.bpf_insn_types.specs.declared.insn.Insn.{Insn}
 use Rattle.bpf_insn_types.specs.declared.insn.Insn.TheVariants as insn
-use Rattle.bpf_insn.specs.declared.form.AluCode.{AluCode}
-use Rattle.bpf_insn.specs.declared.form.AluCode.TheVariants as alu
-use Rattle.bpf_insn.specs.declared.form.Form.{Form}
-use Rattle.bpf_insn.specs.declared.form.Form.TheVariants as form
-use Rattle.bpf_insn.specs.declared.slot.Slot.{Slot}
-use Rattle.bpf_insn.specs.declared.codec_error.CodecFault.{CodecFault}
+use Rattle.bpf_insn.{specs.declared.{form.{AluCode.{AluCode}, Form.{Form}}, slot.Slot.{Slot}}, proofs.Forms.{each_code}}
+use Rattle.bpf_insn.specs.{declared.codec_error.CodecFault.{CodecFault}, SlotBytes.{slot_bytes, slots_bytes}}
 use Rattle.bpf_insn.specs.Opcode.{alu_class, jump_class, alu_code, jump_code, size_bits, opcode}
-use Rattle.bpf_insn_types.specs.Slots.{slots_of}
-use Rattle.bpf_insn.specs.SlotBytes.{slot_bytes, slots_bytes}
 use Rattle.bpf_insn.specs.Spelling.{code_of, has_next, two_slots, spelling, bytes_at, spelling_from}
-use Rattle.bpf_insn_types.specs.Values.{AreInsns}
-use Rattle.bpf_insn.proofs.Bytes.{HasBytes, HaveBytes}
-use Rattle.bpf_insn.proofs.Forms.{each_code}
-use Rattle.bpf_insn.proofs.HasBytes.{spelling_has}
-use Rattle.bpf_insn.proofs.Lengths.{spelled_len}
+use Rattle.bpf_insn.proofs.{Bytes.{HasBytes, HaveBytes}, HasBytes.{spelling_has}, Lengths.{spelled_len}}
 use Rattle.bpf_insn.proofs.Programs.{of_ok, both_ok, bytes_ok}
-use Rattle.bpf_insn_types.specs.Program.{slot_count}
+use Rattle.bpf_insn.specs.declared.form.AluCode.TheVariants as alu
+use Rattle.bpf_insn.specs.declared.form.Form.TheVariants as form
 
 -- ---- opcodes
 

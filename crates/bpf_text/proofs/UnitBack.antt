@@ -1,36 +1,23 @@
 -- A unit is read back from its canonical text.
-use Rattle.std.proofs.Common.{◌≡◌, ℕ, ◌+◌, ◌*◌, ◌≤◌, List, [], ◌∷◌, ◌++◌, length, flat_map, Option}
-use Rattle.std.proofs.Common.{Ok, Err, refl, sym, ap, ◌∙◌, append_assoc, append-nil, arith}
-use Rattle.std.specs.Prelude.{nat_le, nat_lt}
-use Rattle.std.proofs.lemmas.Bool.{le-leb, le-ltb, cond-true, cond-false}
-use Rattle.std.proofs.lemmas.List.{length-append}
-use Rattle.bpf_insn_types.specs.declared.insn.Insn.{Insn}
-use Rattle.bpf_insn.specs.declared.slot.Slot.{Slot}
-use Rattle.bpf_insn_types.specs.Slots.{slots_of}
-use Rattle.bpf_insn.specs.Spelling.{spelling, bytes_at, spelling_from, program_spelling}
-use Rattle.bpf_insn_types.specs.Values.{InsnFits, AreInsns}
+use Rattle.std.proofs.Common.{◌≡◌, ℕ, ◌+◌, ◌*◌, ◌≤◌, List, [], ◌∷◌, ◌++◌, length, flat_map, Option, Ok, Err, refl, sym}
+use Rattle.std.{proofs.Common.{ap, ◌∙◌, append_assoc, append-nil, arith}, specs.Prelude.{nat_le, nat_lt}}
+use Rattle.std.proofs.lemmas.{Bool.{le-leb, le-ltb, cond-true, cond-false}, List.{length-append}}
+use Rattle.bpf_insn_types.specs.{declared.insn.Insn.{Insn}, Slots.{slots_of}, Values.{InsnFits, AreInsns}}
+use Rattle.bpf_insn_types.specs.{Program.{slot_count, Program}, Limits.{IsUnit}}
+use Rattle.bpf_insn_types.proofs.ProgramLaws.{slots_some, slot_count-append}
+use Rattle.bpf_insn.specs.{declared.slot.Slot.{Slot}, Spelling.{spelling, bytes_at, spelling_from, program_spelling}}
 use Rattle.bpf_insn.proofs.Programs.{both_ok, bytes_ok}
-use Rattle.bpf_text_lex.specs.Lines.{lines_of, contents_from, contents_of}
+use Rattle.bpf_text_lex.specs.{Lines.{lines_of, contents_from, contents_of}, Refusals.{at_line}}
+use Rattle.bpf_text_lex.specs.PrintedLines.{insn_spelling, insn_line, head_spelling}
+use Rattle.bpf_text_lex.proofs.{ResultLaws.{same_ok, mapped}, PrintedInsns.{insn_is_line}}
+use Rattle.bpf_text_lex.proofs.{PrintedLineLaws.{contents-line}, PrintedHead.{head_back, head_is_line, head_short}}
 use Rattle.bpf_text_lex.specs.declared.text_error.TextFault.TheVariants as faults
 use Rattle.bpf_text_lex.specs.declared.text_error.TextError.TheVariants as errors
-use Rattle.bpf_text_lex.specs.Refusals.{at_line}
-use Rattle.bpf_text_lex.specs.PrintedLines.{insn_spelling, insn_line, head_spelling}
-use Rattle.bpf_text_operands.specs.declared.labels.Label.{Label}
-use Rattle.bpf_text_operands.specs.LabelTable.{slot_in}
-use Rattle.bpf_text_operands.specs.Statements.{insn_of_line}
+use Rattle.bpf_text_operands.specs.{declared.labels.Label.{Label}, LabelTable.{slot_in}, Statements.{insn_of_line}}
 use Rattle.bpf_text_operands.proofs.InsnBack.{insn_back}
-use Rattle.bpf_text_lex.proofs.ResultLaws.{same_ok, mapped}
-use Rattle.bpf_insn_types.specs.Program.{slot_count, Program}
-use Rattle.bpf_text.specs.AssemblerText.{name_of, is_label, labels_from, label_at, in_limit}
-use Rattle.bpf_text.specs.AssemblerText.{line_at, insns_behind, unit_of, assembler_text}
-use Rattle.bpf_insn_types.specs.Limits.{IsUnit}
-use Rattle.bpf_text.specs.PrintedUnits.{assembler_lines, assembler_form}
-use Rattle.bpf_insn_types.proofs.ProgramLaws.{slots_some, slot_count-append}
-use Rattle.bpf_text.proofs.ReadingLaws.{insns_behind-line, insns_behind-end}
-use Rattle.bpf_text_lex.proofs.PrintedInsns.{insn_is_line}
-use Rattle.bpf_text_lex.proofs.PrintedLineLaws.{contents-line}
-use Rattle.bpf_text.proofs.PrintedLabels.{no_label}
-use Rattle.bpf_text_lex.proofs.PrintedHead.{head_back, head_is_line, head_short}
+use Rattle.bpf_text.specs.AssemblerText.{name_of, is_label, labels_from, label_at, in_limit, line_at, insns_behind}
+use Rattle.bpf_text.specs.{AssemblerText.{unit_of, assembler_text}, PrintedUnits.{assembler_lines, assembler_form}}
+use Rattle.bpf_text.proofs.{ReadingLaws.{insns_behind-line, insns_behind-end}, PrintedLabels.{no_label}}
 
 -- ---- what has bytes
 

@@ -1,23 +1,15 @@
 -- What the lines of a unit's assembler text mean.
-use Rattle.std.specs.Prelude.{◌≡◌, ℕ, ◌+◌, ◌-◌, ◌==◌, ◌&&◌, nat_lt, nat_le, Bool, if◌then◌else◌, List, []}
-use Rattle.std.specs.Prelude.{◌∷◌, ◌++◌, length, take, slice_index, Option, Some, None, Result, Ok, Err}
-use Rattle.std.specs.Str.{bytes_eq}
-use Rattle.bpf_insn_types.specs.declared.insn.Insn.{Insn}
-use Rattle.bpf_insn_types.specs.Program.{Program, slot_count}
-use Rattle.bpf_insn_types.specs.Slots.{slots_of}
-use Rattle.bpf_text_lex.specs.Lines.{contents_of}
-use Rattle.bpf_text_lex.specs.Names.{is_name}
-use Rattle.bpf_text_lex.specs.Words.{words_of}
-use Rattle.bpf_text_lex.specs.declared.text_error.TextFault.{TextFault}
-use Rattle.bpf_text_lex.specs.declared.text_error.TextFault.TheVariants as faults
-use Rattle.bpf_text_lex.specs.declared.text_error.TextError.{TextError}
-use Rattle.bpf_text_lex.specs.declared.text_error.TextError.TheVariants as errors
-use Rattle.bpf_insn_types.specs.Outcome.{RefusalMatches}
-use Rattle.bpf_text_lex.specs.Refusals.{at_line, ◌>>=◌, text_refusal}
-use Rattle.bpf_text_lex.specs.Head.{head_of}
-use Rattle.bpf_text_operands.specs.declared.labels.Label.{Label}
+use Rattle.std.specs.Prelude.{◌≡◌, ℕ, ◌+◌, ◌-◌, ◌==◌, ◌&&◌, nat_lt, nat_le, Bool, if◌then◌else◌, List, [], ◌∷◌, ◌++◌}
+use Rattle.std.specs.{Prelude.{length, take, slice_index, Option, Some, None, Result, Ok, Err}, Str.{bytes_eq}}
 use Rattle.std.specs.Option.{option_or}
-use Rattle.bpf_text_operands.specs.LabelTable.{slot_in}
+use Rattle.bpf_insn_types.specs.{declared.insn.Insn.{Insn}, Program.{Program, slot_count}, Slots.{slots_of}}
+use Rattle.bpf_insn_types.specs.Outcome.{RefusalMatches}
+use Rattle.bpf_text_lex.specs.{Lines.{contents_of}, Names.{is_name}, Words.{words_of}, Head.{head_of}}
+use Rattle.bpf_text_lex.specs.declared.text_error.{TextFault.{TextFault}, TextError.{TextError}}
+use Rattle.bpf_text_lex.specs.Refusals.{at_line, ◌>>=◌, text_refusal}
+use Rattle.bpf_text_lex.specs.declared.text_error.TextFault.TheVariants as faults
+use Rattle.bpf_text_lex.specs.declared.text_error.TextError.TheVariants as errors
+use Rattle.bpf_text_operands.specs.{declared.labels.Label.{Label}, LabelTable.{slot_in}}
 use Rattle.bpf_text_operands.specs.Statements.{insn_of_line, slots_at}
 
 -- the name of a label line: the line without its last byte

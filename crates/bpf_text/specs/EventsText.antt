@@ -1,20 +1,14 @@
 -- Events as a text: a first line `bounds` and numbers, then lines of words, each a letter and a worker.
-use Rattle.std.specs.Prelude.{ℕ, ◌-◌, ◌^◌, ◌==◌, ◌&&◌, nat_lt, Bool, if◌then◌else◌, List, [], ◌∷◌, ◌++◌, length}
-use Rattle.std.specs.Prelude.{drop, slice_index, codes, Option, Some, None, is_some, Result, Ok, Err}
-use Rattle.std.specs.List.{list_all}
+use Rattle.std.specs.Prelude.{ℕ, ◌-◌, ◌^◌, ◌==◌, ◌&&◌, nat_lt, Bool, if◌then◌else◌, List, [], ◌∷◌, ◌++◌, length, drop}
+use Rattle.std.specs.{Prelude.{slice_index, codes, Option, Some, None, is_some, Result, Ok, Err}, List.{list_all}}
 use Rattle.std.specs.Str.{bytes_eq}
-use Rattle.bpf_text_lex.specs.Lines.{contents_of}
-use Rattle.bpf_text_lex.specs.Numbers.{is_number}
-use Rattle.bpf_text_lex.specs.Words.{words_of}
-use Rattle.bpf_text_lex.specs.declared.text_error.TextFault.{TextFault}
-use Rattle.bpf_text_lex.specs.declared.text_error.TextFault.TheVariants as faults
-use Rattle.bpf_text_lex.specs.declared.text_error.TextError.{TextError}
-use Rattle.bpf_text_lex.specs.declared.text_error.TextError.TheVariants as errors
+use Rattle.bpf_text_lex.specs.{Lines.{contents_of}, Numbers.{is_number}, Words.{words_of}, Fields.{fields_of, field_of}}
+use Rattle.bpf_text_lex.specs.declared.text_error.{TextFault.{TextFault}, TextError.{TextError}}
 use Rattle.bpf_text_lex.specs.Refusals.{at_line, with_first_item, ◌>>=◌}
-use Rattle.bpf_text_lex.specs.Fields.{fields_of, field_of}
-use Rattle.loop_core_model.specs.declared.event.EventKind.{EventKind}
+use Rattle.bpf_text_lex.specs.declared.text_error.TextFault.TheVariants as faults
+use Rattle.bpf_text_lex.specs.declared.text_error.TextError.TheVariants as errors
+use Rattle.loop_core_model.specs.declared.event.{EventKind.{EventKind}, Event.{Event}}
 use Rattle.loop_core_model.specs.declared.event.EventKind.TheVariants as kind
-use Rattle.loop_core_model.specs.declared.event.Event.{Event}
 
 -- the kind that a letter denotes
 abbrev pub event_kind_at : ℕ → Option EventKind

@@ -1,15 +1,10 @@
 -- The hex form of a unit, read: a first line of sizes, then lines of hex digits.
 use Rattle.std.specs.Prelude.{ℕ, ◌+◌, nat_lt, nat_le, if◌then◌else◌, List, [], ◌∷◌, ◌++◌, length, Result, Ok, Err}
-use Rattle.hex.specs.declared.error.FromHexError.{FromHexError}
-use Rattle.hex.specs.Hex.{decode_of}
-use Rattle.bpf_text_lex.specs.Lines.{contents_of}
-use Rattle.bpf_text_lex.specs.Words.{words_of}
-use Rattle.bpf_text_lex.specs.declared.text_error.TextFault.{TextFault}
+use Rattle.hex.specs.{declared.error.FromHexError.{FromHexError}, Hex.{decode_of}}
+use Rattle.bpf_text_lex.specs.{Lines.{contents_of}, Words.{words_of}, declared.text_error.TextFault.{TextFault}}
+use Rattle.bpf_text_lex.specs.{declared.text_error.TextError.{TextError}, Refusals.{at_line, ◌>>=◌}, Head.{head_of}}
 use Rattle.bpf_text_lex.specs.declared.text_error.TextFault.TheVariants as faults
-use Rattle.bpf_text_lex.specs.declared.text_error.TextError.{TextError}
 use Rattle.bpf_text_lex.specs.declared.text_error.TextError.TheVariants as errors
-use Rattle.bpf_text_lex.specs.Refusals.{at_line, ◌>>=◌}
-use Rattle.bpf_text_lex.specs.Head.{head_of}
 
 -- the maps' sizes and the instructions' bytes
 pub record SizesAndBytes : Type 0 where

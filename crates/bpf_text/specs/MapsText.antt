@@ -1,20 +1,12 @@
 -- The values of maps as a text: for each map a line `map K: v v`, with K from 0 rising.
-use Rattle.std.specs.Prelude.{ℕ, ◌+◌, ◌-◌, ◌^◌, ◌==◌, Vec, ◌&&◌, nat_lt, nat_le, Bool, false, if◌then◌else◌}
-use Rattle.std.specs.Prelude.{List, [], ◌∷◌, ◌++◌, length, take, slice_index, map, codes, Result, Ok, Err}
-use Rattle.std.specs.declared.alloc.Global.{Global}
-use Rattle.std.specs.Fmt.{decimal}
-use Rattle.std.specs.List.{flat_map}
-use Rattle.std.specs.Str.{bytes_eq}
-use Rattle.bpf_text_lex.specs.declared.numbers.NumberError.{NumberError}
-use Rattle.bpf_text_lex.specs.Lines.{contents_of}
-use Rattle.bpf_text_lex.specs.Numbers.{is_number, number_in}
-use Rattle.bpf_text_lex.specs.Words.{words_of}
-use Rattle.bpf_text_lex.specs.declared.text_error.TextFault.{TextFault}
+use Rattle.std.specs.Prelude.{ℕ, ◌+◌, ◌-◌, ◌^◌, ◌==◌, Vec, ◌&&◌, nat_lt, nat_le, Bool, false, if◌then◌else◌, List, []}
+use Rattle.std.specs.{Prelude.{◌∷◌, ◌++◌, length, take, slice_index, map, codes, Result, Ok, Err}, Fmt.{decimal}}
+use Rattle.std.specs.{declared.alloc.Global.{Global}, List.{flat_map}, Str.{bytes_eq}}
+use Rattle.bpf_text_lex.specs.{declared.numbers.NumberError.{NumberError}, Lines.{contents_of}, Words.{words_of}}
+use Rattle.bpf_text_lex.specs.{Numbers.{is_number, number_in}, declared.text_error.TextFault.{TextFault}}
+use Rattle.bpf_text_lex.specs.{declared.text_error.TextError.{TextError}, Refusals.{at_line, ◌>>=◌}, Fields.{fields_of}}
 use Rattle.bpf_text_lex.specs.declared.text_error.TextFault.TheVariants as faults
-use Rattle.bpf_text_lex.specs.declared.text_error.TextError.{TextError}
 use Rattle.bpf_text_lex.specs.declared.text_error.TextError.TheVariants as errors
-use Rattle.bpf_text_lex.specs.Refusals.{at_line, ◌>>=◌}
-use Rattle.bpf_text_lex.specs.Fields.{fields_of}
 
 -- maps without where they lie in memory
 abbrev pub lists : List (Vec ℕ Global) → List (List ℕ)

@@ -1,11 +1,8 @@
 -- A unit as it is printed: its canonical assembler text, and its hex form.
-use Rattle.std.specs.Prelude.{ℕ, List, [], ◌∷◌, ◌++◌, codes, Result}
-use Rattle.std.specs.List.{flat_map}
-use Rattle.std.specs.Result.{result_map_both}
+use Rattle.std.specs.{Prelude.{ℕ, List, [], ◌∷◌, ◌++◌, codes, Result}, List.{flat_map}, Result.{result_map_both}}
 use Rattle.hex.specs.Hex.{encode_lower}
 use Rattle.bpf_insn_types.specs.Program.{Program}
-use Rattle.bpf_insn.specs.declared.codec_error.CodecError.{CodecError}
-use Rattle.bpf_insn.specs.Spelling.{program_spelling}
+use Rattle.bpf_insn.specs.{declared.codec_error.CodecError.{CodecError}, Spelling.{program_spelling}}
 use Rattle.bpf_text_lex.specs.PrintedLines.{insn_line, head_line}
 
 -- the first line and a line for each instruction

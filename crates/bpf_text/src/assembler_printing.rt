@@ -1,8 +1,6 @@
 //! A unit as assembler text, printed.
 
-ghost use Rattle.std.specs.Prelude.{◌≡◌, ◌++◌, OnOk};
-ghost use Rattle.std.specs.List.{flat_map};
-ghost use Rattle.std.specs.String.{string_bytes};
+ghost use Rattle.std.specs.{Prelude.{◌≡◌, ◌++◌, OnOk}, List.{flat_map}, String.{string_bytes}};
 ghost use Rattle.bpf_insn_types.specs.Outcome.{MatchesUnlessMemory};
 ghost use Rattle.bpf_insn.specs.CodecRefusal.{codec_refusal};
 ghost use Rattle.bpf_text_lex.specs.PrintedLines.{insn_line};

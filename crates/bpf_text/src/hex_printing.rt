@@ -1,7 +1,6 @@
 //! The hex form of a unit, written.
 
-ghost use Rattle.std.specs.Prelude.{◌≡◌, ◌++◌, ◌≤◌, ◌<◌, length, codes, OnOk};
-ghost use Rattle.std.specs.String.{string_bytes};
+ghost use Rattle.std.specs.{Prelude.{◌≡◌, ◌++◌, ◌≤◌, ◌<◌, length, codes, OnOk}, String.{string_bytes}};
 ghost use Rattle.bpf_insn_types.specs.Outcome.{MatchesUnlessMemory};
 ghost use Rattle.bpf_insn.specs.CodecRefusal.{codec_refusal};
 ghost use Rattle.bpf_text.specs.PrintedUnits.{slot_lines, hex_form};

@@ -2,10 +2,8 @@
 
 ghost use Rattle.std.specs.Prelude.{◌≡◌, ℕ, List, Ok};
 ghost use Rattle.bpf_insn.specs.Spelling.{program_spelling};
-ghost use Rattle.bpf_insn_types.specs.Limits.{IsUnit};
-ghost use Rattle.bpf_insn_types.specs.Program.{Program};
-ghost use Rattle.bpf_text.specs.PrintedUnits.{assembler_form, hex_form};
-ghost use Rattle.bpf_text.specs.AssemblerText.{assembler_text};
+ghost use Rattle.bpf_insn_types.specs.{Limits.{IsUnit}, Program.{Program}};
+ghost use Rattle.bpf_text.specs.{PrintedUnits.{assembler_form, hex_form}, AssemblerText.{assembler_text}};
 ghost use Rattle.bpf_text.specs.HexText.{hex_text};
 
 /// The canonical text of a unit is read back as the unit.

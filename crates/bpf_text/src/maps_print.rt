@@ -1,8 +1,6 @@
 //! Maps printed as a text.
 
-ghost use Rattle.std.specs.Prelude.{◌≡◌, ◌++◌, OnOk, IfOk};
-ghost use Rattle.std.specs.List.{flat_map};
-ghost use Rattle.std.specs.String.{string_bytes};
+ghost use Rattle.std.specs.{Prelude.{◌≡◌, ◌++◌, OnOk, IfOk}, List.{flat_map}, String.{string_bytes}};
 ghost use Rattle.bpf_text.specs.MapsText.{lists, element_spelling, map_spelling, maps_spelling};
 
 use std::alloc::{AllocError, Global};

@@ -1,12 +1,9 @@
 //! The instructions of a unit's lines.
 
 ghost use Rattle.std.specs.Prelude.{◌≡◌, ◌≤◌, [], IfOk, if◌then◌else◌, Ok, Err};
-ghost use Rattle.bpf_insn_types.specs.Outcome.{MatchesUnlessMemory};
+ghost use Rattle.bpf_insn_types.specs.{Outcome.{MatchesUnlessMemory}, Program.{slot_count}};
 ghost use Rattle.bpf_text_lex.specs.Refusals.{at_line, text_refusal};
-ghost use Rattle.bpf_text_operands.specs.LabelTable.{label_named};
-ghost use Rattle.bpf_text_operands.specs.Statements.{insn_of_line};
-ghost use Rattle.bpf_text_operands.specs.LabelTable.{label_slots};
-ghost use Rattle.bpf_insn_types.specs.Program.{slot_count};
+ghost use Rattle.bpf_text_operands.specs.{LabelTable.{label_named, label_slots}, Statements.{insn_of_line}};
 ghost use Rattle.bpf_text.specs.AssemblerText.{label_at, in_limit, line_at, insns_behind, Adds};
 
 use crate::label::label_name;

@@ -1,7 +1,5 @@
 -- Signed numbers within a bound on both sides.
-use Rattle.std.proofs.Common.{ℕ, ℤ, pos, negsuc, ◌<◌, ◌^◌}
-use Rattle.std.specs.Prelude.{FitsSigned}
-use Rattle.std.specs.Int.{w16, w32}
+use Rattle.std.{proofs.Common.{ℕ, ℤ, pos, negsuc, ◌<◌, ◌^◌}, specs.{Prelude.{FitsSigned}, Int.{w16, w32}}}
 
 -- at least -bound and below bound
 abbrev pub InBound : ℕ → ℤ → Type 0

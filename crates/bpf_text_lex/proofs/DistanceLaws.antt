@@ -1,7 +1,6 @@
 -- What `{:+}` writes of a number.
 use Rattle.std.proofs.Common.{◌≡◌, ℕ, suc, ◌^◌, ◌-◌, ◌++◌, length, Bool, true, false, List, [], refl, append-nil, arith}
-use Rattle.std.specs.Prelude.{ℤ, pos, negsuc, nat_lt}
-use Rattle.std.proofs.lemmas.Bool.Decides.{nat_tests}
+use Rattle.std.{specs.Prelude.{ℤ, pos, negsuc, nat_lt}, proofs.lemmas.Bool.Decides.{nat_tests}}
 use Rattle.std.specs.Fmt.{decimal, format_spec, styled_signed_decimal, padded_integral, sign_text_with, char_count}
 use Rattle.bpf_text_lex.specs.PrintedLines.{distance_spelling}
 

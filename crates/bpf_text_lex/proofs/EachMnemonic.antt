@@ -1,8 +1,8 @@
 -- A property of all mnemonics, each with the property of one after the other.
 use Rattle.bpf_insn_types.proofs.Cases.{EachWidth, each_width, EachSize, each_size, EachOrder, each_order}
-use Rattle.bpf_insn_types.proofs.Cases.{EachEndianBits, each_endian_bits, EachMovsxBits, each_movsx_bits}
-use Rattle.bpf_insn_types.proofs.Cases.{EachOp, each_op, EachCompare, each_compare, EachCallee, each_callee}
-use Rattle.bpf_insn_types.proofs.Cases.{EachKind, each_kind, EachAtomic, each_atomic}
+use Rattle.bpf_insn_types.proofs.Cases.{EachEndianBits, each_endian_bits, EachMovsxBits, each_movsx_bits, EachOp}
+use Rattle.bpf_insn_types.proofs.Cases.{each_op, EachCompare, each_compare, EachCallee, each_callee, EachKind}
+use Rattle.bpf_insn_types.proofs.Cases.{each_kind, EachAtomic, each_atomic}
 use Rattle.bpf_text_lex.specs.declared.mnemonic.Mnemonic.{Mnemonic}
 use Rattle.bpf_text_lex.specs.declared.mnemonic.Mnemonic.TheVariants as mnemonic
 

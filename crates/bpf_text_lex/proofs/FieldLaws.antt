@@ -1,16 +1,12 @@
 -- The numbers of a line are of their field.
-use Rattle.std.proofs.Common.{◌≡◌, ℕ, zero, suc, ◌<◌, ◌≤◌, Bool, true, false, cond, List, []}
-use Rattle.std.proofs.Common.{◌∷◌, length, get_or, Result, Ok, Err, refl, ap, arith}
-use Rattle.std.specs.Prelude.{nat_le, IfOk}
-use Rattle.std.specs.List.{list_all}
+use Rattle.std.proofs.Common.{◌≡◌, ℕ, zero, suc, ◌<◌, ◌≤◌, Bool, true, false, cond, List, [], ◌∷◌, length, get_or}
+use Rattle.std.{proofs.Common.{Result, Ok, Err, refl, ap, arith}, specs.{Prelude.{nat_le, IfOk}, List.{list_all}}}
 use Rattle.std.proofs.lemmas.Bool.{leb-true}
-use Rattle.bpf_text_lex.specs.declared.numbers.NumberError.{NumberError}
-use Rattle.bpf_text_lex.specs.declared.numbers.NumberError.TheVariants as numbers
+use Rattle.bpf_text_lex.specs.declared.{numbers.NumberError.{NumberError}, text_error.TextFault.{TextFault}}
 use Rattle.bpf_text_lex.specs.Numbers.{is_numeral, is_negative, is_number, value_of, number_in}
+use Rattle.bpf_text_lex.specs.{Fields.{as_field, field_of, numbers_in, fields_of}, Refusals.{at_line, with_first_item}}
+use Rattle.bpf_text_lex.specs.declared.numbers.NumberError.TheVariants as numbers
 use Rattle.bpf_text_lex.specs.declared.text_error.TextFault.TheVariants as faults
-use Rattle.bpf_text_lex.specs.Fields.{as_field, field_of, numbers_in, fields_of}
-use Rattle.bpf_text_lex.specs.declared.text_error.TextFault.{TextFault}
-use Rattle.bpf_text_lex.specs.Refusals.{at_line, with_first_item}
 
 -- ---- what is read lies in its field
 

@@ -1,14 +1,11 @@
 -- Where a byte is, and what lines, comments and blanks are around it.
-use Rattle.std.proofs.Common.{◌≡◌, ℕ, suc, ◌+◌, ◌-◌, ◌<◌, ◌≤◌, Bool, true, false, cond, not, ◌==◌, List, [], ◌∷◌}
-use Rattle.std.proofs.Common.{◌++◌, length, take, drop, Some, None, refl, sym, ap, ◌∙◌, add-one, get_or, arith}
-use Rattle.std.specs.Prelude.{position, nat_lt}
-use Rattle.std.specs.List.{position_or_len}
-use Rattle.std.proofs.lemmas.Bool.{ltb-false, ltb-true}
-use Rattle.std.proofs.lemmas.List.{length-drop, take_all}
-use Rattle.std.proofs.Math.ListN.{drop_of_length-le}
+use Rattle.std.proofs.Common.{◌≡◌, ℕ, suc, ◌+◌, ◌-◌, ◌<◌, ◌≤◌, Bool, true, false, cond, not, ◌==◌, List, [], ◌∷◌, ◌++◌}
+use Rattle.std.proofs.Common.{length, take, drop, Some, None, refl, sym, ap, ◌∙◌, add-one, get_or, arith}
+use Rattle.std.{specs.{Prelude.{position, nat_lt}, List.{position_or_len}}, proofs.lemmas.Bool.{ltb-false, ltb-true}}
+use Rattle.std.proofs.{lemmas.List.{length-drop, take_all}, Math.ListN.{drop_of_length-le}}
 use Rattle.std.proofs.Math.Seq.{take-length, take-suc}
-use Rattle.bpf_text_lex.specs.Lines.{with_front, lines_of, before_comment, is_blank, trim_start, before_kept}
-use Rattle.bpf_text_lex.specs.Lines.{trim_end, content_of, with_content, contents_from, contents_of}
+use Rattle.bpf_text_lex.specs.Lines.{with_front, lines_of, before_comment, is_blank, trim_start, before_kept, trim_end}
+use Rattle.bpf_text_lex.specs.Lines.{content_of, with_content, contents_from, contents_of}
 
 chosen_some : (b : Bool) (m n : ℕ) → Some n ≡ cond b (Some m) None → (b ≡ true) × (m ≡ n)
 chosen_some true m n e = (refl, cc)

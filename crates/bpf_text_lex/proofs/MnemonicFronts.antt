@@ -1,9 +1,7 @@
 -- Each mnemonic begins a line.
 use Rattle.std.proofs.Common.{◌≡◌, true}
-use Rattle.bpf_text_lex.specs.declared.mnemonic.Mnemonic.{Mnemonic}
-use Rattle.bpf_text_lex.specs.MnemonicWords.{mnemonic_word}
-use Rattle.bpf_text_lex.proofs.EachMnemonic.{each_mnemonic}
-use Rattle.bpf_text_lex.proofs.SolidWords.{Front, is_front, front_of}
+use Rattle.bpf_text_lex.specs.{declared.mnemonic.Mnemonic.{Mnemonic}, MnemonicWords.{mnemonic_word}}
+use Rattle.bpf_text_lex.proofs.{EachMnemonic.{each_mnemonic}, SolidWords.{Front, is_front, front_of}}
 
 -- the words of a mnemonic
 pub mnemonic_front : (m : Mnemonic) → Front (mnemonic_word m)

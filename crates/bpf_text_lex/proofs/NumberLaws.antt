@@ -1,7 +1,6 @@
 -- Digits spell at least what the first of them spell.
-use Rattle.std.proofs.Common.{◌≡◌, ℕ, ◌+◌, ◌-◌, ◌*◌, ◌<◌, ◌≤◌, false, List, [], ◌∷◌}
-use Rattle.std.proofs.Common.{Some, None, nat_le, if◌then◌else◌, refl, arith}
-use Rattle.std.proofs.lemmas.Bool.{lt-leb}
+use Rattle.std.proofs.Common.{◌≡◌, ℕ, ◌+◌, ◌-◌, ◌*◌, ◌<◌, ◌≤◌, false, List, [], ◌∷◌, Some, None, nat_le, if◌then◌else◌}
+use Rattle.std.proofs.{Common.{refl, arith}, lemmas.Bool.{lt-leb}}
 use Rattle.bpf_text_lex.specs.Numbers.{value_after}
 
 pub le-value_after : (n : ℕ) (digits : List ℕ) → n ≤ value_after n digits

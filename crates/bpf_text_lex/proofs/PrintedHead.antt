@@ -1,26 +1,17 @@
 -- The first line of a unit is read back as its sizes.
-use Rattle.std.proofs.Common.{◌≡◌, ℕ, suc, ◌+◌, ◌-◌, ◌*◌, ◌^◌, ◌<◌, ◌≤◌, true, ◌&&◌, cond, List, []}
-use Rattle.std.proofs.Common.{◌∷◌, ◌++◌, map, length, codes, flat_map, Ok, Err, refl, sym, ap, ◌∙◌}
-use Rattle.std.proofs.Common.{append_assoc, append-nil, subst, arith, bytes_eq, decimal}
-use Rattle.std.specs.Prelude.{nat_le, sum}
-use Rattle.std.specs.List.{list_all}
+use Rattle.std.proofs.Common.{◌≡◌, ℕ, suc, ◌+◌, ◌-◌, ◌*◌, ◌^◌, ◌<◌, ◌≤◌, true, ◌&&◌, cond, List, [], ◌∷◌, ◌++◌, map}
+use Rattle.std.proofs.Common.{length, codes, flat_map, Ok, Err, refl, sym, ap, ◌∙◌, append_assoc, append-nil, subst}
+use Rattle.std.{proofs.Common.{arith, bytes_eq, decimal}, specs.{Prelude.{nat_le, sum}, List.{list_all}}}
 use Rattle.std.proofs.lemmas.Bool.{leb-true, and_parts, and_from, cond-true, cond-false, or_left}
-use Rattle.std.proofs.lemmas.List.{length-append}
-use Rattle.std.proofs.lemmas.List.Sums.{sum_by-cons}
-use Rattle.bpf_text_lex.proofs.SpellingLaws.{in_field, decimal_digits}
-use Rattle.bpf_text_lex.specs.Refusals.{with_first_item}
-use Rattle.bpf_text_lex.specs.Lines.{with_front, is_blank}
-use Rattle.bpf_text_lex.specs.Words.{ends_word, words_of}
-use Rattle.bpf_text_lex.specs.Numbers.{is_number, is_numeral, is_negative}
+use Rattle.std.proofs.lemmas.List.{length-append, Sums.{sum_by-cons}}
+use Rattle.bpf_text_lex.{proofs.SpellingLaws.{in_field, decimal_digits}, specs.Refusals.{with_first_item}}
+use Rattle.bpf_text_lex.specs.{Lines.{with_front, is_blank}, Words.{ends_word, words_of}, Head.{as_sizes, head_of}}
+use Rattle.bpf_text_lex.specs.{Numbers.{is_number, is_numeral, is_negative}, Fields.{as_field, numbers_in, fields_of}}
+use Rattle.bpf_text_lex.{specs.PrintedLines.{size_spelling, head_spelling}, proofs.PrintedLineLaws.{solid_no_blank}}
+use Rattle.bpf_text_lex.proofs.SolidWords.{in_line, is_solid, solids_in_line, all_append, Ends, ends_behind}
+use Rattle.bpf_text_lex.proofs.{SolidWords.{ends_word as ends_solid, Line}, PrintedInsns.{decimal_solid, decimal_short}}
 use Rattle.bpf_text_lex.specs.declared.text_error.TextFault.TheVariants as faults
-use Rattle.bpf_text_lex.specs.Fields.{as_field, numbers_in, fields_of}
 use Rattle.bpf_insn_types.specs.Limits.{sizes_fit}
-use Rattle.bpf_text_lex.specs.Head.{as_sizes, head_of}
-use Rattle.bpf_text_lex.specs.PrintedLines.{size_spelling, head_spelling}
-use Rattle.bpf_text_lex.proofs.SolidWords.{in_line, is_solid, solids_in_line, all_append, Ends}
-use Rattle.bpf_text_lex.proofs.SolidWords.{ends_behind, ends_word as ends_solid, Line}
-use Rattle.bpf_text_lex.proofs.PrintedInsns.{decimal_solid, decimal_short}
-use Rattle.bpf_text_lex.proofs.PrintedLineLaws.{solid_no_blank}
 
 -- a word before the end of a line or a blank
 word_before : (b : ℕ) (bs rest : List ℕ) → is_solid b ≡ true → list_all is_solid bs ≡ true → ends_word rest ≡ true

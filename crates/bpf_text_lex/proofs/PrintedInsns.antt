@@ -1,33 +1,20 @@
 -- Instructions are printed as lines.
-use Rattle.std.proofs.Common.{◌≡◌, ℕ, suc, ℤ, pos, negsuc, ◌+◌, ◌<◌, ◌≤◌, ◌^◌, true}
-use Rattle.std.proofs.Common.{List, [], ◌∷◌, ◌++◌, length, refl, ap, arith}
-use Rattle.std.specs.Fmt.{decimal, signed_decimal}
-use Rattle.std.specs.List.{list_all}
-use Rattle.std.proofs.lemmas.List.{length-append}
-use Rattle.std.proofs.lemmas.Fmt.{length-decimal-le}
-use Rattle.std.proofs.lemmas.Bool.{and_from}
-use Rattle.bpf_insn_types.specs.declared.insn.ImmKind.{ImmKind}
-use Rattle.bpf_insn_types.specs.declared.insn.ImmKind.TheVariants as kind
-use Rattle.bpf_text_lex.specs.MnemonicWords.{mnemonic_word}
-use Rattle.std.specs.Prelude.{FitsSigned}
-use Rattle.std.specs.Int.{w16}
-use Rattle.bpf_insn_types.specs.declared.insn.Operand.{Operand}
-use Rattle.bpf_insn_types.specs.declared.insn.Operand.TheVariants as operand
-use Rattle.bpf_insn_types.specs.declared.insn.Insn.{Insn}
-use Rattle.bpf_insn_types.specs.declared.insn.Insn.TheVariants as insn
+use Rattle.std.proofs.Common.{◌≡◌, ℕ, suc, ℤ, pos, negsuc, ◌+◌, ◌<◌, ◌≤◌, ◌^◌, true, List, [], ◌∷◌, ◌++◌, length, refl}
+use Rattle.std.{proofs.Common.{ap, arith}, specs.{Fmt.{decimal, signed_decimal}, List.{list_all}, Prelude.{FitsSigned}}}
+use Rattle.std.{proofs.lemmas.{List.{length-append}, Fmt.{length-decimal-le}, Bool.{and_from}}, specs.Int.{w16}}
+use Rattle.bpf_insn_types.specs.declared.insn.{ImmKind.{ImmKind}, Operand.{Operand}, Insn.{Insn}}
 use Rattle.bpf_insn_types.specs.Values.{OperandFits, InsnFits}
-use Rattle.bpf_text_lex.specs.declared.value.Value.{Value}
-use Rattle.bpf_text_lex.specs.declared.value.Value.TheVariants as value
-use Rattle.bpf_text_lex.specs.declared.value.Operands.{Operands}
-use Rattle.bpf_text_lex.specs.declared.value.Operands.TheVariants as operands
+use Rattle.bpf_insn_types.specs.declared.insn.ImmKind.TheVariants as kind
+use Rattle.bpf_insn_types.specs.declared.insn.Operand.TheVariants as operand
+use Rattle.bpf_insn_types.specs.declared.insn.Insn.TheVariants as insn
+use Rattle.bpf_text_lex.specs.{MnemonicWords.{mnemonic_word}, declared.value.{Value.{Value}, Operands.{Operands}}}
 use Rattle.bpf_text_lex.specs.Statement.{mnemonic_of, printed_operand, two_slot_operands, operands_of}
 use Rattle.bpf_text_lex.specs.PrintedLines.{distance_spelling, value_spelling, operands_spelling, insn_spelling}
-use Rattle.bpf_text_lex.proofs.SpellingLaws.{decimal_digits}
-use Rattle.bpf_text_lex.proofs.Bounds.{InBound, far_bound}
-use Rattle.bpf_text_lex.proofs.WideLaws.{wide_fits}
-use Rattle.bpf_text_lex.proofs.SolidWords.{in_line, is_solid, solids_in_line, all_append, Ends}
-use Rattle.bpf_text_lex.proofs.SolidWords.{ends_behind, ends_word, Line, Front, digits_solid}
-use Rattle.bpf_text_lex.proofs.MnemonicFronts.{mnemonic_front}
+use Rattle.bpf_text_lex.proofs.{SpellingLaws.{decimal_digits}, Bounds.{InBound, far_bound}, WideLaws.{wide_fits}}
+use Rattle.bpf_text_lex.proofs.SolidWords.{in_line, is_solid, solids_in_line, all_append, Ends, ends_behind, ends_word}
+use Rattle.bpf_text_lex.proofs.{SolidWords.{Line, Front, digits_solid}, MnemonicFronts.{mnemonic_front}}
+use Rattle.bpf_text_lex.specs.declared.value.Value.TheVariants as value
+use Rattle.bpf_text_lex.specs.declared.value.Operands.TheVariants as operands
 
 pub decimal_solid : (n : ℕ) → n < 2 ^ 64 → list_all is_solid (decimal n) ≡ true
 decimal_solid n fits = digits_solid (decimal n) (decimal_digits n fits).digits

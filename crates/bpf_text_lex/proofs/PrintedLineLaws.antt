@@ -1,12 +1,9 @@
 -- The lines of a text are those that were joined by newlines, and printed lines say what they are.
-use Rattle.std.proofs.Common.{◌≡◌, ℕ, ◌+◌, ◌≤◌, Bool, true, false, ◌&&◌, ◌==◌, not}
-use Rattle.std.proofs.Common.{List, [], ◌∷◌, ◌++◌, refl, sym, ap, ◌∙◌, arith}
-use Rattle.std.specs.Prelude.{nat_le}
-use Rattle.std.specs.List.{list_all}
+use Rattle.std.proofs.Common.{◌≡◌, ℕ, ◌+◌, ◌≤◌, Bool, true, false, ◌&&◌, ◌==◌, not, List, [], ◌∷◌, ◌++◌, refl, sym, ap}
+use Rattle.std.{proofs.Common.{◌∙◌, arith}, specs.{Prelude.{nat_le}, List.{list_all}}}
 use Rattle.std.proofs.lemmas.Bool.{ne_eqb, leb-true, and_parts, cond-false}
-use Rattle.bpf_text_lex.specs.Lines.{with_front, lines_of, before_comment, is_blank, trim_start}
-use Rattle.bpf_text_lex.specs.Lines.{trim_end, trim, content_of, with_content, contents_from}
-use Rattle.bpf_text_lex.proofs.LineLaws.{trim_end-kept}
+use Rattle.bpf_text_lex.specs.Lines.{with_front, lines_of, before_comment, is_blank, trim_start, trim_end, trim}
+use Rattle.bpf_text_lex.{specs.Lines.{content_of, with_content, contents_from}, proofs.LineLaws.{trim_end-kept}}
 use Rattle.bpf_text_lex.proofs.SolidWords.{in_line, is_solid, Ends, Line}
 
 not_true : (a : Bool) → not a ≡ true → a ≡ false

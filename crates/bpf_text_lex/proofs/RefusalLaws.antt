@@ -1,10 +1,9 @@
 -- Reading values one after the other, as a loop does.
 use Rattle.std.proofs.Common.{◌≡◌, ℕ, List, [], ◌∷◌, ◌++◌, Result, Ok, Err, refl, sym, ap, ◌∙◌, append_assoc}
-use Rattle.bpf_text_lex.specs.declared.text_error.TextFault.{TextFault}
-use Rattle.bpf_text_lex.specs.declared.text_error.TextError.{TextError}
+use Rattle.bpf_text_lex.specs.declared.text_error.{TextFault.{TextFault}, TextError.{TextError}}
+use Rattle.bpf_text_lex.specs.Refusals.{at_line, with_first_item, ◌>>=◌, text_refusal}
 use Rattle.bpf_text_lex.specs.declared.text_error.TextError.TheVariants as errors
 use Rattle.bpf_insn_types.specs.Outcome.{RefusalMatches}
-use Rattle.bpf_text_lex.specs.Refusals.{at_line, with_first_item, ◌>>=◌, text_refusal}
 
 -- a refusal stays one, whatever follows it
 pub bind_fails : {A B : Type 0} (e : TextError) (r : Result A TextError) (f : A → Result B TextError)

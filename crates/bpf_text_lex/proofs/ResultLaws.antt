@@ -1,6 +1,5 @@
 -- What a result is.
-use Rattle.std.proofs.Common.{◌≡◌, Result, Ok, Err, sym, ◌∙◌, refl}
-use Rattle.std.specs.Result.{result_map_both}
+use Rattle.std.{proofs.Common.{◌≡◌, Result, Ok, Err, sym, ◌∙◌, refl}, specs.Result.{result_map_both}}
 
 -- a result is Ok of one value
 pub same_ok : {A E : Type 0} (a b : A) (r : Result A E) → r ≡ Ok a → r ≡ Ok b → a ≡ b

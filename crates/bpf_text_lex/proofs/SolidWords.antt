@@ -1,11 +1,8 @@
 -- Printed lines: they have no newline and no semicolon, begin with no blank, and end in a byte that is neither a blank
 -- nor a colon.
-use Rattle.std.proofs.Common.{◌≡◌, ℕ, ◌<◌, ◌≤◌, Bool, true, false, ◌&&◌, ◌==◌, not, List, []}
-use Rattle.std.proofs.Common.{◌∷◌, ◌++◌, length, refl, sym, ap, ◌∙◌, append_assoc, arith}
-use Rattle.std.specs.Prelude.{nat_le}
-use Rattle.std.specs.Char.{is_ascii_digit}
-use Rattle.std.specs.List.{list_all}
-use Rattle.std.proofs.lemmas.Bool.{ne_eqb, le-leb, leb-true, and_parts, and_from}
+use Rattle.std.proofs.Common.{◌≡◌, ℕ, ◌<◌, ◌≤◌, Bool, true, false, ◌&&◌, ◌==◌, not, List, [], ◌∷◌, ◌++◌, length, refl}
+use Rattle.std.{proofs.Common.{sym, ap, ◌∙◌, append_assoc, arith}, specs.{Prelude.{nat_le}, Char.{is_ascii_digit}}}
+use Rattle.std.{specs.List.{list_all}, proofs.lemmas.Bool.{ne_eqb, le-leb, leb-true, and_parts, and_from}}
 use Rattle.std.proofs.lemmas.List.Folds.{list_all-append}
 
 -- a byte of a line: 32 or above, and no semicolon

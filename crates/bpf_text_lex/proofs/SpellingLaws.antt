@@ -1,16 +1,11 @@
 -- A number has one spelling: its decimal digits.
-use Rattle.std.proofs.Common.{◌≡◌, ℕ, zero, suc, ◌-◌, ◌<◌, ◌≤◌, ◌^◌, Bool, true, false, cond, ◌||◌, ◌==◌, List}
-use Rattle.std.proofs.Common.{[], ◌∷◌, length, get_or, Result, Ok, Err, refl, sym, ap, ◌∙◌, arith, rules}
-use Rattle.std.specs.Prelude.{nat_le, nat_lt, IfOk}
-use Rattle.std.specs.Char.{is_ascii_digit}
-use Rattle.std.specs.Fmt.{decimal}
-use Rattle.std.specs.List.{list_all}
+use Rattle.std.proofs.Common.{◌≡◌, ℕ, zero, suc, ◌-◌, ◌<◌, ◌≤◌, ◌^◌, Bool, true, false, cond, ◌||◌, ◌==◌, List, [], ◌∷◌}
+use Rattle.std.{proofs.Common.{length, get_or, Result, Ok, Err, refl, sym, ap, ◌∙◌, arith, rules}, specs.Fmt.{decimal}}
+use Rattle.std.specs.{Prelude.{nat_le, nat_lt, IfOk}, Char.{is_ascii_digit}, List.{list_all}}
 use Rattle.std.proofs.lemmas.Bool.{leb-true, ltb-true, eqb-true, lt-ltb, le-leb, and_parts, and_from, or_right}
-use Rattle.std.proofs.lemmas.Fmt.{digits_decimal, digits_value-decimal, decimal-digits_value}
-use Rattle.std.proofs.lemmas.Fmt.{first_decimal, decimal_digit}
-use Rattle.std.proofs.lemmas.Str.Parse.{IsNumeralModel, numerals_by_fold}
-use Rattle.bpf_text_lex.specs.declared.numbers.NumberError.{NumberError}
-use Rattle.bpf_text_lex.specs.declared.numbers.NumberError.TheVariants.{Form, Field}
+use Rattle.std.proofs.lemmas.Fmt.{digits_decimal, digits_value-decimal, decimal-digits_value, first_decimal}
+use Rattle.std.proofs.lemmas.{Fmt.{decimal_digit}, Str.Parse.{IsNumeralModel, numerals_by_fold}}
+use Rattle.bpf_text_lex.specs.declared.numbers.NumberError.{NumberError, TheVariants.{Form, Field}}
 use Rattle.bpf_text_lex.specs.Numbers.{is_numeral, is_negative, value_after, value_of, number_in}
 
 own : IsNumeralModel (λ ds. list_all is_ascii_digit ds ≡ true) value_of

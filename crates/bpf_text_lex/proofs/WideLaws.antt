@@ -1,9 +1,6 @@
 -- The halves of a number of 64 bits.
-use Rattle.std.proofs.Common.{◌≡◌, ℕ, ℤ, ◌+◌, ◌*◌, ◌/◌, ◌%◌, ◌<◌, ◌^◌, ap, ◌∙◌, arith}
-use Rattle.std.specs.Prelude.{FitsSigned}
-use Rattle.std.specs.Int.{w32, cast_unsigned, cast_signed}
-use Rattle.std.proofs.Math.Facts.{Fits-of_z}
-use Rattle.std.proofs.lemmas.Int.{to_z-of_z}
+use Rattle.std.{proofs.Common.{◌≡◌, ℕ, ℤ, ◌+◌, ◌*◌, ◌/◌, ◌%◌, ◌<◌, ◌^◌, ap, ◌∙◌, arith}, specs.Prelude.{FitsSigned}}
+use Rattle.std.{specs.Int.{w32, cast_unsigned, cast_signed}, proofs.{Math.Facts.{Fits-of_z}, lemmas.Int.{to_z-of_z}}}
 use Rattle.bpf_text_lex.specs.Statement.{wide}
 
 low_half : (a b : ℕ) → a < 2 ^ 32 → (a + 2 ^ 32 * b) % 2 ^ 32 ≡ a

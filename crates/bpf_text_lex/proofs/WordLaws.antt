@@ -1,13 +1,9 @@
 -- The first word of a line, and what comes after it.
-use Rattle.std.proofs.Common.{◌≡◌, ℕ, suc, ◌+◌, ◌<◌, Bool, true, false, cond, not, List, [], ◌∷◌}
-use Rattle.std.proofs.Common.{length, take, drop, Some, None, refl, sym, ap, ◌∙◌, arith}
-use Rattle.std.specs.Prelude.{position}
-use Rattle.std.specs.List.{position_or_len}
-use Rattle.std.proofs.Math.ListN.{drop_of_length-le}
-use Rattle.bpf_text_lex.proofs.LineLaws.{position_found, position_missing, next_of}
-use Rattle.std.proofs.lemmas.List.{take_all}
+use Rattle.std.proofs.Common.{◌≡◌, ℕ, suc, ◌+◌, ◌<◌, Bool, true, false, cond, not, List, [], ◌∷◌, length, take, drop}
+use Rattle.std.{proofs.Common.{Some, None, refl, sym, ap, ◌∙◌, arith}, specs.Prelude.{position}}
+use Rattle.std.{specs.List.{position_or_len}, proofs.{Math.ListN.{drop_of_length-le}, lemmas.List.{take_all}}}
+use Rattle.bpf_text_lex.{proofs.LineLaws.{position_found, position_missing, next_of}, specs.Words.{ends_word, words_of}}
 use Rattle.bpf_text_lex.specs.Lines.{with_front, is_blank, trim_start}
-use Rattle.bpf_text_lex.specs.Words.{ends_word, words_of}
 
 blank_step : (t : Bool) (b : ℕ) (bs : List ℕ) → words_of (trim_start bs) ≡ words_of bs →
     (t ≡ false → words_of (b ∷ bs) ≡ cond (ends_word bs) ((b ∷ []) ∷ words_of bs) (with_front b (words_of bs))) →

@@ -1,12 +1,9 @@
 -- Lines of numbers.
-use Rattle.std.specs.Prelude.{ℕ, if◌then◌else◌, List, [], ◌∷◌, Result, Ok, Err}
-use Rattle.std.specs.List.{list_all}
-use Rattle.bpf_text_lex.specs.declared.numbers.NumberError.{NumberError}
+use Rattle.std.specs.{Prelude.{ℕ, if◌then◌else◌, List, [], ◌∷◌, Result, Ok, Err}, List.{list_all}}
+use Rattle.bpf_text_lex.specs.{declared.numbers.NumberError.{NumberError}, Numbers.{is_number, number_in}}
+use Rattle.bpf_text_lex.specs.{declared.text_error.TextFault.{TextFault}, Refusals.{with_first_item}}
 use Rattle.bpf_text_lex.specs.declared.numbers.NumberError.TheVariants as numbers
-use Rattle.bpf_text_lex.specs.Numbers.{is_number, number_in}
-use Rattle.bpf_text_lex.specs.declared.text_error.TextFault.{TextFault}
 use Rattle.bpf_text_lex.specs.declared.text_error.TextFault.TheVariants as faults
-use Rattle.bpf_text_lex.specs.Refusals.{with_first_item}
 
 -- what is wrong with a word that is no number of its field
 abbrev pub number_fault : NumberError → TextFault

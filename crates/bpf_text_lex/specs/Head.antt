@@ -1,10 +1,8 @@
 -- The first line of a unit: `maps` and the number of elements of each map.
-use Rattle.std.specs.Prelude.{ℕ, ◌-◌, ◌^◌, if◌then◌else◌, List, [], ◌∷◌, codes, Result, Ok, Err}
-use Rattle.std.specs.Str.{bytes_eq}
+use Rattle.std.specs.{Prelude.{ℕ, ◌-◌, ◌^◌, if◌then◌else◌, List, [], ◌∷◌, codes, Result, Ok, Err}, Str.{bytes_eq}}
 use Rattle.bpf_insn_types.specs.Limits.{sizes_fit}
-use Rattle.bpf_text_lex.specs.declared.text_error.TextFault.{TextFault}
+use Rattle.bpf_text_lex.specs.{declared.text_error.TextFault.{TextFault}, Fields.{fields_of}}
 use Rattle.bpf_text_lex.specs.declared.text_error.TextFault.TheVariants as faults
-use Rattle.bpf_text_lex.specs.Fields.{fields_of}
 
 -- numbers as the sizes of maps
 abbrev pub as_sizes : Result (List ℕ) TextFault → Result (List ℕ) TextFault

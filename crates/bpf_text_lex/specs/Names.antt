@@ -1,7 +1,6 @@
 -- The names of labels. 95 is the underscore.
 use Rattle.std.specs.Prelude.{ℕ, ◌==◌, ◌&&◌, ◌||◌, nat_lt, nat_le, Bool, List, length, drop, slice_index}
-use Rattle.std.specs.Char.{is_ascii_alphabetic, is_ascii_alphanumeric}
-use Rattle.std.specs.List.{list_all}
+use Rattle.std.specs.{Char.{is_ascii_alphabetic, is_ascii_alphanumeric}, List.{list_all}}
 
 -- a letter or an underscore
 abbrev pub begins_name : ℕ → Bool

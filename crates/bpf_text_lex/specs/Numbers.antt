@@ -1,10 +1,7 @@
 -- Decimal numbers, each of which has one spelling. 45 is a minus sign, 48 the digit 0.
-use Rattle.std.specs.Prelude.{ℕ, ◌+◌, ◌-◌, ◌*◌, ◌==◌, ◌&&◌, ◌||◌, nat_lt, nat_le, Bool, if◌then◌else◌}
-use Rattle.std.specs.Prelude.{List, [], ◌∷◌, length, drop, slice_index, Result, Ok, Err}
-use Rattle.std.specs.Char.{is_ascii_digit}
-use Rattle.std.specs.List.{list_all}
-use Rattle.bpf_text_lex.specs.declared.numbers.NumberError.{NumberError}
-use Rattle.bpf_text_lex.specs.declared.numbers.NumberError.TheVariants.{Form, Field}
+use Rattle.std.specs.Prelude.{ℕ, ◌+◌, ◌-◌, ◌*◌, ◌==◌, ◌&&◌, ◌||◌, nat_lt, nat_le, Bool, if◌then◌else◌, List, [], ◌∷◌}
+use Rattle.std.specs.{Prelude.{length, drop, slice_index, Result, Ok, Err}, Char.{is_ascii_digit}, List.{list_all}}
+use Rattle.bpf_text_lex.specs.declared.numbers.NumberError.{NumberError, TheVariants.{Form, Field}}
 
 -- digits with no zero in front, or a digit alone
 abbrev pub is_numeral : List ℕ → Bool

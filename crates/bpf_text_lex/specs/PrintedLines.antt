@@ -1,14 +1,10 @@
 -- The lines of a unit as they are printed: the first line and those of instructions.
-use Rattle.std.specs.Prelude.{ℕ, suc, ℤ, pos, negsuc, List, [], ◌++◌, codes}
-use Rattle.std.specs.Fmt.{decimal, signed_decimal}
+use Rattle.std.specs.{Prelude.{ℕ, suc, ℤ, pos, negsuc, List, [], ◌++◌, codes}, Fmt.{decimal, signed_decimal}}
 use Rattle.std.specs.List.{flat_map}
 use Rattle.bpf_insn_types.specs.declared.insn.Insn.{Insn}
-use Rattle.bpf_text_lex.specs.declared.value.Value.{Value}
+use Rattle.bpf_text_lex.specs.declared.value.{Value.{Value}, Operands.{Operands, TheVariants.{Zero, One, Two, Three}}}
+use Rattle.bpf_text_lex.specs.{MnemonicWords.{mnemonic_word}, Statement.{mnemonic_of, operands_of}}
 use Rattle.bpf_text_lex.specs.declared.value.Value.TheVariants as value
-use Rattle.bpf_text_lex.specs.declared.value.Operands.{Operands}
-use Rattle.bpf_text_lex.specs.declared.value.Operands.TheVariants.{Zero, One, Two, Three}
-use Rattle.bpf_text_lex.specs.MnemonicWords.{mnemonic_word}
-use Rattle.bpf_text_lex.specs.Statement.{mnemonic_of, operands_of}
 
 -- a distance always has a sign
 abbrev pub distance_spelling : ℤ → List ℕ

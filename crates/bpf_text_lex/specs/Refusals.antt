@@ -1,7 +1,6 @@
 -- What the reading of a text answers: a value, or a refusal.
 use Rattle.std.specs.Prelude.{ℕ, List, ◌∷◌, Option, Some, None, Result, Ok, Err}
-use Rattle.bpf_text_lex.specs.declared.text_error.TextFault.{TextFault}
-use Rattle.bpf_text_lex.specs.declared.text_error.TextError.{TextError}
+use Rattle.bpf_text_lex.specs.declared.text_error.{TextFault.{TextFault}, TextError.{TextError}}
 use Rattle.bpf_text_lex.specs.declared.text_error.TextError.TheVariants as errors
 
 -- the refusal of an error, unless memory ran out

@@ -1,18 +1,13 @@
 -- An instruction as a mnemonic and operands.
-use Rattle.std.specs.Prelude.{ℕ, ℤ, ◌+◌, ◌*◌, ◌^◌}
-use Rattle.std.specs.Int.{w32, cast_unsigned}
-use Rattle.bpf_insn_types.specs.declared.insn.Operand.{Operand}
+use Rattle.std.specs.{Prelude.{ℕ, ℤ, ◌+◌, ◌*◌, ◌^◌}, Int.{w32, cast_unsigned}}
+use Rattle.bpf_insn_types.specs.declared.insn.{Operand.{Operand}, ImmKind.{ImmKind}, Insn.{Insn}}
 use Rattle.bpf_insn_types.specs.declared.insn.Operand.TheVariants as operand
-use Rattle.bpf_insn_types.specs.declared.insn.ImmKind.{ImmKind}
 use Rattle.bpf_insn_types.specs.declared.insn.ImmKind.TheVariants as kind
-use Rattle.bpf_insn_types.specs.declared.insn.Insn.{Insn}
 use Rattle.bpf_insn_types.specs.declared.insn.Insn.TheVariants as insn
-use Rattle.bpf_text_lex.specs.declared.mnemonic.Mnemonic.{Mnemonic}
-use Rattle.bpf_text_lex.specs.declared.mnemonic.Mnemonic.TheVariants as mnemonic
-use Rattle.bpf_text_lex.specs.declared.value.Value.{Value}
-use Rattle.bpf_text_lex.specs.declared.value.Value.TheVariants as value
-use Rattle.bpf_text_lex.specs.declared.value.Operands.{Operands}
+use Rattle.bpf_text_lex.specs.declared.{mnemonic.Mnemonic.{Mnemonic}, value.{Value.{Value}, Operands.{Operands}}}
 use Rattle.bpf_text_lex.specs.declared.value.Operands.TheVariants.{Zero, One, Two, Three}
+use Rattle.bpf_text_lex.specs.declared.mnemonic.Mnemonic.TheVariants as mnemonic
+use Rattle.bpf_text_lex.specs.declared.value.Value.TheVariants as value
 
 -- the mnemonic of an instruction
 abbrev pub mnemonic_of : Insn → Mnemonic

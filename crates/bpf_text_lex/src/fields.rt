@@ -1,12 +1,9 @@
 //! Lines of numbers.
 
-ghost use Rattle.std.specs.Prelude.{◌≡◌, ◌<◌, ◌-◌, ◌^◌, All, IfOk};
-ghost use Rattle.std.specs.List.{list_all};
-ghost use Rattle.bpf_text_lex.specs.Numbers.{is_number};
-ghost use Rattle.bpf_text_lex.specs.Words.{words_of};
-ghost use Rattle.bpf_insn_types.specs.Outcome.{MatchesUnlessMemory};
-ghost use Rattle.bpf_text_lex.specs.Refusals.{at_line, text_refusal};
+ghost use Rattle.std.specs.{Prelude.{◌≡◌, ◌<◌, ◌-◌, ◌^◌, All, IfOk}, List.{list_all}};
+ghost use Rattle.bpf_text_lex.specs.{Numbers.{is_number}, Words.{words_of}, Refusals.{at_line, text_refusal}};
 ghost use Rattle.bpf_text_lex.specs.Fields.{field_of, numbers_in, fields_of};
+ghost use Rattle.bpf_insn_types.specs.Outcome.{MatchesUnlessMemory};
 
 use crate::numbers::{NumberError, is_number, read_number};
 use crate::text_error::{TextError, TextFault};

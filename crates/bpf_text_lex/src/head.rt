@@ -1,9 +1,7 @@
 //! The first line of a unit: `maps` and the number of elements of each map.
 
 ghost use Rattle.bpf_insn_types.specs.Outcome.{MatchesUnlessMemory};
-ghost use Rattle.bpf_text_lex.specs.Words.{words_of};
-ghost use Rattle.bpf_text_lex.specs.Refusals.{at_line, text_refusal};
-ghost use Rattle.bpf_text_lex.specs.Head.{head_of};
+ghost use Rattle.bpf_text_lex.specs.{Words.{words_of}, Refusals.{at_line, text_refusal}, Head.{head_of}};
 
 use crate::fields::read_u32_fields;
 use crate::text_error::{TextError, TextFault};

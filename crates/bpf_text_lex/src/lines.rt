@@ -1,9 +1,9 @@
 //! Lines: where they end, where their comments begin, and the blanks round them.
 
-ghost use Rattle.std.specs.Prelude.{◌≡◌, ◌+◌, ◌<◌, ◌≤◌, ◌^◌, ◌==◌, [], ◌∷◌, length};
-ghost use Rattle.std.specs.Prelude.{position, not, ◌||◌, IfSome, IfNone};
-ghost use Rattle.bpf_text_lex.specs.Lines.{lines_of, before_comment, is_blank, trim_start, trim_end};
-ghost use Rattle.bpf_text_lex.specs.Lines.{trim, content_of, contents_of, contents_from};
+ghost use Rattle.std.specs.Prelude.{◌≡◌, ◌+◌, ◌<◌, ◌≤◌, ◌^◌, ◌==◌, [], ◌∷◌, length, position, not, ◌||◌, IfSome};
+ghost use Rattle.std.specs.Prelude.{IfNone};
+ghost use Rattle.bpf_text_lex.specs.Lines.{lines_of, before_comment, is_blank, trim_start, trim_end, trim, content_of};
+ghost use Rattle.bpf_text_lex.specs.Lines.{contents_of, contents_from};
 
 use crate::words::is_blank;
 use std::marker::Model;
@@ -111,12 +111,12 @@ fn next_line<'a>(text: &'a [u8], number: u32) -> Option<(Line<'a>, &'a [u8])>
     let mut rest = text;
     let mut number = number;
     while !rest.is_empty() {
-        let (line, behind) = split_line(rest);
+        let (line, after) = split_line(rest);
         let content = content(line);
         if !content.is_empty() {
-            return Some((Line { number, content }, behind));
+            return Some((Line { number, content }, after));
         }
-        rest = behind;
+        rest = after;
         number += 1;
     }
     None

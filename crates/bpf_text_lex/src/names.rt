@@ -1,7 +1,6 @@
 //! The names of labels.
 
-ghost use Rattle.std.specs.Prelude.{◌≡◌, ◌||◌, ◌==◌};
-ghost use Rattle.std.specs.Char.{is_ascii_alphabetic, is_ascii_alphanumeric};
+ghost use Rattle.std.specs.{Prelude.{◌≡◌, ◌||◌, ◌==◌}, Char.{is_ascii_alphabetic, is_ascii_alphanumeric}};
 ghost use Rattle.std.specs.List.{list_all};
 ghost use Rattle.bpf_text_lex.specs.Names.{begins_name, continues_name, is_name};
 

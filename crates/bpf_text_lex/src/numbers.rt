@@ -1,10 +1,7 @@
 //! Decimal numbers, each of which has one spelling.
 
-ghost use Rattle.std.specs.Prelude.{◌≡◌, ◌≤◌, ℕ, IfOk, ◌&&◌, ◌||◌, ◌==◌, nat_lt, nat_le, if◌then◌else◌};
-ghost use Rattle.std.specs.Prelude.{IsTrue, Some, None, length, slice_index};
-ghost use Rattle.std.specs.Char.{is_ascii_digit};
-ghost use Rattle.std.specs.Fmt.{decimal};
-ghost use Rattle.std.specs.List.{list_all};
+ghost use Rattle.std.specs.Prelude.{◌≡◌, ◌≤◌, ℕ, IfOk, ◌&&◌, ◌||◌, ◌==◌, nat_lt, nat_le, if◌then◌else◌, IsTrue, Some};
+ghost use Rattle.std.specs.{Prelude.{None, length, slice_index}, Char.{is_ascii_digit}, Fmt.{decimal}, List.{list_all}};
 ghost use Rattle.bpf_text_lex.specs.Numbers.{is_numeral, is_negative, is_number, value_of, number_in};
 
 /// Why a word is no number of a field.

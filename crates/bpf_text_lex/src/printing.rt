@@ -1,12 +1,8 @@
 //! The lines of a unit, printed.
 
-ghost use Rattle.std.specs.Prelude.{◌≡◌, ◌++◌, codes, OnOk, IfOk};
-ghost use Rattle.std.specs.Int.{w16};
-ghost use Rattle.std.specs.List.{flat_map};
-ghost use Rattle.std.specs.String.{string_bytes};
-ghost use Rattle.bpf_text_lex.specs.MnemonicWords.{mnemonic_word};
-ghost use Rattle.bpf_text_lex.specs.PrintedLines.{distance_spelling, value_spelling, operands_spelling};
-ghost use Rattle.bpf_text_lex.specs.PrintedLines.{insn_line, head_line, size_spelling};
+ghost use Rattle.std.specs.{Prelude.{◌≡◌, ◌++◌, codes, OnOk, IfOk}, Int.{w16}, List.{flat_map}, String.{string_bytes}};
+ghost use Rattle.bpf_text_lex.specs.{MnemonicWords.{mnemonic_word}, PrintedLines.{head_line, size_spelling}};
+ghost use Rattle.bpf_text_lex.specs.PrintedLines.{distance_spelling, value_spelling, operands_spelling, insn_line};
 
 use crate::mnemonic::Mnemonic;
 use crate::mnemonic_words::{

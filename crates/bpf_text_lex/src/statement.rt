@@ -1,8 +1,7 @@
 //! An instruction as a mnemonic and operands.
 
 ghost use Rattle.std.specs.Prelude.{◌≡◌};
-ghost use Rattle.bpf_text_lex.specs.Statement.{mnemonic_of, printed_operand, two_slot_operands};
-ghost use Rattle.bpf_text_lex.specs.Statement.{operands_of, wide};
+ghost use Rattle.bpf_text_lex.specs.Statement.{mnemonic_of, printed_operand, two_slot_operands, operands_of, wide};
 
 use crate::mnemonic::Mnemonic;
 use crate::value::{Operands, Value};

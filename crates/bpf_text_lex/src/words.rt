@@ -1,8 +1,7 @@
 //! Words, which blanks part.
 
 ghost use Rattle.std.specs.Prelude.{◌≡◌, ◌<◌, [], ◌∷◌, length, position, ◌||◌, ◌==◌, IfSome, IfNone};
-ghost use Rattle.bpf_text_lex.specs.Lines.{is_blank};
-ghost use Rattle.bpf_text_lex.specs.Words.{words_of};
+ghost use Rattle.bpf_text_lex.specs.{Lines.{is_blank}, Words.{words_of}};
 
 use crate::lines::trim_start;
 use std::marker::Model;

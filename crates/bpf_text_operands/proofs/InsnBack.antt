@@ -1,27 +1,21 @@
 -- Each instruction that has bytes is read back from its line.
 use Rattle.std.proofs.Common.{◌≡◌, ℕ, suc, zero, ℤ, pos, negsuc, List, Option, Some, None, Ok, refl, ap, ap₂, ◌∙◌}
+use Rattle.bpf_insn_types.specs.{declared.insn.{ImmKind.{ImmKind}, Insn.{Insn}}, Values.{InsnFits}}
 use Rattle.bpf_insn_types.specs.declared.insn.Width.TheVariants as width
 use Rattle.bpf_insn_types.specs.declared.insn.Size.TheVariants as size
 use Rattle.bpf_insn_types.specs.declared.insn.MovsxBits.TheVariants as movsx
 use Rattle.bpf_insn_types.specs.declared.insn.Operand.TheVariants as operand
-use Rattle.bpf_insn_types.specs.declared.insn.ImmKind.{ImmKind}
 use Rattle.bpf_insn_types.specs.declared.insn.ImmKind.TheVariants as load
-use Rattle.bpf_insn_types.specs.declared.insn.Insn.{Insn}
 use Rattle.bpf_insn_types.specs.declared.insn.Insn.TheVariants as insn
-use Rattle.bpf_insn.specs.declared.slot.Slot.{Slot}
-use Rattle.bpf_insn.specs.Spelling.{spelling}
-use Rattle.bpf_insn_types.specs.Values.{InsnFits}
+use Rattle.bpf_insn.specs.{declared.slot.Slot.{Slot}, Spelling.{spelling}}
+use Rattle.bpf_text_lex.{specs.{Statement.{wide}, PrintedLines.{insn_spelling}}, proofs.ResultLaws.{same_ok}}
+use Rattle.bpf_text_lex.proofs.WideLaws.{wide_low, wide_high, wide_fits}
 use Rattle.bpf_text_lex.specs.declared.mnemonic.Mnemonic.TheVariants as mnemonic
 use Rattle.bpf_text_lex.specs.declared.value.Value.TheVariants as value
-use Rattle.bpf_text_lex.specs.Statement.{wide}
-use Rattle.bpf_text_lex.specs.PrintedLines.{insn_spelling}
-use Rattle.bpf_text_operands.specs.declared.kind.Kind.TheVariants as kind
-use Rattle.bpf_text_operands.specs.Statements.{with_operands, insn_of_line}
-use Rattle.bpf_text_operands.proofs.MnemonicLaws.{exit_back}
-use Rattle.bpf_text_lex.proofs.ResultLaws.{same_ok}
+use Rattle.bpf_text_operands.{specs.Statements.{with_operands, insn_of_line}, proofs.MnemonicLaws.{exit_back}}
 use Rattle.bpf_text_operands.proofs.LineBack.{line_one, line_two, line_three, reg_reads, imm_reads, near_reads}
 use Rattle.bpf_text_operands.proofs.LineBack.{far_reads, address_reads, imm_operand, reg_operand, wide_reads}
-use Rattle.bpf_text_lex.proofs.WideLaws.{wide_low, wide_high, wide_fits}
+use Rattle.bpf_text_operands.specs.declared.kind.Kind.TheVariants as kind
 
 module _ (find : List ℕ → Option ℕ) (slot : ℕ) where
   exit_line : insn_of_line find slot (insn_spelling insn.Exit) ≡ Ok insn.Exit

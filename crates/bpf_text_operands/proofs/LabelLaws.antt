@@ -1,10 +1,7 @@
 -- Defining labels.
 use Rattle.std.proofs.Common.{◌≡◌, ℕ, Bool, true, false, cond, List, Option, Some, None, unwrap_or, refl, ◌∙◌, subst}
-use Rattle.std.specs.Str.{bytes_eq}
-use Rattle.std.specs.Cmp.Lexicographic.{bytes_decides, nat_list_eq_equiv}
-use Rattle.bpf_text_operands.specs.declared.labels.Label.{Label}
-use Rattle.std.specs.Option.{option_or}
-use Rattle.bpf_text_operands.specs.LabelTable.{defined}
+use Rattle.std.specs.{Str.{bytes_eq}, Cmp.Lexicographic.{bytes_decides, nat_list_eq_equiv}, Option.{option_or}}
+use Rattle.bpf_text_operands.specs.{declared.labels.Label.{Label}, LabelTable.{defined}}
 
 -- an option or none is itself
 pub option_or-none : (r : Option Label) → r ≡ option_or r None

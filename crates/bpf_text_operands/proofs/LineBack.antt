@@ -1,37 +1,27 @@
 -- The line of an instruction is read back as it.
-use Rattle.std.proofs.Common.{◌≡◌, ℕ, suc, ℤ, pos, negsuc, ◌<◌, ◌≤◌, ◌^◌, true, false, ◌==◌, ◌-◌, get_or, List}
-use Rattle.std.proofs.Common.{[], ◌∷◌, ◌++◌, length, Ok, Option, Some, refl, ap, ◌∙◌, append_assoc, arith}
-use Rattle.std.specs.Prelude.{FitsSigned, nat_lt}
-use Rattle.std.specs.Char.{is_ascii_digit}
-use Rattle.std.specs.List.{list_all}
+use Rattle.std.proofs.Common.{◌≡◌, ℕ, suc, ℤ, pos, negsuc, ◌<◌, ◌≤◌, ◌^◌, true, false, ◌==◌, ◌-◌, get_or, List, [], ◌∷◌}
+use Rattle.std.proofs.Common.{◌++◌, length, Ok, Option, Some, refl, ap, ◌∙◌, append_assoc, arith}
+use Rattle.std.specs.{Prelude.{FitsSigned, nat_lt}, Char.{is_ascii_digit}, List.{list_all}, Int.{w16, w32}}
 use Rattle.std.proofs.lemmas.Bool.{ne_eqb, lt-ltb, leb-true, and_parts, and_from, cond-true, cond-false}
 use Rattle.std.specs.Fmt.{decimal, signed_decimal}
-use Rattle.std.specs.Int.{w16, w32}
-use Rattle.bpf_text_lex.proofs.SpellingLaws.{in_field, decimal_digits}
-use Rattle.bpf_text_lex.specs.Lines.{trim_start, trim}
-use Rattle.bpf_text_lex.specs.Fields.{as_field}
-use Rattle.bpf_text_lex.specs.declared.mnemonic.Mnemonic.{Mnemonic}
-use Rattle.bpf_text_lex.specs.declared.value.Value.{Value}
-use Rattle.bpf_text_lex.specs.declared.value.Value.TheVariants as value
-use Rattle.bpf_text_lex.specs.declared.value.Operands.{Operands}
-use Rattle.bpf_text_lex.specs.declared.value.Operands.TheVariants as operands
-use Rattle.bpf_text_lex.specs.MnemonicWords.{mnemonic_word}
+use Rattle.bpf_text_lex.{proofs.SpellingLaws.{in_field, decimal_digits}, specs.Lines.{trim_start, trim}}
+use Rattle.bpf_text_lex.specs.{Fields.{as_field}, declared.{mnemonic.Mnemonic.{Mnemonic}, value.Value.{Value}}}
+use Rattle.bpf_text_lex.specs.{declared.value.Operands.{Operands}, MnemonicWords.{mnemonic_word}}
 use Rattle.bpf_text_lex.specs.PrintedLines.{distance_spelling, value_spelling, operands_spelling}
+use Rattle.bpf_text_lex.proofs.Bounds.{InBound, near_bound, far_bound}
+use Rattle.bpf_text_lex.specs.declared.value.Value.TheVariants as value
+use Rattle.bpf_text_lex.specs.declared.value.Operands.TheVariants as operands
 use Rattle.bpf_insn_types.specs.declared.insn.Insn.{Insn}
-use Rattle.bpf_text_operands.specs.declared.kind.Kind.{Kind}
-use Rattle.bpf_text_operands.specs.declared.kind.Kind.TheVariants as kind
-use Rattle.bpf_text_operands.specs.declared.kind.Kinds.TheVariants as kinds
-use Rattle.bpf_text_operands.specs.SignedNumbers.{is_register}
+use Rattle.bpf_text_operands.specs.{declared.kind.Kind.{Kind}, SignedNumbers.{is_register}, Statements.{insn_of_line}}
 use Rattle.bpf_text_operands.specs.Operands.{kinds_of, pair, as_reg, as_imm, as_wide, as_distance, as_far_distance}
-use Rattle.bpf_text_operands.specs.Operands.{value_at, cut_comma, one_operand, two_operands, three_operands}
-use Rattle.bpf_text_operands.specs.Operands.{both_at, three_at, operands_at}
-use Rattle.bpf_text_operands.specs.Statements.{statement_at, insn_of_mnemonic, some_insn}
-use Rattle.bpf_text_operands.specs.Statements.{built, with_operands, insn_of_line}
-use Rattle.bpf_text_operands.proofs.MnemonicLaws.{HasWord, mnemonic_back}
+use Rattle.bpf_text_operands.specs.Operands.{value_at, cut_comma, one_operand, two_operands, three_operands, both_at}
+use Rattle.bpf_text_operands.{specs.Operands.{three_at, operands_at}, proofs.MnemonicLaws.{HasWord, mnemonic_back}}
+use Rattle.bpf_text_operands.specs.Statements.{statement_at, insn_of_mnemonic, some_insn, built, with_operands}
 use Rattle.bpf_text_operands.proofs.PlainLaws.{Plain, plain-append, plain-digits, plain-no_comma, trim_start-text}
 use Rattle.bpf_text_operands.proofs.PlainLaws.{trim_start-plain, trim-plain, cut_back}
 use Rattle.bpf_text_operands.proofs.ValueLaws.{register_decimal, signed_back, distance_back, address_back}
-use Rattle.bpf_text_lex.proofs.Bounds.{InBound, near_bound, far_bound}
+use Rattle.bpf_text_operands.specs.declared.kind.Kind.TheVariants as kind
+use Rattle.bpf_text_operands.specs.declared.kind.Kinds.TheVariants as kinds
 
 module _ (find : List ℕ → Option ℕ) (slot : ℕ) where
   -- a word that is read as an operand of a kind, and has no blank and no comma

@@ -1,38 +1,28 @@
 -- A line takes the slots of the instruction that it is.
-use Rattle.std.proofs.Common.{◌≡◌, ℕ, ℤ, ◌-◌, ◌^◌, Bool, true, false, cond, ◌&&◌, ◌||◌, ◌==◌, List, length}
-use Rattle.std.proofs.Common.{drop, Option, Some, None, Result, Ok, Err, refl, sym, ap, ◌∙◌}
-use Rattle.std.specs.Prelude.{is_ok}
+use Rattle.std.proofs.Common.{◌≡◌, ℕ, ℤ, ◌-◌, ◌^◌, Bool, true, false, cond, ◌&&◌, ◌||◌, ◌==◌, List, length, drop}
+use Rattle.std.{proofs.Common.{Option, Some, None, Result, Ok, Err, refl, sym, ap, ◌∙◌}, specs.Prelude.{is_ok}}
 use Rattle.std.proofs.lemmas.Bool.{and_from, or_left, or_right, cond-true}
-use Rattle.bpf_insn_types.specs.declared.insn.ImmKind.{ImmKind}
+use Rattle.bpf_insn_types.specs.{declared.insn.{ImmKind.{ImmKind}, Insn.{Insn}}, Slots.{slots_of}}
 use Rattle.bpf_insn_types.specs.declared.insn.ImmKind.TheVariants as load
-use Rattle.bpf_insn_types.specs.declared.insn.Insn.{Insn}
-use Rattle.bpf_insn_types.specs.Slots.{slots_of}
-use Rattle.bpf_text_lex.specs.declared.numbers.NumberError.{NumberError}
-use Rattle.bpf_text_lex.specs.declared.text_error.TextFault.{TextFault}
-use Rattle.bpf_text_lex.specs.declared.text_error.TextFault.TheVariants as faults
-use Rattle.bpf_text_lex.specs.Fields.{as_field}
-use Rattle.bpf_text_lex.specs.Lines.{trim}
-use Rattle.bpf_text_lex.specs.Names.{is_name}
-use Rattle.bpf_text_lex.specs.Numbers.{is_numeral, is_negative, is_number, number_in}
-use Rattle.bpf_text_lex.proofs.SpellingLaws.{numeral_if}
-use Rattle.bpf_text_lex.specs.declared.mnemonic.Mnemonic.{Mnemonic}
-use Rattle.bpf_text_lex.specs.declared.mnemonic.Mnemonic.TheVariants as mnemonic
-use Rattle.bpf_text_lex.specs.declared.value.Value.{Value}
-use Rattle.bpf_text_lex.specs.declared.value.Value.TheVariants as value
-use Rattle.bpf_text_lex.specs.declared.value.Operands.{Operands}
+use Rattle.bpf_text_lex.specs.declared.{numbers.NumberError.{NumberError}, text_error.TextFault.{TextFault}}
+use Rattle.bpf_text_lex.{specs.{Fields.{as_field}, Lines.{trim}, Names.{is_name}}, proofs.SpellingLaws.{numeral_if}}
+use Rattle.bpf_text_lex.specs.{Numbers.{is_numeral, is_negative, is_number, number_in}, declared.value.Value.{Value}}
+use Rattle.bpf_text_lex.specs.declared.{mnemonic.Mnemonic.{Mnemonic}, value.Operands.{Operands}}
 use Rattle.bpf_text_lex.specs.declared.value.Operands.TheVariants.{Zero, One, Two, Three}
-use Rattle.bpf_text_operands.specs.declared.kind.Kind.{Kind}
-use Rattle.bpf_text_operands.specs.declared.kind.Kind.TheVariants as kind
-use Rattle.bpf_text_operands.specs.declared.kind.Kinds.{Kinds}
-use Rattle.bpf_text_operands.specs.declared.kind.Kinds.TheVariants as kinds
-use Rattle.bpf_text_operands.specs.SignedNumbers.{is_register, register_at, ahead, back, signed_at, is_ahead}
-use Rattle.bpf_text_operands.specs.SignedNumbers.{is_offset, offset_at, to_label, distance_at}
+use Rattle.bpf_text_lex.specs.declared.text_error.TextFault.TheVariants as faults
+use Rattle.bpf_text_lex.specs.declared.mnemonic.Mnemonic.TheVariants as mnemonic
+use Rattle.bpf_text_lex.specs.declared.value.Value.TheVariants as value
+use Rattle.bpf_text_operands.specs.declared.kind.{Kind.{Kind}, Kinds.{Kinds}}
+use Rattle.bpf_text_operands.specs.SignedNumbers.{is_register, register_at, ahead, back, signed_at, is_ahead, is_offset}
+use Rattle.bpf_text_operands.specs.SignedNumbers.{offset_at, to_label, distance_at}
 use Rattle.bpf_text_operands.specs.Operands.{kinds_of, pair, as_reg, as_imm, as_wide, as_distance, as_far_distance}
 use Rattle.bpf_text_operands.specs.Operands.{as_address, is_bracketed, inside, base_part, offset_part, value_at}
 use Rattle.bpf_text_operands.specs.Operands.{cut_comma, one_operand, two_operands, three_operands, both_at, three_at}
-use Rattle.bpf_text_operands.specs.Operands.{operands_at, stands, both_stand, three_stand, all_stand}
+use Rattle.bpf_text_operands.specs.Operands.{operands_at, fits, both_fit, three_fit, all_fit}
 use Rattle.bpf_text_operands.specs.Statements.{statement_at, two_slots_of, insn_of_mnemonic, some_insn, built}
 use Rattle.bpf_text_operands.specs.Statements.{with_operands, insn_of_line, mnemonic_slots, slots_where, slots_at}
+use Rattle.bpf_text_operands.specs.declared.kind.Kind.TheVariants as kind
+use Rattle.bpf_text_operands.specs.declared.kind.Kinds.TheVariants as kinds
 
 -- ---- what is read has its form
 
@@ -106,23 +96,23 @@ module _ (find : List ℕ → Option ℕ) (slot : ℕ) where
       by_name false same h = or_right (is_name word) (is_offset word) (offset_read bound word z h)
 
   -- a word that is read as an operand of a kind has its form
-  value_stands : (k : Kind) (word : List ℕ) (v : Value) → value_at find slot k word ≡ Ok v → stands k word ≡ true
-  value_stands kind.Reg word v e = reg_read (register_at word) v e
-  value_stands kind.RegOrImm word v e = by_register (is_register word) e
+  value_fits : (k : Kind) (word : List ℕ) (v : Value) → value_at find slot k word ≡ Ok v → fits k word ≡ true
+  value_fits kind.Reg word v e = reg_read (register_at word) v e
+  value_fits kind.RegOrImm word v e = by_register (is_register word) e
     where
       by_register : (b : Bool) → cond b (as_reg (register_at word)) (as_imm (signed_at (2 ^ 31) word)) ≡ Ok v
           → cond b (is_ok (register_at word)) (is_number word) ≡ true
       by_register true h = reg_read (register_at word) v h
       by_register false h = (let z = imm_read (signed_at (2 ^ 31) word) v h in signed_read (2 ^ 31) word z.0 z.1)
-  value_stands kind.Imm word v e = (let z = imm_read (signed_at (2 ^ 31) word) v e in signed_read (2 ^ 31) word z.0 z.1)
-  value_stands kind.Wide word v e =
+  value_fits kind.Imm word v e = (let z = imm_read (signed_at (2 ^ 31) word) v e in signed_read (2 ^ 31) word z.0 z.1)
+  value_fits kind.Wide word v e =
       let n = wide_read (number_in (2 ^ 64 - 1) word) v e in
       or_left (is_numeral word) (is_negative word) (numeral_if (2 ^ 64 - 1) word n.0 n.1)
-  value_stands kind.Distance word v e = (let z = near_read (distance_at find (2 ^ 15) slot word) v e in
+  value_fits kind.Distance word v e = (let z = near_read (distance_at find (2 ^ 15) slot word) v e in
       distance_read (2 ^ 15) word z.0 z.1)
-  value_stands kind.FarDistance word v e = (let z = far_read (distance_at find (2 ^ 31) slot word) v e in
+  value_fits kind.FarDistance word v e = (let z = far_read (distance_at find (2 ^ 31) slot word) v e in
       distance_read (2 ^ 31) word z.0 z.1)
-  value_stands kind.Address word v e = by_brackets (is_bracketed word) e
+  value_fits kind.Address word v e = by_brackets (is_bracketed word) e
     where
       by_brackets : (b : Bool) → cond b
           (as_address (pair (register_at (base_part (inside word))) (offset_at (2 ^ 15) (offset_part (inside word)))))
@@ -138,21 +128,21 @@ module _ (find : List ℕ → Option ℕ) (slot : ℕ) where
           (offset_read (2 ^ 15) (offset_part (inside word)) parts.1.0 parts.1.1)
       by_brackets false h = absurd cc
 
-  both_stands : (a b : Kind) (cut : Option (List ℕ × List ℕ)) (x : Value × Value) → both_at find slot a b cut ≡ Ok x
-      → both_stand a b cut ≡ true
-  both_stands a b None x e = absurd cc
-  both_stands a b (Some parts) x e =
+  both_fits : (a b : Kind) (cut : Option (List ℕ × List ℕ)) (x : Value × Value) → both_at find slot a b cut ≡ Ok x
+      → both_fit a b cut ≡ true
+  both_fits a b None x e = absurd cc
+  both_fits a b (Some parts) x e =
       let read = both_read (value_at find slot a (trim parts.0)) (value_at find slot b (trim parts.1)) x e in
-      and_from (stands a (trim parts.0)) (stands b (trim parts.1)) (value_stands a (trim parts.0) read.0.0 read.0.1)
-      (value_stands b (trim parts.1) read.1.0 read.1.1)
+      and_from (fits a (trim parts.0)) (fits b (trim parts.1)) (value_fits a (trim parts.0) read.0.0 read.0.1)
+      (value_fits b (trim parts.1) read.1.0 read.1.1)
 
-  three_stands : (a b c : Kind) (cut : Option (List ℕ × List ℕ)) (x : Value × (Value × Value))
-      → three_at find slot a b c cut ≡ Ok x → three_stand a b c cut ≡ true
-  three_stands a b c None x e = absurd cc
-  three_stands a b c (Some parts) x e =
+  three_fits : (a b c : Kind) (cut : Option (List ℕ × List ℕ)) (x : Value × (Value × Value))
+      → three_at find slot a b c cut ≡ Ok x → three_fit a b c cut ≡ true
+  three_fits a b c None x e = absurd cc
+  three_fits a b c (Some parts) x e =
       let read = both_read (value_at find slot a (trim parts.0)) (both_at find slot b c (cut_comma parts.1)) x e in
-      and_from (stands a (trim parts.0)) (both_stand b c (cut_comma parts.1)) (value_stands a (trim parts.0) read.0.0
-      read.0.1) (both_stands b c (cut_comma parts.1) read.1.0 read.1.1)
+      and_from (fits a (trim parts.0)) (both_fit b c (cut_comma parts.1)) (value_fits a (trim parts.0) read.0.0
+      read.0.1) (both_fits b c (cut_comma parts.1) read.1.0 read.1.1)
 
   one_read : (r : Result Value TextFault) (o : Operands) → one_operand r ≡ Ok o → (v : Value) × (r ≡ Ok v)
   one_read (Ok v) o e = (v, refl)
@@ -173,15 +163,15 @@ module _ (find : List ℕ → Option ℕ) (slot : ℕ) where
   nothing_read false o e = absurd cc
 
   -- a text that is read as operands has their form
-  operands_stand : (ks : Kinds) (text : List ℕ) (o : Operands) → operands_at find slot ks text ≡ Ok o
-      → all_stand ks text ≡ true
-  operands_stand kinds.Zero text o e = nothing_read (length text == 0) o e
-  operands_stand (kinds.One a) text o e = (let v = one_read (value_at find slot a (trim text)) o e in
-      value_stands a (trim text) v.0 v.1)
-  operands_stand (kinds.Two a b) text o e = (let x = two_read (both_at find slot a b (cut_comma text)) o e in
-      both_stands a b (cut_comma text) x.0 x.1)
-  operands_stand (kinds.Three a b c) text o e = (let x = three_read (three_at find slot a b c (cut_comma text)) o e in
-      three_stands a b c (cut_comma text) x.0 x.1)
+  operands_fit : (ks : Kinds) (text : List ℕ) (o : Operands) → operands_at find slot ks text ≡ Ok o
+      → all_fit ks text ≡ true
+  operands_fit kinds.Zero text o e = nothing_read (length text == 0) o e
+  operands_fit (kinds.One a) text o e = (let v = one_read (value_at find slot a (trim text)) o e in
+      value_fits a (trim text) v.0 v.1)
+  operands_fit (kinds.Two a b) text o e = (let x = two_read (both_at find slot a b (cut_comma text)) o e in
+      both_fits a b (cut_comma text) x.0 x.1)
+  operands_fit (kinds.Three a b c) text o e = (let x = three_read (three_at find slot a b c (cut_comma text)) o e in
+      three_fits a b c (cut_comma text) x.0 x.1)
 
   -- ---- the slots of a mnemonic's instruction
 
@@ -234,7 +224,7 @@ module _ (find : List ℕ → Option ℕ) (slot : ℕ) where
   statement_slots None i e = absurd cc
   statement_slots (Some s) i e =
       let made = built_read s.0 (operands_at find slot (kinds_of s.0) s.1) i e in
-      cond-true (all_stand (kinds_of s.0) s.1) (mnemonic_slots s.0) 0 (operands_stand (kinds_of s.0) s.1 made.0 made.1)
+      cond-true (all_fit (kinds_of s.0) s.1) (mnemonic_slots s.0) 0 (operands_fit (kinds_of s.0) s.1 made.0 made.1)
       ∙ insn_slots s.0 made.0 i (insn_there (insn_of_mnemonic s.0 made.0) i made.2)
 
   pub line_slots : (line : List ℕ) (i : Insn) → insn_of_line find slot line ≡ Ok i → slots_at line ≡ slots_of i

@@ -3,11 +3,9 @@ use Rattle.std.proofs.Common.{◌≡◌, ℕ, List, [], ◌∷◌, ◌++◌, Som
 use Rattle.bpf_insn_types.specs.declared.insn.Width.TheVariants as width
 use Rattle.bpf_insn_types.specs.declared.insn.Size.TheVariants as size
 use Rattle.bpf_insn_types.specs.declared.insn.MovsxBits.TheVariants as movsx
-use Rattle.bpf_text_lex.specs.Lines.{trim_start}
-use Rattle.bpf_text_lex.specs.declared.mnemonic.Mnemonic.{Mnemonic}
-use Rattle.bpf_text_lex.specs.declared.mnemonic.Mnemonic.TheVariants as mnemonic
-use Rattle.bpf_text_lex.specs.MnemonicWords.{mnemonic_word}
+use Rattle.bpf_text_lex.specs.{Lines.{trim_start}, declared.mnemonic.Mnemonic.{Mnemonic}, MnemonicWords.{mnemonic_word}}
 use Rattle.bpf_text_lex.proofs.EachMnemonic.{each_mnemonic}
+use Rattle.bpf_text_lex.specs.declared.mnemonic.Mnemonic.TheVariants as mnemonic
 use Rattle.bpf_text_operands.specs.Statements.{statement_at}
 
 -- a mnemonic that takes operands and that some instruction with bytes has

@@ -1,12 +1,8 @@
 -- Operands have no blanks and no commas in them, so lines are cut where they were joined.
-use Rattle.std.proofs.Common.{◌≡◌, ℕ, ◌+◌, ◌<◌, true, false, cond, ◌==◌, List, [], ◌∷◌}
-use Rattle.std.proofs.Common.{◌++◌, length, drop, Some, None, refl, ap, ◌∙◌, arith}
-use Rattle.std.specs.Prelude.{position, nat_lt}
-use Rattle.std.specs.Char.{is_ascii_digit}
-use Rattle.std.specs.List.{position_or_len, list_all}
-use Rattle.std.proofs.lemmas.Bool.{ne_eqb, lt-ltb, and_parts}
-use Rattle.std.proofs.lemmas.List.{length-append}
-use Rattle.std.proofs.Math.Seq.{take-append_seam, drop-append-add}
+use Rattle.std.proofs.Common.{◌≡◌, ℕ, ◌+◌, ◌<◌, true, false, cond, ◌==◌, List, [], ◌∷◌, ◌++◌, length, drop, Some, None}
+use Rattle.std.{proofs.Common.{refl, ap, ◌∙◌, arith}, specs.{Prelude.{position, nat_lt}, Char.{is_ascii_digit}}}
+use Rattle.std.{specs.List.{position_or_len, list_all}, proofs.lemmas.Bool.{ne_eqb, lt-ltb, and_parts}}
+use Rattle.std.proofs.{lemmas.List.{length-append}, Math.Seq.{take-append_seam, drop-append-add}}
 use Rattle.bpf_text_lex.specs.Lines.{is_blank, trim_start, before_kept, trim_end, trim}
 use Rattle.bpf_text_lex.proofs.SpellingLaws.{digit_low}
 use Rattle.bpf_text_operands.specs.Operands.{cut, cut_comma}

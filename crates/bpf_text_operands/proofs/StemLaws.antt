@@ -1,7 +1,6 @@
 -- Looking for a word in a table, as a loop does.
-use Rattle.std.proofs.Common.{◌≡◌, ℕ, zero, suc, ◌+◌, ◌<◌, true, false, if◌then◌else◌, List, [], ◌∷◌, length}
-use Rattle.std.proofs.Common.{drop, get_or, Option, Some, None, sym, ◌∙◌, refl, add-one, arith}
-use Rattle.std.specs.Str.{bytes_eq}
+use Rattle.std.proofs.Common.{◌≡◌, ℕ, zero, suc, ◌+◌, ◌<◌, true, false, if◌then◌else◌, List, [], ◌∷◌, length, drop}
+use Rattle.std.{proofs.Common.{get_or, Option, Some, None, sym, ◌∙◌, refl, add-one, arith}, specs.Str.{bytes_eq}}
 use denote.Ref.{Bor}
 use Rattle.bpf_text_operands.specs.declared.stem.Stem.{Stem}
 

@@ -1,29 +1,19 @@
 -- Each operand is read back from its spelling.
-use Rattle.std.proofs.Common.{◌≡◌, ℕ, suc, ℤ, pos, negsuc, ◌+◌, ◌-◌, ◌<◌, ◌≤◌, ◌^◌, Bool, true}
-use Rattle.std.proofs.Common.{false, cond, ◌&&◌, ◌==◌, List, [], ◌∷◌, ◌++◌, length, take, drop}
-use Rattle.std.proofs.Common.{get_or, Result, Ok, Err, Option, refl, ap, ◌∙◌, arith}
-use Rattle.std.specs.Prelude.{nat_lt, FitsSigned}
-use Rattle.std.specs.Char.{is_ascii_digit}
-use Rattle.std.specs.Fmt.{decimal, signed_decimal}
-use Rattle.std.specs.Int.{w32}
-use Rattle.std.specs.List.{list_all, position_or_len}
-use Rattle.std.proofs.lemmas.Bool.{ne_eqb, lt-ltb, and_parts, and_from, cond-true, cond-false}
-use Rattle.std.proofs.lemmas.Fmt.{first_decimal}
-use Rattle.std.proofs.lemmas.List.{length-append}
-use Rattle.std.proofs.Math.Seq.{take-append_seam, drop-append_seam, get_or-append_seam}
-use Rattle.bpf_text_lex.specs.Names.{continues_name, is_name}
-use Rattle.bpf_text_lex.specs.Numbers.{is_numeral, is_negative, number_in}
-use Rattle.bpf_text_lex.proofs.SpellingLaws.{in_field, digit_low, decimal_digits}
-use Rattle.bpf_text_lex.specs.declared.text_error.TextFault.{TextFault}
-use Rattle.bpf_text_lex.specs.declared.text_error.TextFault.TheVariants as faults
-use Rattle.bpf_text_lex.specs.declared.value.Value.{Value}
-use Rattle.bpf_text_lex.specs.declared.value.Value.TheVariants as value
+use Rattle.std.proofs.Common.{◌≡◌, ℕ, suc, ℤ, pos, negsuc, ◌+◌, ◌-◌, ◌<◌, ◌≤◌, ◌^◌, Bool, true, false, cond, ◌&&◌, ◌==◌}
+use Rattle.std.proofs.Common.{List, [], ◌∷◌, ◌++◌, length, take, drop, get_or, Result, Ok, Err, Option, refl, ap, ◌∙◌}
+use Rattle.std.{proofs.Common.{arith}, specs.{Prelude.{nat_lt, FitsSigned}, Char.{is_ascii_digit}, Int.{w32}}}
+use Rattle.std.specs.{Fmt.{decimal, signed_decimal}, List.{list_all, position_or_len}}
+use Rattle.std.proofs.lemmas.{Bool.{ne_eqb, lt-ltb, and_parts, and_from, cond-true, cond-false}, Fmt.{first_decimal}}
+use Rattle.std.proofs.{lemmas.List.{length-append}, Math.Seq.{take-append_seam, drop-append_seam, get_or-append_seam}}
+use Rattle.bpf_text_lex.specs.{Names.{continues_name, is_name}, Numbers.{is_numeral, is_negative, number_in}}
+use Rattle.bpf_text_lex.{proofs.SpellingLaws.{in_field, digit_low, decimal_digits}, specs.declared.value.Value.{Value}}
+use Rattle.bpf_text_lex.{specs.declared.text_error.TextFault.{TextFault}, proofs.Bounds.{InBound}}
 use Rattle.bpf_text_lex.specs.PrintedLines.{distance_spelling, value_spelling}
-use Rattle.bpf_text_operands.specs.SignedNumbers.{as_register, register_at, ahead, back}
-use Rattle.bpf_text_operands.specs.SignedNumbers.{signed_at, offset_at, distance_at}
-use Rattle.bpf_text_operands.specs.Operands.{pair, as_address, is_sign, is_bracketed, inside}
-use Rattle.bpf_text_operands.specs.Operands.{base_part, offset_part, address_at}
-use Rattle.bpf_text_lex.proofs.Bounds.{InBound}
+use Rattle.bpf_text_lex.specs.declared.text_error.TextFault.TheVariants as faults
+use Rattle.bpf_text_lex.specs.declared.value.Value.TheVariants as value
+use Rattle.bpf_text_operands.specs.SignedNumbers.{as_register, register_at, ahead, back, signed_at, offset_at}
+use Rattle.bpf_text_operands.specs.{SignedNumbers.{distance_at}, Operands.{address_at}}
+use Rattle.bpf_text_operands.specs.Operands.{pair, as_address, is_sign, is_bracketed, inside, base_part, offset_part}
 
 -- digits have no sign
 no_minus : (word : List ℕ) → 48 ≤ get_or word 0 0 → is_negative word ≡ false

@@ -1,12 +1,7 @@
 -- The labels that were defined so far.
-use Rattle.std.specs.Prelude.{ℕ, if◌then◌else◌, List, Option, Some, None}
-use Rattle.std.specs.Str.{bytes_eq}
-use Rattle.std.specs.BTreeMap.{get_by}
-use Rattle.std.specs.Ordering.{nat_cmp}
-use Rattle.std.specs.Cmp.Lexicographic.{slice_cmp}
-use Rattle.std.specs.Option.{option_or}
-use Rattle.bpf_text_operands.specs.declared.labels.Label.{Label}
-use Rattle.bpf_text_operands.specs.declared.labels.Labels.{Labels}
+use Rattle.std.specs.{Prelude.{ℕ, if◌then◌else◌, List, Option, Some, None}, Str.{bytes_eq}, BTreeMap.{get_by}}
+use Rattle.std.specs.{Ordering.{nat_cmp}, Cmp.Lexicographic.{slice_cmp}, Option.{option_or}}
+use Rattle.bpf_text_operands.specs.declared.labels.{Label.{Label}, Labels.{Labels}}
 
 -- where a label is defined, if it is
 unfoldable pub label_named : Labels → List ℕ → Option Label

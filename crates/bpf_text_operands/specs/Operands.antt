@@ -3,25 +3,17 @@ use Rattle.std.specs.Prelude.{ℕ, ℤ, ◌+◌, ◌-◌, ◌^◌, ◌==◌, ◌
 use Rattle.std.specs.Prelude.{length, take, drop, slice_index, position, Option, Some, None, is_ok, Result, Ok, Err}
 use Rattle.std.specs.List.{position_or_len}
 use Rattle.bpf_insn_types.specs.declared.insn.ImmKind.TheVariants as load
-use Rattle.bpf_text_lex.specs.Lines.{trim}
-use Rattle.bpf_text_lex.specs.Names.{is_name}
-use Rattle.bpf_text_lex.specs.Numbers.{is_number}
-use Rattle.bpf_text_lex.specs.declared.text_error.TextFault.{TextFault}
+use Rattle.bpf_text_lex.specs.{Lines.{trim}, Names.{is_name}, Numbers.{is_number}, FaultNumbers.{text_fault_number}}
+use Rattle.bpf_text_lex.specs.{declared.{text_error.TextFault.{TextFault}, value.Value.{Value}}, Fields.{field_of}}
+use Rattle.bpf_text_lex.specs.declared.{mnemonic.Mnemonic.{Mnemonic}, value.Operands.{Operands}}
 use Rattle.bpf_text_lex.specs.declared.text_error.TextFault.TheVariants as faults
-use Rattle.bpf_text_lex.specs.FaultNumbers.{text_fault_number}
-use Rattle.bpf_text_lex.specs.Fields.{field_of}
-use Rattle.bpf_text_lex.specs.declared.mnemonic.Mnemonic.{Mnemonic}
 use Rattle.bpf_text_lex.specs.declared.mnemonic.Mnemonic.TheVariants as mnemonic
-use Rattle.bpf_text_lex.specs.declared.value.Value.{Value}
 use Rattle.bpf_text_lex.specs.declared.value.Value.TheVariants as value
-use Rattle.bpf_text_lex.specs.declared.value.Operands.{Operands}
 use Rattle.bpf_text_lex.specs.declared.value.Operands.TheVariants as operands
-use Rattle.bpf_text_operands.specs.declared.kind.Kind.{Kind}
+use Rattle.bpf_text_operands.specs.{declared.kind.{Kind.{Kind}, Kinds.{Kinds}}, SignedNumbers.{distance_at}}
+use Rattle.bpf_text_operands.specs.SignedNumbers.{is_register, register_at, signed_at, is_offset, offset_at}
 use Rattle.bpf_text_operands.specs.declared.kind.Kind.TheVariants as kind
-use Rattle.bpf_text_operands.specs.declared.kind.Kinds.{Kinds}
 use Rattle.bpf_text_operands.specs.declared.kind.Kinds.TheVariants as kinds
-use Rattle.bpf_text_operands.specs.SignedNumbers.{is_register, register_at, signed_at}
-use Rattle.bpf_text_operands.specs.SignedNumbers.{is_offset, offset_at, distance_at}
 
 -- the kinds of operands that a mnemonic takes
 abbrev pub kinds_of : Mnemonic → Kinds
@@ -161,27 +153,27 @@ operands_at find slot (kinds.Two a b) text = two_operands (both_at find slot a b
 operands_at find slot (kinds.Three a b c) text = three_operands (three_at find slot a b c (cut_comma text))
 
 -- whether a word has the form of a kind, and its registers exist, whatever its numbers and labels are
-abbrev pub stands : Kind → List ℕ → Bool
-stands kind.Reg word = is_ok (register_at word)
-stands kind.RegOrImm word = if is_register word then is_ok (register_at word) else is_number word
-stands kind.Imm word = is_number word
-stands kind.Wide word = is_number word
-stands kind.Distance word = is_name word || is_offset word
-stands kind.FarDistance word = is_name word || is_offset word
-stands kind.Address word = is_bracketed word && (is_ok (register_at (base_part (inside word)))
+abbrev pub fits : Kind → List ℕ → Bool
+fits kind.Reg word = is_ok (register_at word)
+fits kind.RegOrImm word = if is_register word then is_ok (register_at word) else is_number word
+fits kind.Imm word = is_number word
+fits kind.Wide word = is_number word
+fits kind.Distance word = is_name word || is_offset word
+fits kind.FarDistance word = is_name word || is_offset word
+fits kind.Address word = is_bracketed word && (is_ok (register_at (base_part (inside word)))
     && is_offset (offset_part (inside word)))
 
-abbrev pub both_stand : Kind → Kind → Option (List ℕ × List ℕ) → Bool
-both_stand a b None = false
-both_stand a b (Some parts) = stands a (trim parts.0) && stands b (trim parts.1)
+abbrev pub both_fit : Kind → Kind → Option (List ℕ × List ℕ) → Bool
+both_fit a b None = false
+both_fit a b (Some parts) = fits a (trim parts.0) && fits b (trim parts.1)
 
-abbrev pub three_stand : Kind → Kind → Kind → Option (List ℕ × List ℕ) → Bool
-three_stand a b c None = false
-three_stand a b c (Some parts) = stands a (trim parts.0) && both_stand b c (cut_comma parts.1)
+abbrev pub three_fit : Kind → Kind → Kind → Option (List ℕ × List ℕ) → Bool
+three_fit a b c None = false
+three_fit a b c (Some parts) = fits a (trim parts.0) && both_fit b c (cut_comma parts.1)
 
 -- whether a text has the form of operands of these kinds, and its registers exist
-abbrev pub all_stand : Kinds → List ℕ → Bool
-all_stand kinds.Zero text = length text == 0
-all_stand (kinds.One a) text = stands a (trim text)
-all_stand (kinds.Two a b) text = both_stand a b (cut_comma text)
-all_stand (kinds.Three a b c) text = three_stand a b c (cut_comma text)
+abbrev pub all_fit : Kinds → List ℕ → Bool
+all_fit kinds.Zero text = length text == 0
+all_fit (kinds.One a) text = fits a (trim text)
+all_fit (kinds.Two a b) text = both_fit a b (cut_comma text)
+all_fit (kinds.Three a b c) text = three_fit a b c (cut_comma text)

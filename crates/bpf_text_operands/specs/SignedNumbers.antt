@@ -1,14 +1,10 @@
 -- Registers, numbers with a sign, and distances. 43 is a plus sign, 114 an `r`.
-use Rattle.std.specs.Prelude.{ℕ, ℤ, pos, neg_ℤ, ◌+◌, ◌-◌, ◌==◌, ◌&&◌, ◌||◌, nat_lt, nat_le, Bool, if◌then◌else◌}
-use Rattle.std.specs.Prelude.{List, length, drop, slice_index, Option, Some, None, Result, Ok, Err}
-use Rattle.std.specs.Char.{is_ascii_digit}
+use Rattle.std.specs.Prelude.{ℕ, ℤ, pos, neg_ℤ, ◌+◌, ◌-◌, ◌==◌, ◌&&◌, ◌||◌, nat_lt, nat_le, Bool, if◌then◌else◌, List}
+use Rattle.std.specs.{Prelude.{length, drop, slice_index, Option, Some, None, Result, Ok, Err}, Char.{is_ascii_digit}}
 use Rattle.std.specs.List.{list_all}
-use Rattle.bpf_text_lex.specs.declared.numbers.NumberError.{NumberError}
-use Rattle.bpf_text_lex.specs.Names.{is_name}
-use Rattle.bpf_text_lex.specs.Numbers.{is_numeral, is_negative, number_in}
-use Rattle.bpf_text_lex.specs.declared.text_error.TextFault.{TextFault}
+use Rattle.bpf_text_lex.specs.{declared.numbers.NumberError.{NumberError}, Names.{is_name}, Fields.{number_fault}}
+use Rattle.bpf_text_lex.specs.{Numbers.{is_numeral, is_negative, number_in}, declared.text_error.TextFault.{TextFault}}
 use Rattle.bpf_text_lex.specs.declared.text_error.TextFault.TheVariants as faults
-use Rattle.bpf_text_lex.specs.Fields.{number_fault}
 
 -- an `r` and digits
 abbrev pub is_register : List ℕ → Bool

@@ -1,25 +1,18 @@
 -- What a line that isn't a label means: the instruction of its mnemonic and operands.
-use Rattle.std.specs.Prelude.{ℕ, ◌%◌, ◌/◌, ◌^◌, if◌then◌else◌, List, take, drop}
-use Rattle.std.specs.Prelude.{Option, Some, None, pos, Result, Ok, Err}
-use Rattle.std.specs.Int.{w32, cast_signed}
-use Rattle.std.specs.List.{position_or_len}
-use Rattle.bpf_insn_types.specs.declared.insn.ImmKind.{ImmKind}
+use Rattle.std.specs.Prelude.{ℕ, ◌%◌, ◌/◌, ◌^◌, if◌then◌else◌, List, take, drop, Option, Some, None, pos, Result, Ok}
+use Rattle.std.specs.{Prelude.{Err}, Int.{w32, cast_signed}, List.{position_or_len}}
+use Rattle.bpf_insn_types.specs.declared.insn.{ImmKind.{ImmKind}, Width.{Width}, AtomicOp.{AtomicOp}, Insn.{Insn}}
 use Rattle.bpf_insn_types.specs.declared.insn.ImmKind.TheVariants as load
-use Rattle.bpf_insn_types.specs.declared.insn.Width.{Width}
-use Rattle.bpf_insn_types.specs.declared.insn.AtomicOp.{AtomicOp}
 use Rattle.bpf_insn_types.specs.declared.insn.Operand.TheVariants as operand
-use Rattle.bpf_insn_types.specs.declared.insn.Insn.{Insn}
 use Rattle.bpf_insn_types.specs.declared.insn.Insn.TheVariants as insn
-use Rattle.bpf_text_lex.specs.Lines.{is_blank, trim_start}
-use Rattle.bpf_text_lex.specs.declared.text_error.TextFault.{TextFault}
+use Rattle.bpf_text_lex.specs.{Lines.{is_blank, trim_start}, declared.text_error.TextFault.{TextFault}}
+use Rattle.bpf_text_lex.specs.declared.{mnemonic.Mnemonic.{Mnemonic}, value.Operands.{Operands}}
+use Rattle.bpf_text_lex.specs.declared.value.Operands.TheVariants.{Zero, One, Two, Three}
 use Rattle.bpf_text_lex.specs.declared.text_error.TextFault.TheVariants as faults
-use Rattle.bpf_text_lex.specs.declared.mnemonic.Mnemonic.{Mnemonic}
 use Rattle.bpf_text_lex.specs.declared.mnemonic.Mnemonic.TheVariants as mnemonic
 use Rattle.bpf_text_lex.specs.declared.value.Value.TheVariants as value
-use Rattle.bpf_text_lex.specs.declared.value.Operands.{Operands}
-use Rattle.bpf_text_lex.specs.declared.value.Operands.TheVariants.{Zero, One, Two, Three}
 use Rattle.bpf_text_operands.specs.Stems.{mnemonic_at, atomic_width, atomics, first_atomic}
-use Rattle.bpf_text_operands.specs.Operands.{kinds_of, operands_at, all_stand}
+use Rattle.bpf_text_operands.specs.Operands.{kinds_of, operands_at, all_fit}
 
 -- a two-slot load of this kind
 abbrev pub two_slots_of : ImmKind → Operands → Option Insn
@@ -62,8 +55,8 @@ insn_of_mnemonic m values = None
 abbrev pub first_word : List ℕ → List ℕ
 first_word text = take (position_or_len is_blank text) text
 
-abbrev pub behind_word : List ℕ → List ℕ
-behind_word text = trim_start (drop (position_or_len is_blank text) text)
+abbrev pub after_word : List ℕ → List ℕ
+after_word text = trim_start (drop (position_or_len is_blank text) text)
 
 -- a mnemonic before a text of operands
 abbrev pub before_text : List ℕ → Option Mnemonic → Option (Mnemonic × List ℕ)
@@ -77,12 +70,12 @@ atomic_of w text (Some o) = Some (mnemonic.Atomic w o, text)
 
 -- an atomic where its first word gives a width, or another mnemonic
 abbrev pub by_width : Option Width → (word rest : List ℕ) → Option (Mnemonic × List ℕ)
-by_width (Some w) word rest = atomic_of w (behind_word rest) (first_atomic (first_word rest) atomics)
+by_width (Some w) word rest = atomic_of w (after_word rest) (first_atomic (first_word rest) atomics)
 by_width None word rest = before_text rest (mnemonic_at word)
 
 -- the mnemonic of a line, and the text of its operands
 abbrev pub statement_at : List ℕ → Option (Mnemonic × List ℕ)
-statement_at line = by_width (atomic_width (first_word line)) (first_word line) (behind_word line)
+statement_at line = by_width (atomic_width (first_word line)) (first_word line) (after_word line)
 
 -- an instruction where there is one
 abbrev pub some_insn : Option Insn → Result Insn TextFault
@@ -111,7 +104,7 @@ mnemonic_slots _ = 1
 -- how many slots a line takes: none unless it has its form and its registers exist
 abbrev pub slots_where : Option (Mnemonic × List ℕ) → ℕ
 slots_where None = 0
-slots_where (Some s) = if all_stand (kinds_of s.0) s.1 then mnemonic_slots s.0 else 0
+slots_where (Some s) = if all_fit (kinds_of s.0) s.1 then mnemonic_slots s.0 else 0
 
 unfoldable pub slots_at : List ℕ → ℕ
 slots_at line = slots_where (statement_at line)

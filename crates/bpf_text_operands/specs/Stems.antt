@@ -1,10 +1,8 @@
 -- What words say: the mnemonic whose word it is.
 use Rattle.std.specs.Prelude.{ℕ, ◌-◌, if◌then◌else◌, List, [], ◌∷◌, length, take, drop, codes, Option, Some, None}
-use Rattle.std.specs.Option.{option_or}
-use Rattle.std.specs.Str.{bytes_eq}
-use Rattle.bpf_insn_types.specs.declared.insn.Width.{Width}
+use Rattle.std.specs.{Option.{option_or}, Str.{bytes_eq}}
+use Rattle.bpf_insn_types.specs.declared.insn.{Width.{Width}, Size.{Size}, AtomicOp.{AtomicOp}}
 use Rattle.bpf_insn_types.specs.declared.insn.Width.TheVariants as width
-use Rattle.bpf_insn_types.specs.declared.insn.Size.{Size}
 use Rattle.bpf_insn_types.specs.declared.insn.Size.TheVariants as size
 use Rattle.bpf_insn_types.specs.declared.insn.EndianBits.TheVariants as endian
 use Rattle.bpf_insn_types.specs.declared.insn.MovsxBits.TheVariants as movsx
@@ -13,13 +11,11 @@ use Rattle.bpf_insn_types.specs.declared.insn.ByteOrder.TheVariants as order
 use Rattle.bpf_insn_types.specs.declared.insn.Compare.TheVariants as compare
 use Rattle.bpf_insn_types.specs.declared.insn.Callee.TheVariants as callee
 use Rattle.bpf_insn_types.specs.declared.insn.SimpleOp.TheVariants as simple
-use Rattle.bpf_insn_types.specs.declared.insn.AtomicOp.{AtomicOp}
 use Rattle.bpf_insn_types.specs.declared.insn.AtomicOp.TheVariants as atomic
 use Rattle.bpf_insn_types.specs.declared.insn.ImmKind.TheVariants as kind
 use Rattle.bpf_text_lex.specs.declared.mnemonic.Mnemonic.{Mnemonic}
+use Rattle.bpf_text_lex.specs.MnemonicWords.{alu_word, order_word, compare_word, callee_word, atomic_word, kind_word}
 use Rattle.bpf_text_lex.specs.declared.mnemonic.Mnemonic.TheVariants as mnemonic
-use Rattle.bpf_text_lex.specs.MnemonicWords.{alu_word, order_word, compare_word, callee_word}
-use Rattle.bpf_text_lex.specs.MnemonicWords.{atomic_word, kind_word}
 use Rattle.bpf_text_operands.specs.declared.stem.Stem.{Stem}
 use Rattle.bpf_text_operands.specs.declared.stem.Stem.TheVariants as stem
 

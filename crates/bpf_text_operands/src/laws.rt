@@ -1,12 +1,9 @@
 //! Laws of the lines of instructions, as functions that do nothing: what they ensure is the law.
 
 ghost use Rattle.std.specs.Prelude.{◌≡◌, ℕ, List, Option, Ok};
-ghost use Rattle.bpf_insn_types.specs.declared.insn.Insn.{Insn};
-ghost use Rattle.bpf_insn.specs.declared.slot.Slot.{Slot};
-ghost use Rattle.bpf_insn.specs.Spelling.{spelling};
-ghost use Rattle.bpf_insn_types.specs.Values.{InsnFits};
+ghost use Rattle.bpf_insn_types.specs.{declared.insn.Insn.{Insn}, Values.{InsnFits}, Slots.{slots_of}};
+ghost use Rattle.bpf_insn.specs.{declared.slot.Slot.{Slot}, Spelling.{spelling}};
 ghost use Rattle.bpf_text_lex.specs.PrintedLines.{insn_spelling};
-ghost use Rattle.bpf_insn_types.specs.Slots.{slots_of};
 ghost use Rattle.bpf_text_operands.specs.Statements.{insn_of_line, slots_at};
 
 /// The line of an instruction that has bytes is read back as it, at any slot and whatever the labels

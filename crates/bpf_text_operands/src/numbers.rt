@@ -1,11 +1,9 @@
 //! Registers, numbers with a sign, and distances.
 
-ghost use Rattle.std.specs.Prelude.{◌≡◌, ◌≤◌, ◌<◌, ◌-◌, ◌^◌, pos, neg_ℤ, IfOk, FitsSigned};
-ghost use Rattle.std.specs.Int.{w16};
-ghost use Rattle.bpf_text_lex.specs.Numbers.{number_in};
-ghost use Rattle.bpf_text_lex.specs.Fields.{number_fault};
-ghost use Rattle.bpf_text_operands.specs.SignedNumbers.{is_register, register_at, ahead, back, signed_at};
-ghost use Rattle.bpf_text_operands.specs.SignedNumbers.{is_ahead, is_offset, offset_at, distance_to};
+ghost use Rattle.std.specs.{Prelude.{◌≡◌, ◌≤◌, ◌<◌, ◌-◌, ◌^◌, pos, neg_ℤ, IfOk, FitsSigned}, Int.{w16}};
+ghost use Rattle.bpf_text_lex.specs.{Numbers.{number_in}, Fields.{number_fault}};
+ghost use Rattle.bpf_text_operands.specs.SignedNumbers.{is_register, register_at, ahead, back, signed_at, is_ahead};
+ghost use Rattle.bpf_text_operands.specs.SignedNumbers.{is_offset, offset_at, distance_to};
 
 use bpf_insn_types::Reg;
 use bpf_text_lex::{NumberError, TextFault, has_only_digits, is_negative, is_numeral, read_number};

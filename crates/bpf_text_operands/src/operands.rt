@@ -1,14 +1,12 @@
 //! The operands of a line.
 
-ghost use Rattle.std.specs.Prelude.{◌≡◌, ◌<◌, ◌≤◌, ◌-◌, ◌^◌, Some, None, IfSome, IfNone};
-ghost use Rattle.std.specs.Prelude.{IfOk, FitsSigned, length, position, ◌==◌};
-ghost use Rattle.std.specs.Int.{w16};
-ghost use Rattle.bpf_text_operands.specs.LabelTable.{label_slots};
+ghost use Rattle.std.specs.Prelude.{◌≡◌, ◌<◌, ◌≤◌, ◌-◌, ◌^◌, Some, None, IfSome, IfNone, IfOk, FitsSigned, length};
+ghost use Rattle.std.specs.{Prelude.{position, ◌==◌}, Int.{w16}};
+ghost use Rattle.bpf_text_operands.specs.{LabelTable.{label_slots}, Operands.{both_fit, three_fit, all_fit}};
 ghost use Rattle.bpf_text_operands.specs.SignedNumbers.{register_at, signed_at, offset_at, distance_at};
 ghost use Rattle.bpf_text_operands.specs.Operands.{pair, as_reg, as_imm, as_wide, as_distance, as_far_distance};
 ghost use Rattle.bpf_text_operands.specs.Operands.{is_sign, is_bracketed, inside, base_part, offset_part, address_at};
-ghost use Rattle.bpf_text_operands.specs.Operands.{value_at, cut_comma, both_at, three_at, operands_at, stands};
-ghost use Rattle.bpf_text_operands.specs.Operands.{both_stand, three_stand, all_stand};
+ghost use Rattle.bpf_text_operands.specs.Operands.{value_at, cut_comma, both_at, three_at, operands_at, fits};
 ghost use Rattle.bpf_text_lex.specs.Fields.{field_of};
 
 use crate::kind::{Kind, Kinds};
@@ -232,9 +230,9 @@ fn three_at(
     ensures { result ≡ three_at (label_slots labels.now) slot first others.0 others.1 (cut_comma text.now) }
 {
     match cut_comma(text) {
-        Some((front, behind)) => pair(
-            value_at(first, trim(front), labels, slot),
-            both_at(others, behind, labels, slot),
+        Some((word, rest)) => pair(
+            value_at(first, trim(word), labels, slot),
+            both_at(others, rest, labels, slot),
         ),
         None => Err(TextFault::Form),
     }
@@ -270,8 +268,8 @@ pub(crate) fn operands_at(
 }
 
 /// Whether a word between brackets has a base that is a register, and an offset.
-fn address_stands(word: &[u8]) -> bool
-    ensures { result ≡ stands Kind.Address word.now }
+fn address_fits(word: &[u8]) -> bool
+    ensures { result ≡ fits Kind.Address word.now }
 {
     if !is_bracketed(word) {
         return false;
@@ -281,46 +279,46 @@ fn address_stands(word: &[u8]) -> bool
 }
 
 /// Whether a word has the form of a kind, and its registers exist.
-fn stands(kind: Kind, word: &[u8]) -> bool
-    ensures { result ≡ stands kind word.now }
+fn fits(kind: Kind, word: &[u8]) -> bool
+    ensures { result ≡ fits kind word.now }
 {
     match kind {
         Kind::Reg => register_at(word).is_ok(),
         Kind::RegOrImm if is_register(word) => register_at(word).is_ok(),
         Kind::RegOrImm | Kind::Imm | Kind::Wide => is_number(word),
         Kind::Distance | Kind::FarDistance => is_name(word) || is_offset(word),
-        Kind::Address => address_stands(word),
+        Kind::Address => address_fits(word),
     }
 }
 
 /// Whether two operands with a comma between them have the forms of their kinds, and their registers exist.
-fn both_stand(kinds: (Kind, Kind), text: &[u8]) -> bool
-    ensures { result ≡ both_stand kinds.0 kinds.1 (cut_comma text.now) }
+fn both_fit(kinds: (Kind, Kind), text: &[u8]) -> bool
+    ensures { result ≡ both_fit kinds.0 kinds.1 (cut_comma text.now) }
 {
     match cut_comma(text) {
-        Some((first, second)) => stands(kinds.0, trim(first)) && stands(kinds.1, trim(second)),
+        Some((first, second)) => fits(kinds.0, trim(first)) && fits(kinds.1, trim(second)),
         None => false,
     }
 }
 
 /// Whether three operands with commas between them have the forms of their kinds, and their registers exist.
-fn three_stand(first: Kind, others: (Kind, Kind), text: &[u8]) -> bool
-    ensures { result ≡ three_stand first others.0 others.1 (cut_comma text.now) }
+fn three_fit(first: Kind, others: (Kind, Kind), text: &[u8]) -> bool
+    ensures { result ≡ three_fit first others.0 others.1 (cut_comma text.now) }
 {
     match cut_comma(text) {
-        Some((front, behind)) => stands(first, trim(front)) && both_stand(others, behind),
+        Some((word, rest)) => fits(first, trim(word)) && both_fit(others, rest),
         None => false,
     }
 }
 
 /// Whether a text has the form of operands of these kinds, and its registers exist.
-pub(crate) fn all_stand(kinds: Kinds, text: &[u8]) -> bool
-    ensures { result ≡ all_stand kinds text.now }
+pub(crate) fn all_fit(kinds: Kinds, text: &[u8]) -> bool
+    ensures { result ≡ all_fit kinds text.now }
 {
     match kinds {
         Kinds::Zero => text.is_empty(),
-        Kinds::One(kind) => stands(kind, trim(text)),
-        Kinds::Two(first, second) => both_stand((first, second), text),
-        Kinds::Three(first, second, third) => three_stand(first, (second, third), text),
+        Kinds::One(kind) => fits(kind, trim(text)),
+        Kinds::Two(first, second) => both_fit((first, second), text),
+        Kinds::Three(first, second, third) => three_fit(first, (second, third), text),
     }
 }

@@ -1,14 +1,13 @@
 //! A line that isn't a label.
 
 ghost use Rattle.std.specs.Prelude.{◌≡◌, Some, None, IfSome, IfNone, ◌≤◌};
-ghost use Rattle.bpf_text_operands.specs.LabelTable.{label_slots};
-ghost use Rattle.bpf_text_operands.specs.Statements.{first_word, behind_word, statement_at, insn_of_line};
-ghost use Rattle.bpf_text_operands.specs.Statements.{mnemonic_slots, slots_at, built};
+ghost use Rattle.bpf_text_operands.specs.{LabelTable.{label_slots}, Statements.{mnemonic_slots, slots_at, built}};
+ghost use Rattle.bpf_text_operands.specs.Statements.{first_word, after_word, statement_at, insn_of_line};
 
 use crate::building::insn_of_mnemonic;
 use crate::kind::kinds_of;
 use crate::labels::Labels;
-use crate::operands::{all_stand, operands_at};
+use crate::operands::{all_fit, operands_at};
 use crate::tables::{atomic_at, atomic_width, mnemonic_at};
 use bpf_insn_types::Insn;
 use bpf_text_lex::{Mnemonic, Operands, TextFault, blank_at, trim_start};
@@ -16,7 +15,7 @@ use bpf_text_lex::{Mnemonic, Operands, TextFault, blank_at, trim_start};
 /// A text up to its first blank, and what comes after its blanks there.
 fn split_word(text: &[u8]) -> (&[u8], &[u8])
     ensures word { result.0.now ≡ first_word text.now }
-    ensures rest { result.1.now ≡ behind_word text.now }
+    ensures rest { result.1.now ≡ after_word text.now }
 {
     match blank_at(text) {
         Some(at) => {
@@ -95,7 +94,7 @@ pub fn line_slots(line: &[u8]) -> u32
     ensures bound { result ≤ 2 }
 {
     match statement_at(line) {
-        Some((mnemonic, text)) if all_stand(kinds_of(mnemonic), text) => mnemonic_slots(mnemonic),
+        Some((mnemonic, text)) if all_fit(kinds_of(mnemonic), text) => mnemonic_slots(mnemonic),
         _ => 0,
     }
 }

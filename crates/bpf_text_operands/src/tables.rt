@@ -1,9 +1,8 @@
 //! What words say.
 
-ghost use Rattle.std.specs.Prelude.{◌≡◌, ◌-◌, length, take, drop};
-ghost use Rattle.std.specs.Str.{bytes_eq};
-ghost use Rattle.bpf_text_operands.specs.Stems.{stems, first_stem, whole, sized, front, ending, sized_at};
-ghost use Rattle.bpf_text_operands.specs.Stems.{mnemonic_at, atomic_width, atomics, first_atomic};
+ghost use Rattle.std.specs.{Prelude.{◌≡◌, ◌-◌, length, take, drop}, Str.{bytes_eq}};
+ghost use Rattle.bpf_text_operands.specs.Stems.{stems, first_stem, whole, sized, front, ending, sized_at, mnemonic_at};
+ghost use Rattle.bpf_text_operands.specs.Stems.{atomic_width, atomics, first_atomic};
 
 use crate::stem::Stem;
 use bpf_insn_types::{

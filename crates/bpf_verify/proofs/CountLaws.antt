@@ -1,18 +1,15 @@
 -- The longest paths in a list of numbers, filled from the end of a program on.
 use Rattle.std.proofs.Common.{◌≡◌, ◌≢◌, ℕ, zero, suc, ◌+◌, ◌-◌, ◌<◌, ◌≤◌, Bool, true, false, List, [], ◌∷◌, length}
 use Rattle.std.proofs.Common.{get_or, set, refl, ap, sym, ◌∙◌, arith, Some, None, take, replicate, map}
-use Rattle.std.specs.Prelude.{nat_eq, nat_lt}
-use Rattle.std.proofs.lemmas.Bool.Decides.{nat_tests}
+use Rattle.std.{specs.Prelude.{nat_eq, nat_lt}, proofs.lemmas.Bool.Decides.{nat_tests}}
 use Rattle.std.proofs.lemmas.List.{get_or-set_same, get_or-set_other}
-use Rattle.bpf_insn_types.specs.declared.insn.Insn.{Insn}
-use Rattle.bpf_insn_types.specs.Slots.{slots_of}
+use Rattle.bpf_insn_types.specs.{declared.insn.Insn.{Insn}, Slots.{slots_of}}
 use Rattle.bpf_insn_types.specs.Program.{slot_count, insn_at, callback_starts}
-use Rattle.bpf_verify_model.specs.Count.{through, longest, count_of}
-use Rattle.bpf_verify_model.specs.Count.{JumpsForward}
+use Rattle.bpf_insn_types.proofs.ProgramLaws.{slots_some, slot_count-more, slot_count-front, insn_at-index}
+use Rattle.bpf_insn_types.proofs.ProgramLaws.{insn_at-index_inner}
+use Rattle.bpf_verify_model.specs.Count.{through, longest, count_of, JumpsForward}
 use Rattle.bpf_verify_model.proofs.LongestLaws.{through-congr, longest-end, longest-step, longest-small}
 use Rattle.bpf_verify.specs.Counting.{most_at}
-use Rattle.bpf_insn_types.proofs.ProgramLaws.{slots_some, slot_count-more, slot_count-front}
-use Rattle.bpf_insn_types.proofs.ProgramLaws.{insn_at-index, insn_at-index_inner}
 
 -- an instruction at an index from the end
 pub record Back (insns : List Insn) (n slot slot' i : ℕ) (x : Insn) : Type 0 where

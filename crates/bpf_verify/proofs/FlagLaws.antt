@@ -1,15 +1,10 @@
 -- Marks of slots, by the instructions of a list.
 use Rattle.std.proofs.Common.{◌≡◌, ◌≢◌, ℕ, ◌+◌, ◌<◌, ◌≤◌, Bool, true, false, ◌||◌, List, [], ◌∷◌, ◌++◌, length, get_or}
 use Rattle.std.proofs.Common.{set, take, refl, ap, sym, ◌∙◌, subst, arith, Option, Some, None, is_some}
-use Rattle.std.specs.Prelude.{nat_eq}
-use Rattle.std.specs.List.{list_any, cons_option}
-use Rattle.std.proofs.lemmas.Bool.Decides.{nat_tests}
-use Rattle.std.proofs.lemmas.List.{get_or-set_same, get_or-set_other}
-use Rattle.std.proofs.lemmas.List.Folds.{list_any-append}
+use Rattle.std.{specs.{Prelude.{nat_eq}, List.{list_any, cons_option}}, proofs.lemmas.Bool.Decides.{nat_tests}}
+use Rattle.std.proofs.lemmas.List.{get_or-set_same, get_or-set_other, Folds.{list_any-append}}
 use Rattle.std.proofs.Math.ListN.{length-set}
-use Rattle.bpf_insn_types.specs.declared.insn.Insn.{Insn}
-use Rattle.bpf_insn_types.specs.Program.{slot_count, insn_at}
-use Rattle.bpf_insn_types.specs.Slots.{slots_of}
+use Rattle.bpf_insn_types.specs.{declared.insn.Insn.{Insn}, Program.{slot_count, insn_at}, Slots.{slots_of}}
 use Rattle.bpf_insn_types.proofs.ProgramLaws.{slot_count-front, insn_at-front, starts-push}
 use Rattle.bpf_verify.specs.SlotFlags.{slot_flagged}
 

@@ -1,26 +1,18 @@
 -- A pass over a program's slots, step by step.
 use Rattle.std.proofs.Common.{◌≡◌, ℕ, zero, suc, ◌+◌, ◌-◌, ◌<◌, ◌≤◌, Bool, true, false, List, [], ◌∷◌, ◌++◌, length}
 use Rattle.std.proofs.Common.{get_or, refl, ap, sym, ◌∙◌, subst, arith, add-one, Option, Some, None, is_some, take}
-use Rattle.std.specs.Prelude.{nat_lt}
-use Rattle.std.proofs.lemmas.Bool.Decides.{nat_tests}
-use Rattle.bpf_insn_types.specs.Slots.{slots_of}
-use Rattle.bpf_insn_types.specs.declared.insn.Insn.{Insn}
+use Rattle.std.{specs.Prelude.{nat_lt}, proofs.lemmas.Bool.Decides.{nat_tests}}
+use Rattle.bpf_insn_types.specs.{Slots.{slots_of}, declared.insn.Insn.{Insn}}
 use Rattle.bpf_insn_types.specs.Program.{Program, insn_at, slot_count, named_by, function_of}
-use Rattle.bpf_verify_model.specs.declared.rule.Rule.{Rule}
-use Rattle.bpf_verify_model.specs.declared.state.State.{State}
-use Rattle.bpf_verify_model.specs.States.{known_main_entry}
+use Rattle.bpf_insn_types.proofs.ProgramLaws.{slots_some, slots_two, slot_count-more, slot_count-front, insn_at-index}
+use Rattle.bpf_insn_types.proofs.ProgramLaws.{insn_at-index_inner}
+use Rattle.bpf_verify_model.specs.{declared.{rule.Rule.{Rule}, state.State.{State}}, States.{known_main_entry}}
 use Rattle.bpf_verify_model.specs.Rules.{named_at, with_target, targets_in, slot_fault, insn_fault, state_fault}
-use Rattle.bpf_verify_model.specs.Rules.{callback_fault, exit_fault, or_else, reached, fault_of}
-use Rattle.bpf_verify_model.specs.Flow.{flow}
+use Rattle.bpf_verify_model.specs.{Rules.{callback_fault, exit_fault, or_else, reached, fault_of}, Flow.{flow}}
 use Rattle.bpf_verify_model.specs.Inflow.{flow_unless, flow_if_reached, flow_from, received_all, entry, incoming}
 use Rattle.bpf_verify_model.specs.Accepted.{BrokenRule, unless_earlier, fault_at_insn, fault_within}
-use Rattle.bpf_verify.specs.declared.error.VerifyError.{VerifyError}
-use Rattle.bpf_verify.specs.declared.error.VerifyError.TheVariants.{Refused, Memory}
-use Rattle.bpf_verify.specs.declared.layout.Layout.{Layout}
-use Rattle.bpf_verify.specs.Layout.{IsLayout}
-use Rattle.bpf_verify.specs.Passing.{InsnStartsAt, out_of, Passed, IsFault}
-use Rattle.bpf_insn_types.proofs.ProgramLaws.{slots_some, slots_two, slot_count-more, slot_count-front}
-use Rattle.bpf_insn_types.proofs.ProgramLaws.{insn_at-index, insn_at-index_inner}
+use Rattle.bpf_verify.specs.{declared.error.VerifyError.{VerifyError, TheVariants.{Refused, Memory}}, Layout.{IsLayout}}
+use Rattle.bpf_verify.specs.{declared.layout.Layout.{Layout}, Passing.{InsnStartsAt, out_of, Passed, IsFault}}
 use Rattle.bpf_verify.proofs.StartLaws.{get_or-push-below, get_or-push-at}
 
 -- the least rule from its parts

@@ -2,15 +2,11 @@
 use Rattle.std.proofs.Common.{◌≡◌, ℕ, zero, suc, ◌+◌, ◌-◌, ◌<◌, ◌≤◌, Bool, true, false, ◌&&◌, List, [], ◌∷◌, ◌++◌}
 use Rattle.std.proofs.Common.{length, get_or, refl, ap, sym, ◌∙◌, arith, Option, Some, None, is_some, cond}
 use Rattle.std.specs.Prelude.{nat_eq, nat_lt, nat_le, if◌then◌else◌, filter, option_to_list}
-use Rattle.std.specs.List.{list_any, range_with_len}
-use Rattle.std.proofs.lemmas.Bool.Decides.{nat_tests}
-use Rattle.std.proofs.lemmas.List.FromFn.{length-range_with_len}
-use Rattle.std.proofs.lemmas.List.Sums.{length-filter, count_by-le-length}
-use Rattle.bpf_insn_types.specs.declared.insn.Insn.{Insn}
-use Rattle.bpf_insn_types.specs.Program.{slot_count, insn_at, named_from, is_callback_start}
-use Rattle.bpf_insn_types.specs.Program.{callback_starts, function_of}
+use Rattle.std.{specs.List.{list_any, range_with_len}, proofs.lemmas.Bool.Decides.{nat_tests}}
+use Rattle.std.proofs.lemmas.List.{FromFn.{length-range_with_len}, Sums.{length-filter, count_by-le-length}}
+use Rattle.bpf_insn_types.{specs.{declared.insn.Insn.{Insn}, Program.{function_of}}, proofs.ProgramLaws.{insn_at-end}}
+use Rattle.bpf_insn_types.specs.Program.{slot_count, insn_at, named_from, is_callback_start, callback_starts}
 use Rattle.bpf_verify.specs.Layout.{function_starting_at}
-use Rattle.bpf_insn_types.proofs.ProgramLaws.{insn_at-end}
 
 -- a filter of one number more
 pub filter-more : (p : ℕ → Bool) (a n : ℕ) →

@@ -1,21 +1,14 @@
 -- The abstract states that are kept as a pass goes on.
-use Rattle.std.proofs.Common.{◌≡◌, ℕ, ◌+◌, ◌<◌, ◌≤◌, Bool, true, false, List, take, length, get_or, refl, ap}
-use Rattle.std.proofs.Common.{sym, ◌∙◌, subst, arith, Option, Some, None, is_some, get_or-set_other}
-use Rattle.std.proofs.lemmas.Grind.{get_or-set_at}
-use Rattle.std.specs.Prelude.{nat_lt, slice_set}
-use Rattle.std.proofs.lemmas.Bool.Decides.{nat_tests}
-use Rattle.bpf_insn_types.specs.declared.insn.Insn.{Insn}
-use Rattle.bpf_insn_types.specs.Program.{Program, insn_at, slot_count, named_by}
-use Rattle.bpf_insn_types.specs.Slots.{slots_of}
-use Rattle.bpf_insn_types.proofs.ProgramLaws.{insn_at-end, slots_some, slot_count-front, slot_count-more}
-use Rattle.bpf_insn_types.proofs.ProgramLaws.{insn_at-index, insn_at-index_inner}
-use Rattle.bpf_verify_model.specs.declared.state.State.{State}
-use Rattle.bpf_verify_model.specs.Rules.{fault_of, targets_in, with_target}
-use Rattle.bpf_verify_model.specs.Inflow.{incoming, state_before, received_all}
+use Rattle.std.proofs.Common.{◌≡◌, ℕ, ◌+◌, ◌<◌, ◌≤◌, Bool, true, false, List, take, length, get_or, refl, ap, sym, ◌∙◌}
+use Rattle.std.proofs.Common.{subst, arith, Option, Some, None, is_some, get_or-set_other}
+use Rattle.std.{proofs.lemmas.{Grind.{get_or-set_at}, Bool.Decides.{nat_tests}}, specs.Prelude.{nat_lt, slice_set}}
+use Rattle.bpf_insn_types.specs.{declared.insn.Insn.{Insn}, Program.{Program, insn_at, slot_count, named_by}}
+use Rattle.bpf_insn_types.{specs.Slots.{slots_of}, proofs.ProgramLaws.{insn_at-index_inner}}
+use Rattle.bpf_insn_types.proofs.ProgramLaws.{insn_at-end, slots_some, slot_count-front, slot_count-more, insn_at-index}
+use Rattle.bpf_verify_model.specs.{declared.state.State.{State}, Rules.{fault_of, targets_in, with_target}}
+use Rattle.bpf_verify_model.{specs.Inflow.{incoming, state_before, received_all}, proofs.JumpLaws.{fault_at-none}}
 use Rattle.bpf_verify_model.specs.Accepted.{fault_at_insn, fault_within}
-use Rattle.bpf_verify_model.proofs.JumpLaws.{fault_at-none}
-use Rattle.bpf_verify.specs.Passing.{Passed, out_of}
-use Rattle.bpf_verify.specs.States.{AreStatesBefore}
+use Rattle.bpf_verify.specs.{Passing.{Passed, out_of}, States.{AreStatesBefore}}
 use Rattle.bpf_verify.proofs.PassLaws.{passed-more, known-here}
 
 -- a list has the abstract state before each of the first n slots where an instruction starts

@@ -1,7 +1,6 @@
 -- Where the instructions of a unit stand, and in which functions.
 use Rattle.std.specs.Prelude.{◌≡◌, ℕ, if◌then◌else◌, List, slice_index_or, Option, Some, None, is_some}
-use Rattle.bpf_insn_types.specs.declared.insn.Insn.{Insn}
-use Rattle.bpf_insn_types.specs.Program.{insn_at, function_of, callback_starts}
+use Rattle.bpf_insn_types.specs.{declared.insn.Insn.{Insn}, Program.{insn_at, function_of, callback_starts}}
 use Rattle.bpf_verify.specs.declared.layout.Layout.{Layout}
 
 -- the function of the instruction that starts at a slot, if one does

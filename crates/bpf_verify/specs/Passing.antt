@@ -1,21 +1,11 @@
 -- How far a pass over a program's slots has come.
 use Rattle.std.specs.Prelude.{◌≡◌, ℕ, ◌<◌, ◌≤◌, true, List, length, slice_index_or, Option, Some, None, is_some}
-use Rattle.bpf_insn_types.specs.declared.insn.Insn.{Insn}
-use Rattle.bpf_insn_types.specs.Program.{Program, insn_at}
-use Rattle.bpf_verify_model.specs.declared.state.State.{State}
-use Rattle.bpf_verify_model.specs.Rules.{targets_in}
-use Rattle.bpf_verify_model.specs.declared.outflow.Outflow.{Outflow}
-use Rattle.bpf_verify_model.specs.Flow.{flow}
-use Rattle.bpf_verify_model.specs.Inflow.{incoming, no_edges, entry}
-use Rattle.bpf_verify_model.specs.Accepted.{BrokenRule, fault_within}
-use Rattle.bpf_step_ir.specs.declared.plain_op.PlainOp.{PlainOp}
-use Rattle.bpf_step_ir.specs.declared.plain_op.PlainOp.TheVariants.{Stop}
-use Rattle.bpf_step_ir.specs.Translation.{op_at}
-use Rattle.bpf_verify.specs.declared.error.VerifyError.{VerifyError}
-use Rattle.bpf_verify.specs.declared.error.VerifyError.TheVariants.{Refused, Memory}
-use Rattle.bpf_verify.specs.declared.layout.Layout.{Layout}
-use Rattle.bpf_verify.specs.declared.passing.Code.{Code}
-use Rattle.bpf_verify.specs.Layout.{IsLayout}
+use Rattle.bpf_insn_types.specs.{declared.insn.Insn.{Insn}, Program.{Program, insn_at}}
+use Rattle.bpf_verify_model.specs.{declared.{state.State.{State}, outflow.Outflow.{Outflow}}, Rules.{targets_in}}
+use Rattle.bpf_verify_model.specs.{Flow.{flow}, Inflow.{incoming, no_edges, entry}, Accepted.{BrokenRule, fault_within}}
+use Rattle.bpf_step_ir.specs.{declared.ir_op.IrOp.{IrOp, TheVariants.{Stop}}, Translation.{op_at}}
+use Rattle.bpf_verify.specs.{declared.error.VerifyError.{VerifyError, TheVariants.{Refused, Memory}}, Layout.{IsLayout}}
+use Rattle.bpf_verify.specs.declared.{layout.Layout.{Layout}, passing.Code.{Code}}
 
 -- the program of some code
 abbrev pub program_of : Code → Program
@@ -39,7 +29,7 @@ pub record Passed (program : Program) (count : ℕ) (targets : List ℕ) (table 
   pub known : (slot : ℕ) → slot < length table → slice_index_or table slot None ≡ incoming program count slot
 
 -- the first n slots have their operations, and the others none
-pub record Translated (program : Program) (count : ℕ) (ops : List PlainOp) : Type 0 where
+pub record Translated (program : Program) (count : ℕ) (ops : List IrOp) : Type 0 where
   pub done : (slot : ℕ) → slot < count → slice_index_or ops slot Stop ≡ op_at program slot
   pub rest : (slot : ℕ) → count ≤ slot → slice_index_or ops slot Stop ≡ Stop
 

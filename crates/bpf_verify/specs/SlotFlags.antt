@@ -1,9 +1,7 @@
 -- Marks of slots.
-use Rattle.std.specs.Prelude.{◌≡◌, ℕ, ◌<◌, Bool, true, false, nat_eq, List, length, slice_index_or}
-use Rattle.std.specs.Prelude.{slice_set, Option, Some, None, is_some}
-use Rattle.std.specs.List.{list_any}
-use Rattle.bpf_insn_types.specs.declared.insn.Insn.{Insn}
-use Rattle.bpf_insn_types.specs.Program.{slot_count, insn_at, named_from}
+use Rattle.std.specs.Prelude.{◌≡◌, ℕ, ◌<◌, Bool, true, false, nat_eq, List, length, slice_index_or, slice_set, Option}
+use Rattle.std.specs.{Prelude.{Some, None, is_some}, List.{list_any}}
+use Rattle.bpf_insn_types.specs.{declared.insn.Insn.{Insn}, Program.{slot_count, insn_at, named_from}}
 
 -- marks with one more, where the slot has a mark
 abbrev pub slot_flagged : List Bool → Option ℕ → List Bool

@@ -1,8 +1,7 @@
 -- The abstract states before the instructions of a program.
 use Rattle.std.specs.Prelude.{◌≡◌, ℕ, ◌≤◌, true, List, length, slice_index_or, Option, None, is_some}
 use Rattle.bpf_insn_types.specs.Program.{Program, insn_at, slot_count}
-use Rattle.bpf_verify_model.specs.declared.state.State.{State}
-use Rattle.bpf_verify_model.specs.Inflow.{state_before}
+use Rattle.bpf_verify_model.specs.{declared.state.State.{State}, Inflow.{state_before}}
 
 -- a list has the abstract state before each slot up to the last where an instruction starts
 pub record AreStatesBefore (program : Program) (last : ℕ) (states : List (Option State)) : Type 0 where

@@ -1,7 +1,7 @@
 //! How many instructions each function takes at most.
 
-ghost use Rattle.std.specs.Prelude.{◌≡◌, ℕ, ◌<◌, ◌≤◌, ◌∷◌, [], ◌++◌, map, length, replicate};
-ghost use Rattle.std.specs.Prelude.{slice_set, slice_index_or, IfOk, IfErr, OnOk};
+ghost use Rattle.std.specs.Prelude.{◌≡◌, ℕ, ◌<◌, ◌≤◌, ◌∷◌, [], ◌++◌, map, length, replicate, slice_set, slice_index_or};
+ghost use Rattle.std.specs.Prelude.{IfOk, IfErr, OnOk};
 ghost use Rattle.bpf_insn_types.specs.Program.{slot_count};
 ghost use Rattle.bpf_verify_model.specs.Count.{behind_jump, through, longest, JumpsForward};
 ghost use Rattle.bpf_verify.specs.Counting.{most_at, AreLongest};
@@ -12,7 +12,7 @@ use bpf_verify_values::slot_beyond;
 use std::alloc::Global;
 
 /// The most instructions from a slot on.
-fn behind(longest: &[u32], slot: Option<u32>) -> u32
+fn longest_from(longest: &[u32], slot: Option<u32>) -> u32
     requires { (k : ℕ) → slice_index_or longest.now k 0 ≤ 4096 }
     ensures most { result ≡ behind_jump (most_at longest.now) slot }
     ensures small { result ≤ 4096 }
@@ -33,14 +33,14 @@ fn through(longest: &[u32], slot: u32, insn: Insn) -> u32
     ensures { result ≡ through (most_at longest.now) slot (Some insn) }
 {
     match insn {
-        Insn::Ja { offset } => 1 + behind(longest, slot_beyond(slot, offset as i32)),
-        Insn::Ja32 { imm } => 1 + behind(longest, slot_beyond(slot, imm)),
+        Insn::Ja { offset } => 1 + longest_from(longest, slot_beyond(slot, offset as i32)),
+        Insn::Ja32 { imm } => 1 + longest_from(longest, slot_beyond(slot, imm)),
         Insn::Jump { offset, .. } => {
-            let jumping = behind(longest, slot_beyond(slot, offset as i32));
-            1 + behind(longest, Some(slot + 1)).max(jumping)
+            let jumping = longest_from(longest, slot_beyond(slot, offset as i32));
+            1 + longest_from(longest, Some(slot + 1)).max(jumping)
         }
         Insn::Exit => 1,
-        other => 1 + behind(longest, Some(slot + slots(&other))),
+        other => 1 + longest_from(longest, Some(slot + slots(&other))),
     }
 }
 
@@ -94,9 +94,9 @@ pub(crate) fn counts_of(
 {
     let longest = longest(alloc, insns, count)?;
     let mut counts = Vec::new(alloc);
-    add(&mut counts, behind(longest.as_slice(), Some(0)))?;
+    add(&mut counts, longest_from(longest.as_slice(), Some(0)))?;
     for start in starts {
-        add(&mut counts, behind(longest.as_slice(), Some(*start)))?;
+        add(&mut counts, longest_from(longest.as_slice(), Some(*start)))?;
     }
     Ok(counts)
 }

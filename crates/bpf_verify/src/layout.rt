@@ -3,8 +3,7 @@
 ghost use Rattle.std.specs.Prelude.{◌≡◌, ◌<◌, ◌≤◌, ◌&&◌, false, if◌then◌else◌, ◌++◌, ◌∷◌, [], length, slice_index_or};
 ghost use Rattle.std.specs.Prelude.{option_to_list, IfSome, IfNone, IfOk, IfErr, OnOk};
 ghost use Rattle.bpf_insn_types.specs.Program.{slot_count};
-ghost use Rattle.bpf_verify.specs.SlotFlags.{slot_flagged, StartFlags, NamedFlags};
-ghost use Rattle.bpf_verify.specs.Layout.{IsLayout};
+ghost use Rattle.bpf_verify.specs.{SlotFlags.{slot_flagged, StartFlags, NamedFlags}, Layout.{IsLayout}};
 
 use crate::error::VerifyError;
 use bpf_insn_types::{Insn, slots};

@@ -3,8 +3,7 @@
 
 ghost use Rattle.std.specs.Prelude.{◌≡◌, ℕ, ◌+◌, ◌<◌, ◌≤◌, ◌++◌, ◌∷◌, [], length, nat_eq, slice_set, IfOk, IfErr, OnOk};
 ghost use Rattle.std.specs.List.{list_any};
-ghost use Rattle.bpf_insn_types.specs.Limits.{AreSizes};
-ghost use Rattle.bpf_insn_types.specs.Program.{slot_count, insn_at, function_of, leads_to};
+ghost use Rattle.bpf_insn_types.specs.{Limits.{AreSizes}, Program.{slot_count, insn_at, function_of, leads_to}};
 ghost use Rattle.bpf_verify_model.specs.Rules.{leads_later, jumps_astray, falls_off, starts, names_none, targets_in};
 ghost use Rattle.bpf_verify_model.specs.Rules.{with_target, slot_fault, reached, state_fault, exit_fault, fault_of};
 ghost use Rattle.bpf_verify_model.specs.Accepted.{fault_within};
@@ -15,9 +14,9 @@ ghost use Rattle.bpf_verify.specs.Passing.{program_of, InsnStartsAt, Passed, IsF
 use crate::error::VerifyError;
 use crate::layout::Layout;
 use crate::operations::{no_ops, put_op};
-use crate::table::{first_table, hand_on_reached, known};
+use crate::table::{first_table, known, propagate_reached};
 use bpf_insn_types::{Insn, slots};
-use bpf_step_ir::PlainOp;
+use bpf_step_ir::IrOp;
 use bpf_verify_model::{Rule, State};
 use bpf_verify_rules::{
     callback_fault, exit_fault, goes_on, insn_fault, is_code_load, jump_distance, or_else,
@@ -213,7 +212,7 @@ fn visit(
     insn: &Insn,
     targets: &mut Vec<u32>,
     table: &mut Vec<Option<State>>,
-    ops: &mut Vec<PlainOp>,
+    ops: &mut Vec<IrOp>,
 ) -> Result<(), VerifyError>
     requires sizes { AreSizes code.now.sizes.now }
     requires stands { InsnStartsAt code.now.insns.now code.now.layout.now slot }
@@ -232,12 +231,12 @@ fn visit(
         return Err(VerifyError::Refused { rule, slot });
     }
     put_op(ops, code.sizes, slot, &before, insn);
-    hand_on_reached(table, code.sizes, slot, &mut before, *insn);
+    propagate_reached(table, code.sizes, slot, &mut before, *insn);
     Ok(())
 }
 
 /// Passes over all instructions, up to the first fault, and gives the operations of all.
-pub(crate) fn pass(alloc: Global, code: &Code, count: u32) -> Result<Vec<PlainOp>, VerifyError>
+pub(crate) fn pass(alloc: Global, code: &Code, count: u32) -> Result<Vec<IrOp>, VerifyError>
     requires sizes { AreSizes code.now.sizes.now }
     requires layout { IsLayout code.now.insns.now code.now.layout.now }
     requires slots { slot_count code.now.insns.now ≡ count }

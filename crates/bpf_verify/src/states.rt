@@ -6,7 +6,7 @@ ghost use Rattle.bpf_verify_model.specs.Accepted.{fault_within};
 ghost use Rattle.bpf_verify.specs.States.{AreStatesBefore};
 
 use crate::error::VerifyError;
-use crate::table::{first_table, hand_on_reached, known};
+use crate::table::{first_table, known, propagate_reached};
 use bpf_insn_types::{Insn, slots};
 use bpf_verify_model::State;
 use std::alloc::Global;
@@ -45,7 +45,7 @@ pub fn states_before(
         if last <= slot {
             return Ok(states);
         }
-        hand_on_reached(&mut table, sizes, slot, &mut before, *insn);
+        propagate_reached(&mut table, sizes, slot, &mut before, *insn);
         slot += slots(insn);
     }
     Ok(states)

@@ -1,7 +1,7 @@
 //! The abstract state before each slot, as far as a pass has come.
 
-ghost use Rattle.std.specs.Prelude.{◌≡◌, ℕ, ◌+◌, ◌<◌, ◌++◌, ◌∷◌, [], length, slice_index_or};
-ghost use Rattle.std.specs.Prelude.{Some, None, IfOk, IfErr, OnOk};
+ghost use Rattle.std.specs.Prelude.{◌≡◌, ℕ, ◌+◌, ◌<◌, ◌++◌, ◌∷◌, [], length, slice_index_or, Some, None, IfOk, IfErr};
+ghost use Rattle.std.specs.Prelude.{OnOk};
 ghost use Rattle.bpf_insn_types.specs.Slots.{slots_of};
 ghost use Rattle.bpf_verify_model.specs.Flow.{known_behind, ahead_outflow, flow};
 ghost use Rattle.bpf_verify_model.specs.Inflow.{joined_with, received, received_all};
@@ -10,7 +10,7 @@ ghost use Rattle.bpf_verify.specs.Passing.{out_of, IsEntryTable};
 use crate::error::VerifyError;
 use bpf_insn_types::{Insn, slots};
 use bpf_verify_model::{Edge, Outflow, State};
-use bpf_verify_transfer::{behind, flow, main_entry};
+use bpf_verify_transfer::{flow, main_entry, state_after};
 use bpf_verify_values::join_states;
 use std::alloc::Global;
 
@@ -55,7 +55,7 @@ fn join_before(before: &mut Option<State>, state: &State)
     }
 }
 
-/// One more edge comes to a slot.
+/// One more edge leads to a slot.
 fn receive_at(table: &mut Vec<Option<State>>, target: u32, state: &State)
     ensures size { length table.new.items ≡ length table.old.items }
     ensures received { (slot : ℕ) → slot < length table.old.items
@@ -69,7 +69,7 @@ fn receive_at(table: &mut Vec<Option<State>>, target: u32, state: &State)
 }
 
 /// One more edge comes in, if it is followed.
-fn receive(table: &mut Vec<Option<State>>, edge: &Option<Edge>)
+fn join_edge(table: &mut Vec<Option<State>>, edge: &Option<Edge>)
     ensures size { length table.new.items ≡ length table.old.items }
     ensures received { (slot : ℕ) → slot < length table.old.items
         → slice_index_or table.new.items slot None ≡ received slot (slice_index_or table.old.items slot None) edge.now }
@@ -87,8 +87,8 @@ fn receive_both(table: &mut Vec<Option<State>>, out: &Outflow)
         → slice_index_or table.new.items slot None ≡ received_all slot (slice_index_or table.old.items slot None)
         out.now }
 {
-    receive(table, &out.ahead);
-    receive(table, &out.aside);
+    join_edge(table, &out.ahead);
+    join_edge(table, &out.aside);
 }
 
 /// Hands on the abstract state after an instruction that doesn't jump: it is changed in place.
@@ -106,13 +106,19 @@ fn hand_ahead(
         ≡ received_all t (slice_index_or table.old.items t None) (ahead_outflow (slot + slots_of insn)
         (known_behind sizes.now slot state.old insn)) }
 {
-    behind(sizes, slot, state, insn);
+    state_after(sizes, slot, state, insn);
     receive_at(table, slot + slots(&insn), state);
 }
 
 /// Hands on the abstract state before an instruction that breaks no rule, to the slots that it leads to.
 #[tactic(auto, unfolding(bpf_verify_model::specs::Flow::flow))]
-fn hand_on(table: &mut Vec<Option<State>>, sizes: &[u32], slot: u32, state: &mut State, insn: Insn)
+fn propagate(
+    table: &mut Vec<Option<State>>,
+    sizes: &[u32],
+    slot: u32,
+    state: &mut State,
+    insn: Insn,
+)
     requires { slot < 4096 }
     ensures size { length table.new.items ≡ length table.old.items }
     ensures received { (t : ℕ) → t < length table.old.items
@@ -148,7 +154,7 @@ fn hand_on(table: &mut Vec<Option<State>>, sizes: &[u32], slot: u32, state: &mut
 }
 
 /// The same, if the instruction is reached.
-pub(crate) fn hand_on_reached(
+pub(crate) fn propagate_reached(
     table: &mut Vec<Option<State>>,
     sizes: &[u32],
     slot: u32,
@@ -163,6 +169,6 @@ pub(crate) fn hand_on_reached(
 {
     match before {
         None => {}
-        Some(state) => hand_on(table, sizes, slot, state, insn),
+        Some(state) => propagate(table, sizes, slot, state, insn),
     }
 }

@@ -1,20 +1,14 @@
 -- What is true of an accepted program: no slot breaks a rule, and jumps lead forward.
-use Rattle.std.proofs.Common.{◌≡◌, ℕ, zero, suc, ◌<◌, ◌≤◌, Bool, true, false, not, ◌&&◌, ◌||◌}
-use Rattle.std.proofs.Common.{List, refl, ap, sym, ◌∙◌, arith, Option, Some, None, is_some}
-use Rattle.std.specs.Prelude.{nat_lt, nat_eq, if◌then◌else◌}
+use Rattle.std.proofs.Common.{◌≡◌, ℕ, zero, suc, ◌<◌, ◌≤◌, Bool, true, false, not, ◌&&◌, ◌||◌, List, refl, ap, sym, ◌∙◌}
+use Rattle.std.{proofs.Common.{arith, Option, Some, None, is_some}, specs.Prelude.{nat_lt, nat_eq, if◌then◌else◌}}
 use Rattle.std.proofs.lemmas.Bool.Decides.{nat_tests}
-use Rattle.bpf_insn_types.specs.declared.insn.Insn.{Insn}
-use Rattle.bpf_insn_types.specs.Limits.{sizes_fit, AreSizes}
-use Rattle.bpf_insn_types.specs.Program.{Program, slot_count, insn_at, leads_to}
-use Rattle.bpf_verify_model.specs.declared.rule.Rule.{Rule}
-use Rattle.bpf_verify_model.specs.declared.rule.Rule.TheVariants.{NoSlot, OverLimits, JumpTarget}
-use Rattle.bpf_verify_model.specs.Rules.{jump_distance, jump_target, leads_later, jumps_astray}
-use Rattle.bpf_verify_model.specs.Rules.{slot_fault, or_else, fault_of}
-use Rattle.bpf_verify_model.specs.Inflow.{state_before}
+use Rattle.bpf_insn_types.specs.{declared.insn.Insn.{Insn}, Limits.{sizes_fit, AreSizes}}
+use Rattle.bpf_insn_types.{specs.Program.{Program, slot_count, insn_at, leads_to}, proofs.ProgramLaws.{insn_at-end}}
+use Rattle.bpf_verify_model.specs.declared.rule.Rule.{Rule, TheVariants.{NoSlot, OverLimits, JumpTarget}}
+use Rattle.bpf_verify_model.specs.Rules.{jump_distance, jump_target, leads_later, jumps_astray, slot_fault, or_else}
+use Rattle.bpf_verify_model.specs.{Rules.{fault_of}, Inflow.{state_before}, Count.{JumpsForward}}
 use Rattle.bpf_verify_model.specs.Accepted.{BrokenRule, unless_earlier, fault_at, fault_at_insn, fault_within}
 use Rattle.bpf_verify_model.specs.Accepted.{first_fault, is_too_large, WithinLimits}
-use Rattle.bpf_verify_model.specs.Count.{JumpsForward}
-use Rattle.bpf_insn_types.proofs.ProgramLaws.{insn_at-end}
 
 unless_earlier-first : (f : Option BrokenRule) (slot : ℕ) (r : Option Rule) → unless_earlier f slot r ≡ None → f ≡ None
 unless_earlier-first None slot r e = refl

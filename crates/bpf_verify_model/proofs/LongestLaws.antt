@@ -1,14 +1,11 @@
 -- Longest paths: past the end there is none, what is known of later slots alone matters, and one isn't longer than
 -- there are slots.
-use Rattle.std.proofs.Common.{◌≡◌, ℕ, zero, suc, ◌+◌, ◌<◌, ◌≤◌, max, List, refl}
-use Rattle.std.proofs.Common.{ap, sym, ◌∙◌, arith, Option, Some, None}
-use Rattle.bpf_insn_types.specs.declared.insn.Insn.{Insn}
-use Rattle.bpf_insn_types.specs.declared.insn.Insn.TheVariants.{Ja, Ja32, Jump, Exit}
-use Rattle.bpf_insn_types.specs.Slots.{slots_of}
-use Rattle.bpf_insn_types.specs.Program.{slot_count, insn_at, moved}
+use Rattle.std.proofs.Common.{◌≡◌, ℕ, zero, suc, ◌+◌, ◌<◌, ◌≤◌, max, List, refl, ap, sym, ◌∙◌, arith, Option, Some}
+use Rattle.std.proofs.Common.{None}
+use Rattle.bpf_insn_types.specs.{declared.insn.Insn.{Insn, TheVariants.{Ja, Ja32, Jump, Exit}}, Slots.{slots_of}}
+use Rattle.bpf_insn_types.{specs.Program.{slot_count, insn_at, moved}, proofs.ProgramLaws.{slots_some, insn_at-end}}
 use Rattle.bpf_verify_model.specs.Rules.{jump_distance, jump_target}
 use Rattle.bpf_verify_model.specs.Count.{behind_jump, through, longest, JumpsForward}
-use Rattle.bpf_insn_types.proofs.ProgramLaws.{slots_some, insn_at-end}
 
 behind-congr : (f g : ℕ → ℕ) (slot : ℕ) (t : Option ℕ) → ((k : ℕ) → slot + 1 ≤ k → f k ≡ g k)
     → ((target : ℕ) → t ≡ Some target → slot < target) →

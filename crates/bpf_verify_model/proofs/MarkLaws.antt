@@ -1,16 +1,11 @@
 -- One bit of the words, tested and set.
-use Rattle.std.proofs.Common.{◌≡◌, ℕ, ◌*◌, ◌/◌, ◌%◌, ◌^◌, ◌<◌, true, false, eqb, List, length, replicate}
-use Rattle.std.proofs.Common.{get_or, set, sym, ◌∙◌, ap, inl, inr, arith, ext_get_or, length-set}
-use Rattle.std.proofs.Common.{get_or-set_same, get_or-set_other, eq-eqb, ne_eqb, w64}
-use Rattle.std.specs.Prelude.{bit_and, bit_or}
-use Rattle.std.specs.Int.{bit_at}
-use Rattle.std.proofs.lemmas.Bool.{cases_eq}
-use Rattle.std.proofs.lemmas.List.{length-replicate, get_or-replicate}
-use Rattle.std.proofs.lemmas.Nat.{one_shl, pow_pos, or_lt}
+use Rattle.std.proofs.Common.{◌≡◌, ℕ, ◌*◌, ◌/◌, ◌%◌, ◌^◌, ◌<◌, true, false, eqb, List, length, replicate, get_or, set}
+use Rattle.std.proofs.Common.{sym, ◌∙◌, ap, inl, inr, arith, ext_get_or, length-set, get_or-set_same, get_or-set_other}
+use Rattle.std.{proofs.Common.{eq-eqb, ne_eqb, w64}, specs.{Prelude.{bit_and, bit_or}, Int.{bit_at}}}
+use Rattle.std.proofs.lemmas.{Bool.{cases_eq}, List.{length-replicate, get_or-replicate}, Nat.{one_shl, pow_pos, or_lt}}
 use Rattle.std.proofs.lemmas.Nat.Bits.{bit_at_set_same, bit_at_set_other, bit_at-zero, bit_at-lt, and_pow}
 use Rattle.std.proofs.Math.Pow.{pow-lt}
-use Rattle.bpf_verify_model.specs.Written.{none_written}
-use Rattle.bpf_verify_model.specs.Words.{is_byte_marked, marks_in_words, AreMarkWords}
+use Rattle.bpf_verify_model.specs.{Written.{none_written}, Words.{is_byte_marked, marks_in_words, AreMarkWords}}
 use Rattle.bpf_verify_model.specs.WordsBack.{length-marks_in_words, get_or-marks_in_words}
 
 pub marks_in_words-zeros : marks_in_words (replicate 8 0) ≡ none_written

@@ -1,7 +1,6 @@
 -- Lists that meet element by element.
-use Rattle.std.proofs.Common.{◌≡◌, ℕ, zero, suc, ◌+◌, ◌<◌, List, [], ◌∷◌, map, length, get_or}
-use Rattle.std.proofs.Common.{set, refl, ap, sym, ◌∙◌, subst, arith, add-one, ◌≤◌}
-use Rattle.std.specs.Prelude.{zip}
+use Rattle.std.proofs.Common.{◌≡◌, ℕ, zero, suc, ◌+◌, ◌<◌, List, [], ◌∷◌, map, length, get_or, set, refl, ap, sym, ◌∙◌}
+use Rattle.std.{proofs.Common.{subst, arith, add-one, ◌≤◌}, specs.Prelude.{zip}}
 
 -- two lists that meet up to an index, and from there on the first
 abbrev pub met_to : {A : Type 0} → (A → A → A) → List A → List A → ℕ → List A

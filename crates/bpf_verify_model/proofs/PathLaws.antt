@@ -1,18 +1,13 @@
 -- Paths: the longest has as many slots as `longest` says.
-use Rattle.std.proofs.Common.{◌≡◌, ℕ, zero, suc, ◌+◌, ◌-◌, ◌<◌, ◌≤◌, max, Bool, true, false, ◌||◌, List, [], ◌∷◌}
-use Rattle.std.proofs.Common.{◌++◌, length, refl, ap, sym, ◌∙◌, subst, arith, Option, Some, None, is_some}
-use Rattle.std.specs.Prelude.{nat_eq, nat_le, option_to_list, if◌then◌else◌}
-use Rattle.std.specs.List.{list_any}
-use Rattle.std.proofs.lemmas.Bool.Decides.{nat_tests}
-use Rattle.std.proofs.lemmas.List.{length-append}
-use Rattle.bpf_insn_types.specs.declared.insn.Insn.{Insn}
-use Rattle.bpf_insn_types.specs.declared.insn.Insn.TheVariants.{Ja, Ja32, Jump, Exit}
-use Rattle.bpf_insn_types.specs.Slots.{slots_of}
+use Rattle.std.proofs.Common.{◌≡◌, ℕ, zero, suc, ◌+◌, ◌-◌, ◌<◌, ◌≤◌, max, Bool, true, false, ◌||◌, List, [], ◌∷◌, ◌++◌}
+use Rattle.std.proofs.Common.{length, refl, ap, sym, ◌∙◌, subst, arith, Option, Some, None, is_some}
+use Rattle.std.specs.{Prelude.{nat_eq, nat_le, option_to_list, if◌then◌else◌}, List.{list_any}}
+use Rattle.std.proofs.lemmas.{Bool.Decides.{nat_tests}, List.{length-append}}
+use Rattle.bpf_insn_types.specs.{declared.insn.Insn.{Insn, TheVariants.{Ja, Ja32, Jump, Exit}}, Slots.{slots_of}}
 use Rattle.bpf_insn_types.specs.Program.{Program, slot_count, insn_at, moved}
 use Rattle.bpf_verify_model.specs.Count.{behind_jump, through, longest, function_start, count_of, JumpsForward}
-use Rattle.bpf_verify_model.specs.declared.rule.Rule.TheVariants.{NoSlot, OverLimits}
+use Rattle.bpf_verify_model.{specs.declared.rule.Rule.TheVariants.{NoSlot, OverLimits}, proofs.JumpLaws.{jumps_forward}}
 use Rattle.bpf_verify_model.specs.Accepted.{Accepted, first_fault, fault_within, is_too_large}
-use Rattle.bpf_verify_model.proofs.JumpLaws.{jumps_forward}
 use Rattle.bpf_verify_model.specs.LongestPath.{successors, IsPath, successors_of_path, CountIsLongestPath}
 use Rattle.bpf_verify_model.proofs.LongestLaws.{longest-step}
 

@@ -1,16 +1,9 @@
 -- The bytes in words that meet word by word.
-use Rattle.std.proofs.Common.{◌≡◌, ℕ, ◌/◌, ◌%◌, ◌<◌, min, Bool, false, ◌&&◌, eqb, List, length}
-use Rattle.std.proofs.Common.{get_or, ap, sym, ◌∙◌, inl, inr, arith, ext_get_or}
-use Rattle.std.specs.Prelude.{zip, bit_and}
-use Rattle.std.specs.Int.{bit_at}
-use Rattle.std.proofs.lemmas.Bool.{cases_lt}
-use Rattle.std.proofs.lemmas.Bool.Decides.{nat_tests}
-use Rattle.std.proofs.lemmas.List.{length-map, get_or-map, get_or_past}
-use Rattle.std.proofs.lemmas.Nat.{and_le_l}
-use Rattle.std.proofs.lemmas.Nat.Bits.{bit_at_and, bit_at-lt}
-use Rattle.std.proofs.lemmas.Slice.Zip.{length-zip, get_or-zip}
-use Rattle.bpf_verify_model.specs.Written.{joined_written}
-use Rattle.bpf_verify_model.specs.Words.{is_byte_marked, marks_in_words, AreMarkWords}
+use Rattle.std.proofs.Common.{◌≡◌, ℕ, ◌/◌, ◌%◌, ◌<◌, min, Bool, false, ◌&&◌, eqb, List, length, get_or, ap, sym, ◌∙◌}
+use Rattle.std.{proofs.Common.{inl, inr, arith, ext_get_or}, specs.{Prelude.{zip, bit_and}, Int.{bit_at}}}
+use Rattle.std.proofs.lemmas.{Bool.{cases_lt, Decides.{nat_tests}}, List.{length-map, get_or-map, get_or_past}}
+use Rattle.std.proofs.lemmas.{Nat.{and_le_l, Bits.{bit_at_and, bit_at-lt}}, Slice.Zip.{length-zip, get_or-zip}}
+use Rattle.bpf_verify_model.specs.{Written.{joined_written}, Words.{is_byte_marked, marks_in_words, AreMarkWords}}
 use Rattle.bpf_verify_model.specs.WordsBack.{length-marks_in_words, get_or-marks_in_words}
 use Rattle.bpf_verify_model.proofs.MeetLaws.{met_to, met_to-all, length-met_to}
 

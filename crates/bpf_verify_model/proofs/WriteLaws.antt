@@ -1,11 +1,8 @@
 -- What a loop over the bytes of a place has tested or marked so far.
-use Rattle.std.proofs.Common.{◌≡◌, ℕ, zero, suc, ◌+◌, ◌-◌, ◌<◌, ◌≤◌, Bool, true, false, List, [], ◌∷◌, ◌++◌}
-use Rattle.std.proofs.Common.{length, get_or, set, take, drop, replicate, refl, sym, ◌∙◌, ap, arith, get_or-take}
-use Rattle.std.proofs.Common.{get_or-drop, length-drop, take-append-drop, append-nil}
-use Rattle.std.specs.Prelude.{slice_range}
-use Rattle.std.proofs.lemmas.List.{length-take, get_or_default}
-use Rattle.std.proofs.lemmas.List.Folds.{list_all_at}
-use Rattle.std.proofs.lemmas.List.Sums.{list_all-from_AllPass}
+use Rattle.std.proofs.Common.{◌≡◌, ℕ, zero, suc, ◌+◌, ◌-◌, ◌<◌, ◌≤◌, Bool, true, false, List, [], ◌∷◌, ◌++◌, length}
+use Rattle.std.proofs.Common.{get_or, set, take, drop, replicate, refl, sym, ◌∙◌, ap, arith, get_or-take, get_or-drop}
+use Rattle.std.{proofs.Common.{length-drop, take-append-drop, append-nil}, specs.Prelude.{slice_range}}
+use Rattle.std.proofs.lemmas.List.{length-take, get_or_default, Folds.{list_all_at}, Sums.{list_all-from_AllPass}}
 use Rattle.bpf_verify_model.specs.Written.{all_written, written_from}
 
 get_or-slice_range : (xs : List Bool) (a b i : ℕ) → i < b - a → get_or (slice_range xs a b) i false ≡ get_or xs (a + i)

@@ -1,12 +1,8 @@
 -- Which programs are accepted, and the first fault of the others.
-use Rattle.std.specs.Prelude.{◌≡◌, ℕ, zero, suc, ◌<◌, ◌≤◌, ◌==◌, Bool, false, not}
-use Rattle.std.specs.Prelude.{◌||◌, nat_lt, if◌then◌else◌, Option, Some, None}
-use Rattle.bpf_insn_types.specs.Limits.{sizes_fit}
-use Rattle.bpf_insn_types.specs.declared.insn.Insn.{Insn}
-use Rattle.bpf_insn_types.specs.Program.{Program, insn_at, slot_count}
-use Rattle.bpf_verify_model.specs.declared.rule.Rule.{Rule}
-use Rattle.bpf_verify_model.specs.declared.rule.Rule.TheVariants.{NoSlot, OverLimits}
-use Rattle.bpf_verify_model.specs.Rules.{fault_of}
+use Rattle.std.specs.Prelude.{◌≡◌, ℕ, zero, suc, ◌<◌, ◌≤◌, ◌==◌, Bool, false, not, ◌||◌, nat_lt, if◌then◌else◌, Option}
+use Rattle.std.specs.Prelude.{Some, None}
+use Rattle.bpf_insn_types.specs.{Limits.{sizes_fit}, declared.insn.Insn.{Insn}, Program.{Program, insn_at, slot_count}}
+use Rattle.bpf_verify_model.specs.{declared.rule.Rule.{Rule, TheVariants.{NoSlot, OverLimits}}, Rules.{fault_of}}
 use Rattle.bpf_verify_model.specs.Inflow.{state_before}
 
 -- a broken rule at a slot

@@ -1,17 +1,12 @@
 -- Accesses of memory, and where they may go.
-use Rattle.std.specs.Prelude.{ℕ, ℤ, pos, ◌+ℤ◌, ◌*◌, ◌^◌, ◌+◌, ◌==◌, Bool, true, false, not, ◌&&◌, ◌||◌}
-use Rattle.std.specs.Prelude.{nat_lt, nat_le, int_lt, int_rem, List, slice_get, Option, Some, None}
-use Rattle.std.specs.Ordering.{int_eq}
-use Rattle.bpf_insn_types.specs.declared.insn.Insn.{Insn}
-use Rattle.bpf_insn_types.specs.declared.insn.Insn.TheVariants.{Load, LoadSx, StoreImm, Store, Atomic}
+use Rattle.std.specs.Prelude.{ℕ, ℤ, pos, ◌+ℤ◌, ◌*◌, ◌^◌, ◌+◌, ◌==◌, Bool, true, false, not, ◌&&◌, ◌||◌, nat_lt, nat_le}
+use Rattle.std.specs.{Prelude.{int_lt, int_rem, List, slice_get, Option, Some, None}, Ordering.{int_eq}}
+use Rattle.bpf_insn_types.specs.declared.insn.Insn.{Insn, TheVariants.{Load, LoadSx, StoreImm, Store, Atomic}}
 use Rattle.bpf_insn_types.specs.Sizes.{bytes_of, atomic_bytes}
 use Rattle.value_range.specs.Spans.{Span}
-use Rattle.bpf_verify_model.specs.declared.abstract_value.AbstractValue.{AbstractValue}
-use Rattle.bpf_verify_model.specs.declared.abstract_value.AbstractValue.TheVariants.{Frame, Ctx, Area}
-use Rattle.bpf_verify_model.specs.declared.state.State.{State}
-use Rattle.bpf_verify_model.specs.declared.memory_access.MemoryAccess.{MemoryAccess}
-use Rattle.bpf_verify_model.specs.declared.memory_access.AccessKind.{AccessKind}
-use Rattle.bpf_verify_model.specs.declared.memory_access.AccessKind.TheVariants.{Reads, Writes, Changes}
+use Rattle.bpf_verify_model.specs.declared.abstract_value.AbstractValue.{AbstractValue, TheVariants.{Frame, Ctx, Area}}
+use Rattle.bpf_verify_model.specs.declared.{state.State.{State}, memory_access.MemoryAccess.{MemoryAccess}}
+use Rattle.bpf_verify_model.specs.declared.memory_access.AccessKind.{AccessKind, TheVariants.{Reads, Writes, Changes}}
 use Rattle.bpf_verify_model.specs.Written.{all_written}
 
 -- the access of memory that an instruction makes, if it makes one (RFC 9669, section 5)

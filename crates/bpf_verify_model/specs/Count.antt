@@ -1,8 +1,6 @@
 -- How many instructions a function takes at most.
 use Rattle.std.specs.Prelude.{◌≡◌, ℕ, ◌<◌, zero, suc, ◌+◌, max, List, slice_index_or, Option, Some, None}
-use Rattle.bpf_insn_types.specs.declared.insn.Insn.{Insn}
-use Rattle.bpf_insn_types.specs.declared.insn.Insn.TheVariants.{Ja, Ja32, Jump, Exit}
-use Rattle.bpf_insn_types.specs.Slots.{slots_of}
+use Rattle.bpf_insn_types.specs.{declared.insn.Insn.{Insn, TheVariants.{Ja, Ja32, Jump, Exit}}, Slots.{slots_of}}
 use Rattle.bpf_insn_types.specs.Program.{insn_at, moved, slot_count, callback_starts}
 use Rattle.bpf_verify_model.specs.Rules.{jump_distance, jump_target}
 

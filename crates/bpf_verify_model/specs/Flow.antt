@@ -1,47 +1,28 @@
 -- What flows from a slot to later ones.
-use Rattle.std.specs.Prelude.{ℕ, ℤ, pos, negsuc, ◌+◌, ◌+ℤ◌, ◌-◌, ◌*◌, ◌^◌, ◌==◌, Bool, nat_le, if◌then◌else◌}
-use Rattle.std.specs.Prelude.{min, max, List, slice_get, slice_set, Option, Some, None}
-use Rattle.std.specs.Int.{cast_unsigned, w32}
-use Rattle.bpf_insn_types.specs.declared.insn.Width.{Width}
-use Rattle.bpf_insn_types.specs.declared.insn.Width.TheVariants.{W32, W64}
-use Rattle.bpf_insn_types.specs.declared.insn.Size.{Size}
-use Rattle.bpf_insn_types.specs.declared.insn.AluOp.TheVariants.{Mov}
-use Rattle.bpf_insn_types.specs.declared.insn.Compare.{Compare}
-use Rattle.bpf_insn_types.specs.declared.insn.Compare.TheVariants.{Eq}
-use Rattle.bpf_insn_types.specs.declared.insn.AtomicOp.{AtomicOp}
-use Rattle.bpf_insn_types.specs.declared.insn.AtomicOp.TheVariants.{Fetch, Xchg, Cmpxchg}
-use Rattle.bpf_insn_types.specs.declared.insn.Operand.{Operand}
-use Rattle.bpf_insn_types.specs.declared.insn.Operand.TheVariants.{Imm, Reg}
-use Rattle.bpf_insn_types.specs.declared.insn.ImmKind.{ImmKind}
+use Rattle.std.specs.Prelude.{ℕ, ℤ, pos, negsuc, ◌+◌, ◌+ℤ◌, ◌-◌, ◌*◌, ◌^◌, ◌==◌, Bool, nat_le, if◌then◌else◌, min, max}
+use Rattle.std.specs.{Prelude.{List, slice_get, slice_set, Option, Some, None}, Int.{cast_unsigned, w32}}
+use Rattle.bpf_insn_types.specs.declared.insn.{Width.{Width, TheVariants.{W32, W64}}, Size.{Size}, Compare.{Compare}}
+use Rattle.bpf_insn_types.specs.declared.insn.{AluOp.TheVariants.{Mov}, Compare.TheVariants.{Eq}, AtomicOp.{AtomicOp}}
+use Rattle.bpf_insn_types.specs.declared.insn.{AtomicOp.TheVariants.{Fetch, Xchg, Cmpxchg}, Operand.{Operand}}
+use Rattle.bpf_insn_types.specs.declared.insn.{Operand.TheVariants.{Imm, Reg}, ImmKind.{ImmKind}, Insn.{Insn}}
 use Rattle.bpf_insn_types.specs.declared.insn.ImmKind.TheVariants.{Number as NumberKind, Code as CodeKind}
-use Rattle.bpf_insn_types.specs.declared.insn.ImmKind.TheVariants.{Map as MapKind, MapValue}
-use Rattle.bpf_insn_types.specs.declared.insn.Insn.{Insn}
+use Rattle.bpf_insn_types.specs.{declared.insn.ImmKind.TheVariants.{Map as MapKind, MapValue}, Slots.{slots_of}}
 use Rattle.bpf_insn_types.specs.declared.insn.Insn.TheVariants.{Alu, Neg, Movsx, Endian, Ja, Ja32, Jump, Call, Exit}
 use Rattle.bpf_insn_types.specs.declared.insn.Insn.TheVariants.{Load, LoadSx, StoreImm, Store, Atomic, LoadImm}
-use Rattle.bpf_insn_types.specs.Slots.{slots_of}
-use Rattle.bpf_insn_types.specs.Words.{word_of}
-use Rattle.bpf_insn_types.specs.Program.{moved, code_target}
-use Rattle.bpf_insn_types.specs.Sizes.{bytes_of}
-use Rattle.value_range.specs.Spans.{Span, exact, top, norm}
+use Rattle.bpf_insn_types.specs.{Words.{word_of}, Program.{moved, code_target}, Sizes.{bytes_of}}
+use Rattle.value_range.specs.{Spans.{Span, exact, top, norm}, declared.condition.Condition.TheVariants.{Holds}}
 use Rattle.value_range.specs.declared.operation.Operation.TheVariants.{Alu as AluOperation, Neg as NegOperation}
-use Rattle.value_range.specs.declared.operation.Operation.TheVariants.{Movsx as MovsxOperation}
+use Rattle.value_range.specs.{declared.operation.Operation.TheVariants.{Movsx as MovsxOperation}, AluRows.{span_of}}
 use Rattle.value_range.specs.declared.operation.Operation.TheVariants.{Endian as EndianOperation}
-use Rattle.value_range.specs.declared.condition.Condition.TheVariants.{Holds}
-use Rattle.value_range.specs.AluRows.{span_of}
 use Rattle.value_range.specs.RefineRows.{refined, opposite}
-use Rattle.bpf_verify_model.specs.declared.abstract_value.AbstractValue.{AbstractValue}
-use Rattle.bpf_verify_model.specs.declared.abstract_value.AbstractValue.TheVariants.{Unwritten, Number, Frame, Ctx}
-use Rattle.bpf_verify_model.specs.declared.abstract_value.AbstractValue.TheVariants.{Map, Area, AreaOrNull, Code}
-use Rattle.bpf_verify_model.specs.declared.helper.Helper.{Helper}
-use Rattle.bpf_verify_model.specs.declared.helper.Helper.TheVariants.{Lookup, Loop}
-use Rattle.bpf_verify_model.specs.declared.state.State.{State}
-use Rattle.bpf_verify_model.specs.declared.outflow.Edge.{Edge}
-use Rattle.bpf_verify_model.specs.declared.outflow.Outflow.{Outflow}
-use Rattle.bpf_verify_model.specs.declared.outflow.BranchStates.{BranchStates}
-use Rattle.bpf_verify_model.specs.Written.{none_written, written_from}
+use Rattle.bpf_verify_model.specs.declared.{abstract_value.AbstractValue.{AbstractValue}, helper.Helper.{Helper}}
+use Rattle.bpf_verify_model.specs.declared.abstract_value.AbstractValue.TheVariants.{Unwritten, Number, Frame, Ctx, Map}
+use Rattle.bpf_verify_model.specs.declared.abstract_value.AbstractValue.TheVariants.{Area, AreaOrNull, Code}
+use Rattle.bpf_verify_model.specs.declared.{helper.Helper.TheVariants.{Lookup, Loop}, state.State.{State}}
+use Rattle.bpf_verify_model.specs.declared.outflow.{Edge.{Edge}, Outflow.{Outflow}, BranchStates.{BranchStates}}
+use Rattle.bpf_verify_model.specs.{Written.{none_written, written_from}, Helpers.{helper_called}}
 use Rattle.bpf_verify_model.specs.States.{known_register, with_known, starting_registers}
 use Rattle.bpf_verify_model.specs.Values.{known_operand, known_of_number, known_result}
-use Rattle.bpf_verify_model.specs.Helpers.{helper_called}
 
 -- a register gets what is given, if anything is
 abbrev pub with_known_result : State → ℕ → Option AbstractValue → State

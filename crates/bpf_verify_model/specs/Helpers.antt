@@ -2,8 +2,7 @@
 use Rattle.std.specs.Prelude.{ℤ, pos, negsuc, ◌==◌, if◌then◌else◌, Option, Some, None}
 use Rattle.bpf_insn_types.specs.declared.insn.Callee.{Callee}
 use Rattle.bpf_insn_types.specs.declared.insn.Callee.TheVariants as callee
-use Rattle.bpf_verify_model.specs.declared.helper.Helper.{Helper}
-use Rattle.bpf_verify_model.specs.declared.helper.Helper.TheVariants.{Lookup, Loop}
+use Rattle.bpf_verify_model.specs.declared.helper.Helper.{Helper, TheVariants.{Lookup, Loop}}
 
 -- a helper by its number (bpf-helpers(7))
 abbrev pub helper_numbered : ℤ → Option Helper

@@ -1,14 +1,9 @@
 -- The abstract state before each slot.
 use Rattle.std.specs.Prelude.{ℕ, zero, suc, ◌==◌, if◌then◌else◌, Option, Some, None}
-use Rattle.bpf_insn_types.specs.declared.insn.Insn.{Insn}
-use Rattle.bpf_insn_types.specs.Program.{Program, insn_at}
-use Rattle.bpf_verify_model.specs.declared.rule.Rule.{Rule}
-use Rattle.bpf_verify_model.specs.declared.state.State.{State}
-use Rattle.bpf_verify_model.specs.declared.outflow.Edge.{Edge}
-use Rattle.bpf_verify_model.specs.declared.outflow.Outflow.{Outflow}
-use Rattle.bpf_verify_model.specs.States.{joined_states, known_main_entry}
+use Rattle.bpf_insn_types.specs.{declared.insn.Insn.{Insn}, Program.{Program, insn_at}}
+use Rattle.bpf_verify_model.specs.{declared.{rule.Rule.{Rule}, state.State.{State}, outflow.Edge.{Edge}}, Flow.{flow}}
+use Rattle.bpf_verify_model.specs.{declared.outflow.Outflow.{Outflow}, States.{joined_states, known_main_entry}}
 use Rattle.bpf_verify_model.specs.Rules.{fault_of}
-use Rattle.bpf_verify_model.specs.Flow.{flow}
 
 -- nothing flows from a slot
 abbrev pub no_edges : Outflow

@@ -1,13 +1,9 @@
 -- The law of counts: a function's worst-case instruction count is its longest path.
-use Rattle.std.specs.Prelude.{◌≡◌, ℕ, ◌+◌, ◌≤◌, true, false, nat_eq, List, [], ◌∷◌, length}
-use Rattle.std.specs.Prelude.{Option, Some, None, is_some, option_to_list}
-use Rattle.std.specs.List.{list_any}
-use Rattle.bpf_insn_types.specs.declared.insn.Insn.{Insn}
-use Rattle.bpf_insn_types.specs.declared.insn.Insn.TheVariants.{Ja, Ja32, Jump, Exit}
-use Rattle.bpf_insn_types.specs.Slots.{slots_of}
+use Rattle.std.specs.Prelude.{◌≡◌, ℕ, ◌+◌, ◌≤◌, true, false, nat_eq, List, [], ◌∷◌, length, Option, Some, None, is_some}
+use Rattle.std.specs.{Prelude.{option_to_list}, List.{list_any}}
+use Rattle.bpf_insn_types.specs.{declared.insn.Insn.{Insn, TheVariants.{Ja, Ja32, Jump, Exit}}, Slots.{slots_of}}
 use Rattle.bpf_insn_types.specs.Program.{Program, insn_at, moved}
-use Rattle.bpf_verify_model.specs.Accepted.{Accepted}
-use Rattle.bpf_verify_model.specs.Count.{function_start, count_of}
+use Rattle.bpf_verify_model.specs.{Accepted.{Accepted}, Count.{function_start, count_of}}
 
 -- the slots that an instruction at a slot may lead to, whether the edge can be taken or not
 abbrev pub successors : ℕ → Option Insn → List ℕ

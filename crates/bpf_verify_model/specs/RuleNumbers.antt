@@ -1,6 +1,6 @@
 -- The numbers of the rules, as they are printed, without the V.
 use Rattle.std.specs.Prelude.{ℕ}
-use Rattle.bpf_verify_model.specs.declared.rule.Rule.{Rule}
+use Rattle.bpf_verify_model.specs.declared.rule.Rule.{Rule, TheVariants.{NestedCallback, CallbackResult, MainResult}}
 use Rattle.bpf_verify_model.specs.declared.rule.Rule.TheVariants.{NoSlot, OverLimits, JumpTarget, FallThrough}
 use Rattle.bpf_verify_model.specs.declared.rule.Rule.TheVariants.{CodeTarget, TooManyCallbacks, UnknownHelper, CallKind}
 use Rattle.bpf_verify_model.specs.declared.rule.Rule.TheVariants.{LoadKind, MissingMap, FramePointerWrite}
@@ -8,7 +8,6 @@ use Rattle.bpf_verify_model.specs.declared.rule.Rule.TheVariants.{UnwrittenRegis
 use Rattle.bpf_verify_model.specs.declared.rule.Rule.TheVariants.{ComparisonOperand, StoredOperand, AccessBase}
 use Rattle.bpf_verify_model.specs.declared.rule.Rule.TheVariants.{AreaAccessSize, AccessAlignment, AccessBounds}
 use Rattle.bpf_verify_model.specs.declared.rule.Rule.TheVariants.{UnwrittenByte, CtxWrite, HelperArgument}
-use Rattle.bpf_verify_model.specs.declared.rule.Rule.TheVariants.{NestedCallback, CallbackResult, MainResult}
 
 -- a rule's number
 abbrev pub rule_number : Rule → ℕ

@@ -1,22 +1,16 @@
 -- Worked states and rules, each by hand: what a join, a store, a comparison and a null check leave, and what is refused
 -- at the end of a callback and past the end of what an access may reach.
 use Rattle.std.specs.Prelude.{◌≡◌, ℕ, pos, negsuc, true, false, [], ◌∷◌, Some, None}
-use Rattle.bpf_insn_types.specs.declared.insn.Width.TheVariants.{W64}
-use Rattle.bpf_insn_types.specs.declared.insn.Size.TheVariants.{W, Dw}
-use Rattle.bpf_insn_types.specs.declared.insn.Compare.TheVariants.{Eq, Gt, Ne}
-use Rattle.bpf_insn_types.specs.declared.insn.Operand.TheVariants.{Imm}
+use Rattle.bpf_insn_types.specs.declared.insn.{Width.TheVariants.{W64}, Size.TheVariants.{W, Dw}}
+use Rattle.bpf_insn_types.specs.declared.insn.{Compare.TheVariants.{Eq, Gt, Ne}, Operand.TheVariants.{Imm}}
 use Rattle.bpf_insn_types.specs.declared.insn.Insn.TheVariants.{Jump, Exit, StoreImm}
 use Rattle.value_range.specs.Spans.{exact, norm}
-use Rattle.bpf_verify_model.specs.declared.abstract_value.AbstractValue.{AbstractValue}
-use Rattle.bpf_verify_model.specs.declared.abstract_value.AbstractValue.TheVariants.{Unwritten, Number, Frame}
-use Rattle.bpf_verify_model.specs.declared.abstract_value.AbstractValue.TheVariants.{Area, AreaOrNull}
-use Rattle.bpf_verify_model.specs.declared.state.State.{State}
-use Rattle.bpf_verify_model.specs.declared.outflow.Outflow.{Outflow}
+use Rattle.bpf_verify_model.specs.declared.abstract_value.AbstractValue.{AbstractValue, TheVariants.{AreaOrNull}}
+use Rattle.bpf_verify_model.specs.declared.abstract_value.AbstractValue.TheVariants.{Unwritten, Number, Frame, Area}
+use Rattle.bpf_verify_model.specs.{declared.{state.State.{State}, outflow.Outflow.{Outflow}}, Flow.{known_behind, flow}}
 use Rattle.bpf_verify_model.specs.declared.rule.Rule.TheVariants.{AccessBounds, CallbackResult}
 use Rattle.bpf_verify_model.specs.States.{known_register, with_known, joined_states, known_main_entry}
-use Rattle.bpf_verify_model.specs.Accesses.{has_unwritten_byte}
-use Rattle.bpf_verify_model.specs.Rules.{state_fault, exit_fault}
-use Rattle.bpf_verify_model.specs.Flow.{known_behind, flow}
+use Rattle.bpf_verify_model.specs.{Accesses.{has_unwritten_byte}, Rules.{state_fault, exit_fault}}
 
 -- main as it starts, with an abstract value of R0
 abbrev pub knowing : AbstractValue → State

@@ -1,29 +1,20 @@
 -- The rules that an instruction breaks at a slot, and the least of them.
-use Rattle.std.specs.Prelude.{ℕ, zero, suc, ℤ, pos, negsuc, ◌+◌, ◌*◌, ◌%◌, ◌==◌, Bool, true, false}
-use Rattle.std.specs.Prelude.{not, ◌&&◌, ◌||◌, nat_eq, nat_lt, nat_le, if◌then◌else◌, List, [], ◌∷◌}
-use Rattle.std.specs.Prelude.{◌++◌, length, slice_get, Option, Some, None, is_none, is_some}
-use Rattle.std.specs.List.{list_any}
-use Rattle.bpf_insn_types.specs.declared.insn.AluOp.{AluOp}
-use Rattle.bpf_insn_types.specs.declared.insn.AluOp.TheVariants.{Mov}
-use Rattle.bpf_insn_types.specs.declared.insn.AtomicOp.{AtomicOp}
-use Rattle.bpf_insn_types.specs.declared.insn.AtomicOp.TheVariants.{Fetch, Xchg, Cmpxchg}
-use Rattle.bpf_insn_types.specs.declared.insn.Operand.{Operand}
-use Rattle.bpf_insn_types.specs.declared.insn.Operand.TheVariants.{Imm, Reg}
-use Rattle.bpf_insn_types.specs.declared.insn.Callee.TheVariants as callee
-use Rattle.bpf_insn_types.specs.declared.insn.ImmKind.{ImmKind}
+use Rattle.std.specs.Prelude.{ℕ, zero, suc, ℤ, pos, negsuc, ◌+◌, ◌*◌, ◌%◌, ◌==◌, Bool, true, false, not, ◌&&◌, ◌||◌}
+use Rattle.std.specs.Prelude.{nat_eq, nat_lt, nat_le, if◌then◌else◌, List, [], ◌∷◌, ◌++◌, length, slice_get, Option}
+use Rattle.std.specs.{Prelude.{Some, None, is_none, is_some}, List.{list_any}}
+use Rattle.bpf_insn_types.specs.declared.insn.{AluOp.{AluOp, TheVariants.{Mov}}, AtomicOp.{AtomicOp}, Operand.{Operand}}
+use Rattle.bpf_insn_types.specs.declared.insn.{AtomicOp.TheVariants.{Fetch, Xchg, Cmpxchg}, ImmKind.{ImmKind}}
+use Rattle.bpf_insn_types.specs.{declared.insn.{Operand.TheVariants.{Imm, Reg}, Insn.{Insn}}, Slots.{slots_of}}
 use Rattle.bpf_insn_types.specs.declared.insn.ImmKind.TheVariants.{MapFd, MapFdValue, Variable, Code as CodeKind}
 use Rattle.bpf_insn_types.specs.declared.insn.ImmKind.TheVariants.{Map as MapKind, MapValue}
-use Rattle.bpf_insn_types.specs.declared.insn.Insn.{Insn}
 use Rattle.bpf_insn_types.specs.declared.insn.Insn.TheVariants.{Alu, Neg, Movsx, Endian, Ja, Ja32, Jump, Call, Exit}
 use Rattle.bpf_insn_types.specs.declared.insn.Insn.TheVariants.{Load, LoadSx, StoreImm, Store, Atomic, LoadImm}
-use Rattle.bpf_insn_types.specs.Slots.{slots_of}
 use Rattle.bpf_insn_types.specs.Program.{Program, moved, insn_at, named_by, function_of, leads_to}
-use Rattle.bpf_verify_model.specs.declared.abstract_value.AbstractValue.{AbstractValue}
+use Rattle.bpf_insn_types.specs.declared.insn.Callee.TheVariants as callee
+use Rattle.bpf_verify_model.specs.declared.{abstract_value.AbstractValue.{AbstractValue}, helper.Helper.{Helper}}
 use Rattle.bpf_verify_model.specs.declared.abstract_value.AbstractValue.TheVariants.{Number, Frame, Ctx, Map, Code}
-use Rattle.bpf_verify_model.specs.declared.memory_access.MemoryAccess.{MemoryAccess}
-use Rattle.bpf_verify_model.specs.declared.helper.Helper.{Helper}
-use Rattle.bpf_verify_model.specs.declared.helper.Helper.TheVariants.{Lookup, Loop}
-use Rattle.bpf_verify_model.specs.declared.rule.Rule.{Rule}
+use Rattle.bpf_verify_model.specs.declared.{memory_access.MemoryAccess.{MemoryAccess}, rule.Rule.{Rule}}
+use Rattle.bpf_verify_model.specs.declared.{helper.Helper.TheVariants.{Lookup, Loop}, state.State.{State}}
 use Rattle.bpf_verify_model.specs.declared.rule.Rule.TheVariants.{JumpTarget, FallThrough, CodeTarget, TooManyCallbacks}
 use Rattle.bpf_verify_model.specs.declared.rule.Rule.TheVariants.{UnknownHelper, CallKind, LoadKind, MissingMap}
 use Rattle.bpf_verify_model.specs.declared.rule.Rule.TheVariants.{FramePointerWrite, UnwrittenRegister}
@@ -31,12 +22,10 @@ use Rattle.bpf_verify_model.specs.declared.rule.Rule.TheVariants.{ArithmeticOper
 use Rattle.bpf_verify_model.specs.declared.rule.Rule.TheVariants.{AccessBase, AreaAccessSize, AccessAlignment}
 use Rattle.bpf_verify_model.specs.declared.rule.Rule.TheVariants.{AccessBounds, UnwrittenByte, CtxWrite, HelperArgument}
 use Rattle.bpf_verify_model.specs.declared.rule.Rule.TheVariants.{NestedCallback, CallbackResult, MainResult}
-use Rattle.bpf_verify_model.specs.declared.state.State.{State}
-use Rattle.bpf_verify_model.specs.States.{known_register}
+use Rattle.bpf_verify_model.specs.{States.{known_register}, Helpers.{helper_called}}
 use Rattle.bpf_verify_model.specs.Values.{known_operand, known_result, is_number_value, is_unwritten, compares}
 use Rattle.bpf_verify_model.specs.Accesses.{memory_access_of, is_memory, is_part_of_half, misses_alignment, is_outside}
 use Rattle.bpf_verify_model.specs.Accesses.{has_unwritten_byte, kind_reads, kind_writes, is_ctx}
-use Rattle.bpf_verify_model.specs.Helpers.{helper_called}
 
 -- the distance of a jump
 abbrev pub jump_distance : Insn → Option ℤ

@@ -1,13 +1,12 @@
 -- The abstract state of registers and frames before a slot.
-use Rattle.std.specs.Prelude.{ℕ, ◌==◌, Bool, if◌then◌else◌, List, map, replicate, slice_index_or}
-use Rattle.std.specs.Prelude.{slice_set, zip, Option, Some, None}
+use Rattle.std.specs.Prelude.{ℕ, ◌==◌, Bool, if◌then◌else◌, List, map, replicate, slice_index_or, slice_set, zip}
+use Rattle.std.specs.Prelude.{Option, Some, None}
 use Rattle.bpf_insn_types.specs.declared.insn.Width.TheVariants.{W64}
 use Rattle.value_range.specs.Spans.{top, join}
-use Rattle.bpf_verify_model.specs.Written.{none_written, joined_written}
+use Rattle.bpf_verify_model.specs.{Written.{none_written, joined_written}, declared.state.State.{State}}
 use Rattle.bpf_verify_model.specs.declared.abstract_value.AbstractValue.{AbstractValue}
-use Rattle.bpf_verify_model.specs.declared.abstract_value.AbstractValue.TheVariants.{Unwritten, Number, Frame, Ctx}
-use Rattle.bpf_verify_model.specs.declared.abstract_value.AbstractValue.TheVariants.{Map, Area, AreaOrNull, Code}
-use Rattle.bpf_verify_model.specs.declared.state.State.{State}
+use Rattle.bpf_verify_model.specs.declared.abstract_value.AbstractValue.TheVariants.{Unwritten, Number, Frame, Ctx, Map}
+use Rattle.bpf_verify_model.specs.declared.abstract_value.AbstractValue.TheVariants.{Area, AreaOrNull, Code}
 
 -- the abstract value of a register
 abbrev pub known_register : State → ℕ → AbstractValue

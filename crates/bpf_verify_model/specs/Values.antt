@@ -1,25 +1,14 @@
 -- What operators and comparisons give on the abstract values of registers.
-use Rattle.std.specs.Option.{option_map}
-use Rattle.std.specs.Prelude.{ℕ, zero, pos, ◌+◌, Bool, true, false, ◌&&◌, ◌==◌}
-use Rattle.std.specs.Prelude.{nat_le, if◌then◌else◌, Option, Some, None}
-use Rattle.bpf_insn_types.specs.declared.insn.Width.{Width}
-use Rattle.bpf_insn_types.specs.declared.insn.Width.TheVariants.{W32, W64}
-use Rattle.bpf_insn_types.specs.declared.insn.AluOp.{AluOp}
-use Rattle.bpf_insn_types.specs.declared.insn.AluOp.TheVariants.{Add, Sub, Mov}
-use Rattle.bpf_insn_types.specs.declared.insn.Compare.{Compare}
-use Rattle.bpf_insn_types.specs.declared.insn.Compare.TheVariants.{Eq, Ne}
-use Rattle.bpf_insn_types.specs.declared.insn.Operand.{Operand}
-use Rattle.bpf_insn_types.specs.declared.insn.Operand.TheVariants.{Imm, Reg}
-use Rattle.bpf_insn_types.specs.Words.{word_of, alu}
-use Rattle.value_range.specs.Spans.{Span, exact}
-use Rattle.value_range.specs.declared.operation.Operation.{Operation}
+use Rattle.std.specs.{Option.{option_map}, Prelude.{None}}
+use Rattle.std.specs.Prelude.{ℕ, zero, pos, ◌+◌, Bool, true, false, ◌&&◌, ◌==◌, nat_le, if◌then◌else◌, Option, Some}
+use Rattle.bpf_insn_types.specs.declared.insn.{Width.{Width, TheVariants.{W32, W64}}, AluOp.{AluOp}, Compare.{Compare}}
+use Rattle.bpf_insn_types.specs.declared.insn.{AluOp.TheVariants.{Add, Sub, Mov}, Compare.TheVariants.{Eq, Ne}}
+use Rattle.bpf_insn_types.specs.{declared.insn.Operand.{Operand, TheVariants.{Imm, Reg}}, Words.{word_of, alu}}
+use Rattle.value_range.specs.{Spans.{Span, exact}, declared.operation.Operation.{Operation}, AluRows.{span_of}}
 use Rattle.value_range.specs.declared.operation.Operation.TheVariants.{Alu as AluOperation}
-use Rattle.value_range.specs.AluRows.{span_of}
-use Rattle.bpf_verify_model.specs.declared.abstract_value.AbstractValue.{AbstractValue}
-use Rattle.bpf_verify_model.specs.declared.abstract_value.AbstractValue.TheVariants.{Unwritten, Number, Frame}
-use Rattle.bpf_verify_model.specs.declared.abstract_value.AbstractValue.TheVariants.{Ctx, Area, AreaOrNull}
-use Rattle.bpf_verify_model.specs.declared.state.State.{State}
-use Rattle.bpf_verify_model.specs.States.{known_register}
+use Rattle.bpf_verify_model.specs.declared.abstract_value.AbstractValue.{AbstractValue, TheVariants.{Area, AreaOrNull}}
+use Rattle.bpf_verify_model.specs.declared.abstract_value.AbstractValue.TheVariants.{Unwritten, Number, Frame, Ctx}
+use Rattle.bpf_verify_model.specs.{declared.state.State.{State}, States.{known_register}}
 
 -- the abstract value of an operand: an immediate is sign-extended
 abbrev pub known_operand : State → Operand → AbstractValue

@@ -1,8 +1,6 @@
 -- How eight words keep which bytes of a frame are written: bit i % 64 of word i / 64 is byte i.
 use Rattle.std.specs.Prelude.{◌≡◌, ℕ, ◌+◌, ◌*◌, ◌/◌, ◌%◌, ◌^◌, ◌<◌, ◌==◌, Bool, List, length, map, get_or, slice_range}
-use Rattle.std.specs.List.{range_with_len}
-use Rattle.std.specs.Int.{bit_at}
-use Rattle.std.specs.Simd.Lanes.{mask_l}
+use Rattle.std.specs.{List.{range_with_len}, Int.{bit_at}, Simd.Lanes.{mask_l}}
 
 -- whether a byte's bit is set
 abbrev pub is_byte_marked : List ℕ → ℕ → Bool

@@ -1,16 +1,10 @@
 -- The bytes in words give the words back.
-use Rattle.std.proofs.Common.{◌≡◌, ℕ, ◌+◌, ◌*◌, ◌/◌, ◌%◌, ◌^◌, ◌-◌, ◌<◌, ◌≤◌, Bool, false, cond}
-use Rattle.std.proofs.Common.{eqb, List, length, get_or, drop, sym, ◌∙◌, ap, inl, inr, arith}
-use Rattle.std.proofs.Common.{ext_get_or, get_or-take, get_or-drop, eq-eqb, ne_eqb}
-use Rattle.std.specs.Prelude.{slice_range}
-use Rattle.std.specs.Int.{bit_at}
-use Rattle.std.specs.Simd.Lanes.{mask_l}
-use Rattle.std.proofs.lemmas.Bool.{cases_eq}
-use Rattle.std.proofs.lemmas.List.{length-take}
+use Rattle.std.proofs.Common.{◌≡◌, ℕ, ◌+◌, ◌*◌, ◌/◌, ◌%◌, ◌^◌, ◌-◌, ◌<◌, ◌≤◌, Bool, false, cond, eqb, List, length}
+use Rattle.std.proofs.Common.{get_or, drop, sym, ◌∙◌, ap, inl, inr, arith, ext_get_or, get_or-take, get_or-drop, eq-eqb}
+use Rattle.std.{proofs.Common.{ne_eqb}, specs.{Prelude.{slice_range}, Int.{bit_at}, Simd.Lanes.{mask_l}}}
+use Rattle.std.proofs.{lemmas.{Bool.{cases_eq}, List.{length-take}, Simd.{mask_l-lt, bit_mask_l}}, Math.Pow.{pow_mono}}
 use Rattle.std.proofs.lemmas.List.FromFn.{length-map-range_with_len, get_or-map-range_with_len}
-use Rattle.std.proofs.Math.Pow.{pow_mono}
 use Rattle.std.proofs.lemmas.Nat.Bits.{same_from_bits_below, bit_at-lt}
-use Rattle.std.proofs.lemmas.Simd.{mask_l-lt, bit_mask_l}
 use Rattle.bpf_verify_model.specs.Words.{is_byte_marked, marks_in_words, words_of_marks}
 
 pub length-marks_in_words : (words : List ℕ) → length (marks_in_words words) ≡ 512

@@ -1,7 +1,6 @@
 //! Laws of the definitions.
 
-ghost use Rattle.bpf_verify_model.specs.LongestPath.{CountIsLongestPath};
-ghost use Rattle.bpf_verify_model.specs.RuleRows.{RuleRows};
+ghost use Rattle.bpf_verify_model.specs.{LongestPath.{CountIsLongestPath}, RuleRows.{RuleRows}};
 
 /// The law of counts: of each function of an accepted program some path from its start to an exit, or
 /// to where none goes on, has as many instructions as its count says, and none has more.

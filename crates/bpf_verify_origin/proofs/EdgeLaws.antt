@@ -1,19 +1,14 @@
 -- What is on the edges to a machine's slot contains the machine, and they count among those into the slot.
-use Rattle.std.proofs.Common.{◌≡◌, ℕ, zero, suc, ◌<◌, inl, inr, Bool, true, false}
-use Rattle.std.proofs.Common.{Option, Some, None, sym, refl, subst, arith}
-use Rattle.std.specs.Prelude.{◌==◌, nat_eq, nat_lt, if◌then◌else◌}
+use Rattle.std.proofs.Common.{◌≡◌, ℕ, zero, suc, ◌<◌, inl, inr, Bool, true, false, Option, Some, None, sym, refl, subst}
+use Rattle.std.{proofs.Common.{arith}, specs.Prelude.{◌==◌, nat_eq, nat_lt, if◌then◌else◌}}
 use Rattle.std.proofs.lemmas.Bool.Decides.{nat_tests}
 use Rattle.bpf_insn_types.specs.Program.{Program, slot_count}
-use Rattle.bpf_verify_model.specs.declared.state.State.{State}
-use Rattle.bpf_verify_model.specs.declared.outflow.Edge.{Edge}
-use Rattle.bpf_verify_model.specs.declared.outflow.Outflow.{Outflow}
+use Rattle.bpf_verify_model.specs.declared.{state.State.{State}, outflow.{Edge.{Edge}, Outflow.{Outflow}}}
 use Rattle.bpf_verify_model.specs.Inflow.{joined_with, received, received_all}
 use Rattle.bpf_step_model.specs.State.{Machine}
-use Rattle.bpf_verify_sound.specs.Containment.{Contained, ContainedIf}
-use Rattle.bpf_verify_sound.specs.Ways.{EdgeLeadsTo, FlowsTo}
+use Rattle.bpf_verify_sound.specs.{Containment.{Contained, ContainedIf}, Ways.{EdgeLeadsTo, FlowsTo}}
 use Rattle.bpf_verify_sound.proofs.JoinLaws.{states-first, states-second}
-use Rattle.bpf_verify_origin.specs.declared.inflow.Inflow.{Inflow}
-use Rattle.bpf_verify_origin.specs.declared.inflow.Inflow.TheVariants.{Nowhere, One, Several}
+use Rattle.bpf_verify_origin.specs.declared.inflow.Inflow.{Inflow, TheVariants.{Nowhere, One, Several}}
 use Rattle.bpf_verify_origin.specs.Edges.{flow_at, edge_leads, with_edge, with_edges, inflow_from, passed_slots, inflow}
 
 -- one more edge in keeps the abstract state true

@@ -1,20 +1,15 @@
 -- The first fault of a program, and the slots up to it.
-use Rattle.std.proofs.Common.{◌≡◌, ℕ, zero, suc, ◌<◌, ◌≤◌, Bool, true, false, not, ◌||◌, List}
-use Rattle.std.proofs.Common.{refl, ap, sym, ◌∙◌, subst, arith, Option, Some, None, is_some}
+use Rattle.std.proofs.Common.{◌≡◌, ℕ, zero, suc, ◌<◌, ◌≤◌, Bool, true, false, not, ◌||◌, List, refl, ap, sym, ◌∙◌}
+use Rattle.std.proofs.{Common.{subst, arith, Option, Some, None, is_some}, lemmas.Bool.Decides.{nat_tests}}
 use Rattle.std.specs.Prelude.{nat_eq, nat_lt, if◌then◌else◌}
-use Rattle.std.proofs.lemmas.Bool.Decides.{nat_tests}
-use Rattle.bpf_insn_types.specs.declared.insn.Insn.{Insn}
-use Rattle.bpf_insn_types.specs.Limits.{sizes_fit}
-use Rattle.bpf_insn_types.specs.Program.{Program, insn_at, slot_count}
+use Rattle.bpf_insn_types.specs.{declared.insn.Insn.{Insn}, Limits.{sizes_fit}, Program.{Program, insn_at, slot_count}}
 use Rattle.bpf_insn_types.proofs.ProgramLaws.{insn_at-end}
-use Rattle.bpf_verify_model.specs.declared.rule.Rule.{Rule}
-use Rattle.bpf_verify_model.specs.declared.rule.Rule.TheVariants.{NoSlot, OverLimits}
+use Rattle.bpf_verify_model.specs.declared.rule.Rule.{Rule, TheVariants.{NoSlot, OverLimits}}
 use Rattle.bpf_verify_model.specs.Accepted.{BrokenRule, unless_earlier, fault_at, fault_at_insn, fault_within}
 use Rattle.bpf_verify_model.specs.Accepted.{first_fault, is_too_large, WithinLimits}
 use Rattle.bpf_verify_model.proofs.JumpLaws.{first_fault-within}
 use Rattle.bpf_verify.proofs.PassLaws.{fault_within-later}
-use Rattle.bpf_verify_origin.specs.Edges.{slots_before, passed_slots}
-use Rattle.bpf_verify_origin.specs.Inspected.{IsPassedTo, is_stop}
+use Rattle.bpf_verify_origin.specs.{Edges.{slots_before, passed_slots}, Inspected.{IsPassedTo, is_stop}}
 
 -- an instruction starts within the slots
 pub starts-within : (insns : List Insn) (slot : ℕ) → is_some (insn_at insns slot) ≡ true → slot < slot_count insns

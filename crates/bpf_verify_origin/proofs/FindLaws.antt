@@ -1,10 +1,7 @@
 -- The instructions by the slots at which they start.
-use Rattle.std.proofs.Common.{◌≡◌, ℕ, zero, suc, ◌+◌, ◌-◌, ◌<◌, ◌≤◌, List, [], ◌∷◌, ◌++◌, drop}
-use Rattle.std.proofs.Common.{length, get_or, refl, ap, sym, ◌∙◌, arith, add-one, append_assoc, append-nil}
-use Rattle.std.proofs.Common.{Option, None}
-use Rattle.bpf_insn_types.specs.declared.insn.Insn.{Insn}
-use Rattle.bpf_insn_types.specs.declared.insn.Insn.TheVariants.{LoadImm}
-use Rattle.bpf_insn_types.specs.Program.{insn_at}
+use Rattle.std.proofs.Common.{◌≡◌, ℕ, zero, suc, ◌+◌, ◌-◌, ◌<◌, ◌≤◌, List, [], ◌∷◌, ◌++◌, drop, length, get_or, refl}
+use Rattle.std.proofs.Common.{ap, sym, ◌∙◌, arith, add-one, append_assoc, append-nil, Option, None}
+use Rattle.bpf_insn_types.specs.{declared.insn.Insn.{Insn, TheVariants.{LoadImm}}, Program.{insn_at}}
 use Rattle.bpf_insn_types.proofs.ProgramLaws.{insn_at-past_first}
 use Rattle.bpf_verify_origin.specs.Inspected.{insn_slots}
 

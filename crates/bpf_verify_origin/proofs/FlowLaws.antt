@@ -1,21 +1,15 @@
 -- What flows from a slot before the first fault.
-use Rattle.std.proofs.Common.{◌≡◌, ℕ, ◌<◌, Bool, true, false, refl, ap, sym, ◌∙◌, subst, arith}
-use Rattle.std.proofs.Common.{Option, Some, None, is_some}
-use Rattle.std.specs.Prelude.{nat_lt, if◌then◌else◌}
-use Rattle.std.proofs.lemmas.Bool.Decides.{nat_tests}
-use Rattle.bpf_insn_types.specs.declared.insn.Insn.{Insn}
-use Rattle.bpf_insn_types.specs.Program.{Program, insn_at, slot_count}
-use Rattle.bpf_verify_model.specs.declared.state.State.{State}
-use Rattle.bpf_verify_model.specs.declared.outflow.Outflow.{Outflow}
+use Rattle.std.proofs.Common.{◌≡◌, ℕ, ◌<◌, Bool, true, false, refl, ap, sym, ◌∙◌, subst, arith, Option, Some, None}
+use Rattle.std.{proofs.{Common.{is_some}, lemmas.Bool.Decides.{nat_tests}}, specs.Prelude.{nat_lt, if◌then◌else◌}}
+use Rattle.bpf_insn_types.specs.{declared.insn.Insn.{Insn}, Program.{Program, insn_at, slot_count}}
+use Rattle.bpf_verify_model.specs.declared.{state.State.{State}, outflow.Outflow.{Outflow}}
 use Rattle.bpf_verify_model.specs.Accepted.{BrokenRule, first_fault, WithinLimits}
 use Rattle.bpf_verify_model.specs.Inflow.{no_edges, received_all, state_before}
 use Rattle.bpf_verify.specs.Passing.{out_of}
 use Rattle.bpf_verify_sound.specs.Containment.{ContainedIf}
 use Rattle.bpf_verify_origin.specs.Edges.{flow_of, flow_at, flow_passed, passed_slots, slots_before}
-use Rattle.bpf_verify_origin.specs.Inspected.{IsPassedTo, is_past}
-use Rattle.bpf_verify_origin.specs.Runs.{HoldsBetween, StatesHold}
-use Rattle.bpf_verify_origin.proofs.FaultLaws.{starts-within, passed-fine}
-use Rattle.bpf_verify_origin.proofs.PassedLaws.{fine-earlier}
+use Rattle.bpf_verify_origin.specs.{Inspected.{IsPassedTo, is_past}, Runs.{HoldsBetween, StatesHold}}
+use Rattle.bpf_verify_origin.proofs.{FaultLaws.{starts-within, passed-fine}, PassedLaws.{fine-earlier}}
 use Rattle.bpf_verify_origin.proofs.RunLaws.{within-passed}
 
 -- a slot where an instruction starts before the first fault

@@ -1,21 +1,15 @@
 -- Where the edges into each slot come from, as a pass goes on.
-use Rattle.std.proofs.Common.{◌≡◌, ℕ, zero, suc, ◌+◌, ◌<◌, ◌≤◌, Bool, true, false, ◌||◌, List, length, get_or}
-use Rattle.std.proofs.Common.{refl, ap, sym, ◌∙◌, subst, arith, add-one, Option, Some, None, is_some}
-use Rattle.std.specs.Prelude.{nat_eq, nat_lt, replicate}
-use Rattle.std.proofs.lemmas.Bool.Decides.{nat_tests}
-use Rattle.bpf_insn_types.specs.declared.insn.Insn.{Insn}
-use Rattle.bpf_insn_types.specs.Slots.{slots_of}
-use Rattle.bpf_insn_types.specs.Program.{Program, insn_at, slot_count}
+use Rattle.std.proofs.Common.{◌≡◌, ℕ, zero, suc, ◌+◌, ◌<◌, ◌≤◌, Bool, true, false, ◌||◌, List, length, get_or, refl, ap}
+use Rattle.std.proofs.Common.{sym, ◌∙◌, subst, arith, add-one, Option, Some, None, is_some}
+use Rattle.std.{specs.Prelude.{nat_eq, nat_lt, replicate}, proofs.lemmas.Bool.Decides.{nat_tests}}
+use Rattle.bpf_insn_types.specs.{declared.insn.Insn.{Insn}, Slots.{slots_of}, Program.{Program, insn_at, slot_count}}
 use Rattle.bpf_insn_types.proofs.ProgramLaws.{slots_some, slots_two}
-use Rattle.bpf_verify_model.specs.declared.state.State.{State}
-use Rattle.bpf_verify_model.specs.declared.outflow.Outflow.{Outflow}
+use Rattle.bpf_verify_model.specs.declared.{state.State.{State}, outflow.Outflow.{Outflow}}
 use Rattle.bpf_verify_model.specs.Inflow.{state_before, received_all}
 use Rattle.bpf_verify.specs.Passing.{out_of}
-use Rattle.bpf_verify_origin.specs.declared.inflow.Inflow.{Inflow}
-use Rattle.bpf_verify_origin.specs.declared.inflow.Inflow.TheVariants.{Nowhere}
+use Rattle.bpf_verify_origin.specs.declared.inflow.Inflow.{Inflow, TheVariants.{Nowhere}}
 use Rattle.bpf_verify_origin.specs.Edges.{flow_of, flow_at, with_edges, inflow_from, state_between}
-use Rattle.bpf_verify_origin.specs.Inspected.{AreInflows, is_stop}
-use Rattle.bpf_verify_origin.proofs.FaultLaws.{starts-within}
+use Rattle.bpf_verify_origin.{specs.Inspected.{AreInflows, is_stop}, proofs.FaultLaws.{starts-within}}
 
 inflow_from-zero : (program : Program) (slot : ℕ) → inflow_from program 0 slot ≡ Nowhere
 unfolding inflow_from

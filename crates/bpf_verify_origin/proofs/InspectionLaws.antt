@@ -1,19 +1,13 @@
 -- What an inspection keeps, of its parts.
 use Rattle.std.proofs.Common.{◌≡◌, ℕ, ◌≤◌, true, List, [], length, get_or, ap, sym, ◌∙◌, subst, arith, Option, None}
 use Rattle.std.specs.Option.{option_map}
-use Rattle.bpf_insn_types.specs.declared.insn.Insn.{Insn}
-use Rattle.bpf_insn_types.specs.Program.{Program, slot_count}
-use Rattle.bpf_verify_model.specs.declared.state.State.{State}
+use Rattle.bpf_insn_types.specs.{declared.insn.Insn.{Insn}, Program.{Program, slot_count}}
 use Rattle.bpf_insn_types.specs.Values.{AreInsns as FieldsFit}
+use Rattle.bpf_verify_model.{specs.{declared.state.State.{State}, Inflow.{state_before}}, proofs.JumpLaws.{program-is}}
 use Rattle.bpf_verify_model.specs.Accepted.{BrokenRule, fault_within, first_fault, WithinLimits}
-use Rattle.bpf_verify_model.specs.Inflow.{state_before}
-use Rattle.bpf_verify_model.proofs.JumpLaws.{program-is}
 use Rattle.bpf_verify.specs.States.{AreStatesBefore}
-use Rattle.bpf_verify_origin.specs.declared.inflow.Inflow.{Inflow}
-use Rattle.bpf_verify_origin.specs.declared.inflow.Inflow.TheVariants.{Nowhere}
-use Rattle.bpf_verify_origin.specs.declared.source.Source.{Source}
-use Rattle.bpf_verify_origin.specs.declared.fault.Fault.{Fault}
-use Rattle.bpf_verify_origin.specs.Edges.{slots_before, passed_slots}
+use Rattle.bpf_verify_origin.specs.declared.{inflow.Inflow.{Inflow, TheVariants.{Nowhere}}, source.Source.{Source}}
+use Rattle.bpf_verify_origin.specs.{declared.fault.Fault.{Fault}, Edges.{slots_before, passed_slots}}
 use Rattle.bpf_verify_origin.specs.Inspected.{broken_rule, IsPassedTo, is_stop, AreInsns, AreInflows, AreWays}
 use Rattle.bpf_verify_origin.specs.Inspected.{AreSources, IsInspection}
 use Rattle.bpf_verify_origin.proofs.FaultLaws.{passed-fine, passed-stop, passed-up_to, outside-none}

@@ -1,41 +1,29 @@
 -- What each instruction does: which machines it goes on to, and when it calls a loop.
-use Rattle.std.proofs.Common.{◌≡◌, ℕ, zero, suc, ◌+◌, Bool, true, false, List, [], ◌∷◌, ◌++◌, drop}
-use Rattle.std.proofs.Common.{replicate, get_or, set, Option, Some, None, refl, sym, ap, ◌∙◌, subst, arith}
-use Rattle.std.specs.Prelude.{ℤ, pos, nat_le, ◌==◌, if◌then◌else◌, slice_get}
-use Rattle.std.proofs.lemmas.Bool.Decides.{nat_tests}
-use Rattle.bpf_insn_types.specs.Sizes.{bytes_of, atomic_bytes}
-use Rattle.bpf_insn_types.specs.Words.{word_of, negated, moved_signed, in_order}
-use Rattle.bpf_insn_types.specs.declared.insn.Width.{Width}
-use Rattle.bpf_insn_types.specs.declared.insn.SimpleOp.{SimpleOp}
-use Rattle.bpf_insn_types.specs.declared.insn.AtomicOp.{AtomicOp}
+use Rattle.std.proofs.Common.{◌≡◌, ℕ, zero, suc, ◌+◌, Bool, true, false, List, [], ◌∷◌, ◌++◌, drop, replicate, get_or}
+use Rattle.std.proofs.Common.{set, Option, Some, None, refl, sym, ap, ◌∙◌, subst, arith}
+use Rattle.std.{specs.Prelude.{ℤ, pos, nat_le, ◌==◌, if◌then◌else◌, slice_get}, proofs.lemmas.Bool.Decides.{nat_tests}}
+use Rattle.bpf_insn_types.specs.{Sizes.{bytes_of, atomic_bytes}, Words.{word_of, negated, moved_signed, in_order}}
+use Rattle.bpf_insn_types.specs.declared.insn.{Width.{Width}, SimpleOp.{SimpleOp}, AtomicOp.{AtomicOp}, Callee.{Callee}}
 use Rattle.bpf_insn_types.specs.declared.insn.AtomicOp.TheVariants.{Simple, Fetch as FetchOp, Xchg as XchgOp, Cmpxchg}
-use Rattle.bpf_insn_types.specs.declared.insn.Callee.{Callee}
-use Rattle.bpf_insn_types.specs.declared.insn.Callee.TheVariants as callee
-use Rattle.bpf_insn_types.specs.declared.insn.Insn.{Insn}
-use Rattle.bpf_insn_types.specs.declared.insn.Insn.TheVariants.{Alu, Neg, Movsx, Endian, Ja, Ja32, Jump, Call}
-use Rattle.bpf_insn_types.specs.declared.insn.Insn.TheVariants.{Exit, Load as LoadInsn, LoadSx, StoreImm}
-use Rattle.bpf_insn_types.specs.declared.insn.Insn.TheVariants.{Store as StoreInsn, Atomic, LoadImm}
-use Rattle.bpf_insn_types.specs.declared.extension.Extension.{Extension}
-use Rattle.bpf_insn_types.specs.declared.extension.Extension.TheVariants.{Zeros, Signs}
+use Rattle.bpf_insn_types.specs.declared.insn.Insn.{Insn, TheVariants.{Atomic, LoadImm}}
+use Rattle.bpf_insn_types.specs.declared.insn.Insn.TheVariants.{Alu, Neg, Movsx, Endian, Ja, Ja32, Jump, Call, Exit}
+use Rattle.bpf_insn_types.specs.declared.insn.Insn.TheVariants.{Load as LoadInsn, LoadSx, StoreImm, Store as StoreInsn}
+use Rattle.bpf_insn_types.specs.declared.extension.Extension.{Extension, TheVariants.{Zeros, Signs}}
 use Rattle.bpf_insn_types.specs.Program.{Program, moved, leads_to}
-use Rattle.array_maps.specs.declared.access.Part.{Part}
-use Rattle.array_maps.specs.declared.access.Part.TheVariants.{Whole, Half as Of}
-use Rattle.array_maps.specs.Halves.{part_of}
+use Rattle.bpf_insn_types.specs.declared.insn.Callee.TheVariants as callee
+use Rattle.array_maps.specs.{declared.access.Part.{Part, TheVariants.{Whole, Half as Of}}, Halves.{part_of}}
 use Rattle.bpf_step_model.specs.State.{Value, Unwritten, Word, Frame, Map, Code, Bytes, Machine, register, advanced}
-use Rattle.bpf_step_model.specs.State.{at_slot, with_register, with_frame, after_call}
+use Rattle.bpf_step_model.specs.{State.{at_slot, with_register, with_frame, after_call}, ProgramInOrder.{resumed}}
 use Rattle.bpf_step_model.specs.Memory.{Place, InFrame, InCaller, InMap, number_at, written_at, place}
 use Rattle.bpf_step_model.specs.Values.{operand_value, on_word, result_of, comparison_of}
-use Rattle.bpf_step_model.specs.LoopCalls.{Validity, RefusedAs, Valid, call_validity}
+use Rattle.bpf_step_model.specs.{LoopCalls.{Validity, RefusedAs, Valid, call_validity}, Run.{part_bytes, after_request}}
 use Rattle.bpf_step_model.specs.Step.{StepOutcome, NoStep, Next, Asks, Loops, Refuses, Exits, Load, sets, jumps}
 use Rattle.bpf_step_model.specs.Step.{branches, loads, store_of, stores_at, stores, tells, changes_frame, request_of}
 use Rattle.bpf_step_model.specs.Step.{extended, loaded, caller_number, atomic_left, update_of, changes_at}
-use Rattle.bpf_step_model.specs.Step.{compared_value, may_tell, changes, wide_value, key_at, answers}
-use Rattle.bpf_step_model.specs.Step.{lookup_result, looks_up, loop_call_step, calls_loop, takes_ctx, takes_flags}
-use Rattle.bpf_step_model.specs.Step.{takes_arguments, loops, calls, ends_with, ends, insn_step, within_function}
-use Rattle.bpf_step_model.specs.Run.{part_bytes, after_request}
-use Rattle.bpf_step_model.specs.ProgramInOrder.{resumed}
-use Rattle.bpf_verify_origin.specs.Sources.{fetches, writes_register, is_call}
-use Rattle.bpf_verify_origin.specs.Runs.{GoesOnTo, Enters}
+use Rattle.bpf_step_model.specs.Step.{compared_value, may_tell, changes, wide_value, key_at, answers, lookup_result}
+use Rattle.bpf_step_model.specs.Step.{looks_up, loop_call_step, calls_loop, takes_ctx, takes_flags, takes_arguments}
+use Rattle.bpf_step_model.specs.Step.{loops, calls, ends_with, ends, insn_step, within_function}
+use Rattle.bpf_verify_origin.specs.{Sources.{fetches, writes_register, is_call}, Runs.{GoesOnTo, Enters}}
 
 -- where an outcome is a loop call, this holds; and that of each machine that it goes on to
 abbrev pub Outcome : Type 0 → (Machine → Type 0) → StepOutcome → Type 0

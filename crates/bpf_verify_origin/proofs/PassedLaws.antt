@@ -1,20 +1,14 @@
 -- The slots to which the verifier's pass comes, and the abstract states there.
-use Rattle.std.proofs.Common.{◌≡◌, ℕ, zero, suc, ◌<◌, ◌≤◌, Bool, true, false, List, [], ◌∷◌, length}
-use Rattle.std.proofs.Common.{get_or, refl, sym, ap, ◌∙◌, arith, Option, Some, None, is_some}
-use Rattle.std.specs.Prelude.{IfSome, nat_le}
+use Rattle.std.proofs.Common.{◌≡◌, ℕ, zero, suc, ◌<◌, ◌≤◌, Bool, true, false, List, [], ◌∷◌, length, get_or, refl, sym}
+use Rattle.std.{proofs.Common.{ap, ◌∙◌, arith, Option, Some, None, is_some}, specs.Prelude.{IfSome, nat_le}}
 use Rattle.std.proofs.lemmas.Bool.Decides.{nat_tests}
-use Rattle.bpf_insn_types.specs.declared.insn.Insn.{Insn}
-use Rattle.bpf_insn_types.specs.Program.{Program, insn_at, slot_count}
-use Rattle.bpf_verify_model.specs.declared.state.State.{State}
+use Rattle.bpf_insn_types.specs.{declared.insn.Insn.{Insn}, Program.{Program, insn_at, slot_count}}
+use Rattle.bpf_verify_model.specs.{declared.state.State.{State}, Inflow.{received_all}}
 use Rattle.bpf_verify_model.specs.Accepted.{BrokenRule, fault_within, first_fault, WithinLimits}
-use Rattle.bpf_verify_model.specs.Inflow.{received_all}
-use Rattle.bpf_verify.specs.Passing.{out_of}
-use Rattle.bpf_verify.specs.States.{AreStatesBefore}
-use Rattle.bpf_verify.proofs.PassLaws.{fault_within-later}
+use Rattle.bpf_verify.{specs.{Passing.{out_of}, States.{AreStatesBefore}}, proofs.PassLaws.{fault_within-later}}
 use Rattle.bpf_verify_origin.specs.Edges.{passed_slots, slots_before, state_between}
 use Rattle.bpf_verify_origin.specs.Inspected.{IsPassedTo, IsStateBefore, IsStateBetween, is_up_to}
-use Rattle.bpf_verify_origin.proofs.FaultLaws.{starts-within, passed-fine, passed-up_to}
-use Rattle.bpf_verify_origin.proofs.InspectionLaws.{state-there}
+use Rattle.bpf_verify_origin.proofs.{FaultLaws.{starts-within, passed-fine, passed-up_to}, InspectionLaws.{state-there}}
 
 -- where n slots break no rule, fewer break none
 pub fine-earlier : (program : Program) (slot n : ℕ) → fault_within program n ≡ None → slot ≤ n

@@ -1,48 +1,29 @@
 -- The abstract states hold on runs up to the first fault.
-use Rattle.std.proofs.Common.{◌≡◌, ℕ, ◌<◌, ◌≤◌, ◌^◌, inl, inr, ◌⊎◌, Bool, true, false, not, ◌||◌, List, [], ◌∷◌}
-use Rattle.std.proofs.Common.{Option, Some, None, is_some, sym, refl, ap, ◌∙◌, subst, arith}
-use Rattle.std.specs.Prelude.{◌==◌, nat_eq, nat_lt}
-use Rattle.std.specs.List.{AllByRecursion}
-use Rattle.std.proofs.lemmas.Bool.Decides.{nat_tests}
-use Rattle.bpf_insn_types.specs.Limits.{sizes_fit}
-use Rattle.bpf_insn_types.specs.Values.{AreInsns}
-use Rattle.bpf_insn_types.specs.declared.insn.Insn.{Insn}
-use Rattle.bpf_insn_types.specs.declared.insn.Width.TheVariants.{W64}
+use Rattle.std.proofs.Common.{◌≡◌, ℕ, ◌<◌, ◌≤◌, ◌^◌, inl, inr, ◌⊎◌, Bool, true, false, not, ◌||◌, List, [], ◌∷◌, Option}
+use Rattle.std.{proofs.Common.{Some, None, is_some, sym, refl, ap, ◌∙◌, subst, arith}, specs.List.{AllByRecursion}}
+use Rattle.std.{specs.Prelude.{◌==◌, nat_eq, nat_lt}, proofs.lemmas.Bool.Decides.{nat_tests}}
+use Rattle.bpf_insn_types.specs.{Limits.{sizes_fit}, Values.{AreInsns}, declared.insn.Insn.{Insn}}
+use Rattle.bpf_insn_types.specs.{declared.insn.Width.TheVariants.{W64}, WordBounds.{ResultsFit}}
 use Rattle.bpf_insn_types.specs.Program.{Program, insn_at, slot_count, function_of}
-use Rattle.bpf_insn_types.specs.WordBounds.{ResultsFit}
 use Rattle.value_range.proofs.SpanLaws.{top-contains}
-use Rattle.bpf_verify_model.specs.declared.rule.Rule.{Rule}
-use Rattle.bpf_verify_model.specs.declared.state.State.{State}
-use Rattle.bpf_verify_model.specs.declared.outflow.Outflow.{Outflow}
-use Rattle.bpf_verify_model.specs.Rules.{fault_of}
-use Rattle.bpf_verify_model.specs.Flow.{flow}
-use Rattle.bpf_verify_model.specs.States.{known_main_entry}
+use Rattle.bpf_verify_model.specs.declared.{rule.Rule.{Rule}, state.State.{State}, outflow.Outflow.{Outflow}}
+use Rattle.bpf_verify_model.specs.{Rules.{fault_of}, Flow.{flow}, States.{known_main_entry}}
 use Rattle.bpf_verify_model.specs.Inflow.{flow_unless, flow_from, received_all, incoming, state_before}
 use Rattle.bpf_verify_model.specs.Accepted.{fault_at, fault_at_insn, first_fault, is_too_large, WithinLimits}
 use Rattle.bpf_verify_model.proofs.JumpLaws.{fault_at-none}
 use Rattle.bpf_verify.specs.Passing.{out_of}
-use Rattle.bpf_step_model.specs.State.{Machine, main_entry}
-use Rattle.bpf_step_model.specs.SoundMachine.{SoundMachine}
-use Rattle.bpf_step_model.specs.Step.{StepOutcome, NoStep, Next, Asks, Loops, Refuses, Exits}
-use Rattle.bpf_step_model.specs.Step.{insn_step, insn_step_if_any, step}
-use Rattle.bpf_verify_sound.specs.Containment.{Contained, ContainedIf}
-use Rattle.bpf_verify_sound.specs.KnownStates.{IsWellFormedState, IfReachedWellFormed}
-use Rattle.bpf_verify_sound.specs.Standing.{KeepsRules}
-use Rattle.bpf_verify_sound.specs.Ways.{FlowsTo, GoesBy, EntersBy, StepFlows}
-use Rattle.bpf_verify_sound.specs.Soundness.{OverApproximates, StepSound}
-use Rattle.bpf_verify_sound.proofs.Tests.{and-one, or-right, not-not-true}
-use Rattle.bpf_verify_sound.proofs.RuleLaws.{fault_of-none, fits_at}
-use Rattle.bpf_verify_sound.proofs.KnownLaws.{incoming-known}
-use Rattle.bpf_verify_sound.proofs.Forms.{insn_step-flow}
-use Rattle.bpf_verify_sound.proofs.Moves.{within_function-flows}
-use Rattle.bpf_verify_sound.proofs.LoopForms.{fresh-known}
-use Rattle.bpf_verify_sound.proofs.InflowLaws.{state_before-brings}
-use Rattle.bpf_verify_sound.proofs.SoundLaws.{step-sound, call-sound, entry-sound}
-use Rattle.bpf_verify_origin.specs.Edges.{flow_of, flow_at, passed_slots, state_between}
-use Rattle.bpf_verify_origin.specs.Inspected.{IsPassedTo}
-use Rattle.bpf_verify_origin.specs.Runs.{GoesOnTo, Enters, RunsTo, ComesTo, HoldsBefore, HoldsBetween}
-use Rattle.bpf_verify_origin.specs.Runs.{StatesHold, EachStateHolds}
-use Rattle.bpf_verify_origin.proofs.FaultLaws.{passed-fine, outside-none}
+use Rattle.bpf_step_model.specs.{State.{Machine, main_entry}, SoundMachine.{SoundMachine}}
+use Rattle.bpf_step_model.specs.Step.{StepOutcome, NoStep, Next, Asks, Loops, Refuses, Exits, insn_step}
+use Rattle.bpf_step_model.specs.Step.{insn_step_if_any, step}
+use Rattle.bpf_verify_sound.specs.{Containment.{Contained, ContainedIf}, Standing.{KeepsRules}}
+use Rattle.bpf_verify_sound.{specs.KnownStates.{IsWellFormedState, IfReachedWellFormed}, proofs.Forms.{insn_step-flow}}
+use Rattle.bpf_verify_sound.specs.{Ways.{FlowsTo, GoesBy, EntersBy, StepFlows}, Soundness.{OverApproximates, StepSound}}
+use Rattle.bpf_verify_sound.proofs.{Tests.{and-one, or-right, not-not-true}, RuleLaws.{fault_of-none, fits_at}}
+use Rattle.bpf_verify_sound.proofs.{KnownLaws.{incoming-known}, Moves.{within_function-flows}, LoopForms.{fresh-known}}
+use Rattle.bpf_verify_sound.proofs.{InflowLaws.{state_before-brings}, SoundLaws.{step-sound, call-sound, entry-sound}}
+use Rattle.bpf_verify_origin.specs.{Edges.{flow_of, flow_at, passed_slots, state_between}, Inspected.{IsPassedTo}}
+use Rattle.bpf_verify_origin.specs.Runs.{GoesOnTo, Enters, RunsTo, ComesTo, HoldsBefore, HoldsBetween, StatesHold}
+use Rattle.bpf_verify_origin.{specs.Runs.{EachStateHolds}, proofs.FaultLaws.{passed-fine, outside-none}}
 use Rattle.bpf_verify_origin.proofs.EdgeLaws.{received_all-brings}
 
 -- a program is within the limits where slots are before its first fault

@@ -1,36 +1,22 @@
 -- Sources hold on runs up to the first fault.
-use Rattle.std.proofs.Common.{◌≡◌, ℕ, zero, suc, ◌+◌, ◌<◌, inl, inr, ◌⊎◌, Bool, true, false, not, ◌&&◌, List}
-use Rattle.std.proofs.Common.{[], ◌∷◌, Option, Some, None, is_some, sym, refl, ap, ◌∙◌, subst, arith}
-use Rattle.std.specs.Prelude.{◌==◌, nat_lt, if◌then◌else◌}
-use Rattle.std.proofs.lemmas.Bool.Decides.{nat_tests}
-use Rattle.bpf_insn_types.specs.Values.{AreInsns}
-use Rattle.bpf_insn_types.specs.declared.insn.Insn.{Insn}
-use Rattle.bpf_insn_types.specs.Program.{Program, insn_at, function_of}
+use Rattle.std.proofs.Common.{◌≡◌, ℕ, zero, suc, ◌+◌, ◌<◌, inl, inr, ◌⊎◌, Bool, true, false, not, ◌&&◌, List, [], ◌∷◌}
+use Rattle.std.proofs.Common.{Option, Some, None, is_some, sym, refl, ap, ◌∙◌, subst, arith}
+use Rattle.std.{specs.Prelude.{◌==◌, nat_lt, if◌then◌else◌}, proofs.lemmas.Bool.Decides.{nat_tests}}
+use Rattle.bpf_insn_types.specs.{Values.{AreInsns}, declared.insn.Insn.{Insn}, Program.{Program, insn_at, function_of}}
 use Rattle.bpf_insn_types.specs.WordBounds.{ResultsFit}
 use Rattle.bpf_verify_model.specs.Flow.{flow}
-use Rattle.bpf_step_model.specs.State.{Machine}
-use Rattle.bpf_step_model.specs.SoundMachine.{SoundMachine}
-use Rattle.bpf_step_model.specs.Step.{StepOutcome, Loops}
-use Rattle.bpf_step_model.specs.Step.{within_function, insn_step, insn_step_if_any, step}
-use Rattle.bpf_step_model.specs.ProgramInOrder.{resumed}
-use Rattle.bpf_verify_sound.specs.Ways.{GoesBy}
-use Rattle.bpf_verify_sound.proofs.Tests.{and-two}
-use Rattle.bpf_verify_origin.specs.declared.inflow.Inflow.{Inflow}
-use Rattle.bpf_verify_origin.specs.declared.inflow.Inflow.TheVariants.{Nowhere, One, Several}
-use Rattle.bpf_verify_origin.specs.declared.source.Source.{Source}
-use Rattle.bpf_verify_origin.specs.declared.source.Source.TheVariants.{Start, Written, Entered}
-use Rattle.bpf_verify_origin.specs.Edges.{inflow}
+use Rattle.bpf_step_model.specs.{State.{Machine}, SoundMachine.{SoundMachine}, ProgramInOrder.{resumed}}
+use Rattle.bpf_step_model.specs.Step.{StepOutcome, Loops, within_function, insn_step, insn_step_if_any, step}
+use Rattle.bpf_verify_sound.{specs.Ways.{GoesBy}, proofs.Tests.{and-two}}
+use Rattle.bpf_verify_origin.specs.declared.inflow.Inflow.{Inflow, TheVariants.{Nowhere, One, Several}}
+use Rattle.bpf_verify_origin.specs.declared.source.Source.{Source, TheVariants.{Start, Written, Entered}}
+use Rattle.bpf_verify_origin.specs.{Edges.{inflow}, Sources.{source_back, source_among, source_before}}
 use Rattle.bpf_verify_origin.specs.Sources.{writes_register, is_call, source_by_insn, or_earlier, source_by_inflow}
-use Rattle.bpf_verify_origin.specs.Sources.{source_back, source_among, source_before}
-use Rattle.bpf_verify_origin.specs.Runs.{GoesOnTo, Enters, ComesTo}
-use Rattle.bpf_verify_origin.specs.RunSources.{writes_if_any, ComesFrom}
-use Rattle.bpf_verify_origin.specs.RunSources.{IsSourceBefore, SourcesHold, EachSourceHolds}
-use Rattle.bpf_verify_origin.proofs.FaultLaws.{starts-within}
-use Rattle.bpf_verify_origin.proofs.OutcomeForms.{outcome-goes, outcome-enters, within-goes, within-enters}
-use Rattle.bpf_verify_origin.proofs.OutcomeForms.{Behind, CallsLoop, insn_step-does}
-use Rattle.bpf_verify_origin.proofs.EdgeLaws.{Includes, inflow-includes}
-use Rattle.bpf_verify_origin.proofs.SourceLaws.{among-suc}
-use Rattle.bpf_verify_origin.proofs.RunLaws.{Flows, LastStep, goes-by, last-step}
+use Rattle.bpf_verify_origin.{specs.Runs.{GoesOnTo, Enters, ComesTo}, proofs.FaultLaws.{starts-within}}
+use Rattle.bpf_verify_origin.specs.RunSources.{writes_if_any, ComesFrom, IsSourceBefore, SourcesHold, EachSourceHolds}
+use Rattle.bpf_verify_origin.proofs.OutcomeForms.{outcome-goes, outcome-enters, within-goes, within-enters, Behind}
+use Rattle.bpf_verify_origin.proofs.{OutcomeForms.{CallsLoop, insn_step-does}, EdgeLaws.{Includes, inflow-includes}}
+use Rattle.bpf_verify_origin.proofs.{SourceLaws.{among-suc}, RunLaws.{Flows, LastStep, goes-by, last-step}}
 
 -- the step at an instruction
 step-is : (program : Program) (m : Machine) (insn : Insn) → insn_at program.insns m.slot ≡ Some insn

@@ -1,23 +1,13 @@
 -- Steps of the machine's definition go on from a run.
-use Rattle.std.proofs.Common.{◌≡◌, ℕ, zero, suc, ◌<◌, ◌^◌, inl, inr, ◌⊎◌, List, [], ◌∷◌, ◌++◌, sym, subst}
-use Rattle.std.proofs.Common.{append_assoc}
-use Rattle.std.specs.Prelude.{slice_index}
-use Rattle.std.proofs.lemmas.Option.{get_or_from_slice_get}
+use Rattle.std.proofs.Common.{◌≡◌, ℕ, zero, suc, ◌<◌, ◌^◌, inl, inr, ◌⊎◌, List, [], ◌∷◌, ◌++◌, sym, subst, append_assoc}
+use Rattle.std.{specs.Prelude.{slice_index}, proofs.lemmas.Option.{get_or_from_slice_get}}
 use Rattle.array_maps.specs.Accesses.{Access, left_by}
-use Rattle.bpf_insn_types.specs.Values.{AreInsns}
-use Rattle.bpf_insn_types.specs.Program.{Program}
-use Rattle.bpf_insn_types.specs.WordBounds.{ResultsFit}
-use Rattle.bpf_step_model.specs.State.{Machine}
-use Rattle.bpf_step_model.specs.SoundMachine.{SoundMachine}
+use Rattle.bpf_insn_types.specs.{Values.{AreInsns}, Program.{Program}, WordBounds.{ResultsFit}}
+use Rattle.bpf_step_model.specs.{State.{Machine}, SoundMachine.{SoundMachine}, Run.{action_of}, Steps.{GoesOn, Steps}}
 use Rattle.bpf_step_model.specs.Step.{StepOutcome, NoStep, Next, Asks, Loops, Refuses, Exits, step}
-use Rattle.bpf_step_model.specs.Run.{action_of}
-use Rattle.bpf_step_model.specs.Steps.{GoesOn, Steps}
-use Rattle.bpf_verify_sound.specs.Soundness.{StepSound}
-use Rattle.bpf_verify_sound.proofs.RegisterLaws.{all-set}
-use Rattle.bpf_verify_sound.proofs.RunLaws.{word-at}
+use Rattle.bpf_verify_sound.{specs.Soundness.{StepSound}, proofs.{RegisterLaws.{all-set}, RunLaws.{word-at}}}
 use Rattle.bpf_verify_sound.proofs.SoundLaws.{step-sound, entry-sound}
-use Rattle.bpf_verify_origin.specs.Runs.{GoesOnTo, Enters, RunsTo}
-use Rattle.bpf_verify_origin.specs.RunSteps.{AreWords, StepsAreRuns}
+use Rattle.bpf_verify_origin.specs.{Runs.{GoesOnTo, Enters, RunsTo}, RunSteps.{AreWords, StepsAreRuns}}
 use Rattle.bpf_verify_origin.proofs.RunLaws.{sound-goes, sound-enters}
 
 -- each machine of a run is sound

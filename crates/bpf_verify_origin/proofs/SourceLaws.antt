@@ -1,19 +1,13 @@
 -- Where the value of a register comes from, slot by slot.
-use Rattle.std.proofs.Common.{◌≡◌, ℕ, zero, suc, ◌+◌, ◌*◌, ◌<◌, ◌≤◌, Bool, true, false, List, [], ◌++◌, length}
-use Rattle.std.proofs.Common.{get_or, set, refl, ap, sym, ◌∙◌, arith, add-one, Option, None}
-use Rattle.std.specs.Prelude.{◌==◌, nat_lt, if◌then◌else◌}
-use Rattle.std.proofs.lemmas.Bool.Decides.{nat_tests}
-use Rattle.std.proofs.lemmas.List.{get_or_past, get_or_append_left, get_or-append-add, length-append}
-use Rattle.std.proofs.lemmas.List.{get_or-set_same, get_or-set_other}
-use Rattle.bpf_insn_types.specs.declared.insn.Insn.{Insn}
-use Rattle.bpf_insn_types.specs.Program.{Program, insn_at, slot_count}
-use Rattle.bpf_verify_origin.specs.declared.inflow.Inflow.{Inflow}
-use Rattle.bpf_verify_origin.specs.declared.inflow.Inflow.TheVariants.{Nowhere, One, Several}
-use Rattle.bpf_verify_origin.specs.declared.source.Source.{Source}
-use Rattle.bpf_verify_origin.specs.declared.source.Source.TheVariants.{Start}
+use Rattle.std.proofs.Common.{◌≡◌, ℕ, zero, suc, ◌+◌, ◌*◌, ◌<◌, ◌≤◌, Bool, true, false, List, [], ◌++◌, length, get_or}
+use Rattle.std.proofs.{Common.{set, refl, ap, sym, ◌∙◌, arith, add-one, Option, None}, lemmas.Bool.Decides.{nat_tests}}
+use Rattle.std.{specs.Prelude.{◌==◌, nat_lt, if◌then◌else◌}, proofs.lemmas.List.{get_or-set_other}}
+use Rattle.std.proofs.lemmas.List.{get_or_past, get_or_append_left, get_or-append-add, length-append, get_or-set_same}
+use Rattle.bpf_insn_types.specs.{declared.insn.Insn.{Insn}, Program.{Program, insn_at, slot_count}}
+use Rattle.bpf_verify_origin.specs.declared.inflow.Inflow.{Inflow, TheVariants.{Nowhere, One, Several}}
+use Rattle.bpf_verify_origin.specs.{declared.source.Source.{Source, TheVariants.{Start}}, Sources.{source_before}}
 use Rattle.bpf_verify_origin.specs.Edges.{inflow_from, inflow, passed_slots}
-use Rattle.bpf_verify_origin.specs.Sources.{source_by_insn, source_by_inflow, source_into, source_back}
-use Rattle.bpf_verify_origin.specs.Sources.{source_among, source_before}
+use Rattle.bpf_verify_origin.specs.Sources.{source_by_insn, source_by_inflow, source_into, source_back, source_among}
 use Rattle.bpf_verify_origin.specs.Inspected.{AreInflows, AreWays, AreSources}
 
 among-zero : (program : Program) (slot reg : ℕ) → source_among program 0 slot reg ≡ Start

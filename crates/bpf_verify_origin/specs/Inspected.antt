@@ -1,22 +1,14 @@
 -- What an inspection of a program has.
 use Rattle.std.specs.Prelude.{◌≡◌, ℕ, ◌+◌, ◌*◌, ◌<◌, ◌≤◌, ◌==◌, ◌||◌, Bool, true, false, List, [], ◌∷◌, length}
-use Rattle.std.specs.Prelude.{slice_index_or, Option, Some, None, is_some, nat_le}
-use Rattle.std.specs.Option.{option_map}
-use Rattle.bpf_insn_types.specs.declared.insn.Insn.{Insn}
-use Rattle.bpf_insn_types.specs.declared.insn.Insn.TheVariants.{LoadImm}
-use Rattle.bpf_insn_types.specs.Values.{AreInsns as FieldsFit}
+use Rattle.std.specs.{Prelude.{slice_index_or, Option, Some, None, is_some, nat_le}, Option.{option_map}}
+use Rattle.bpf_insn_types.specs.{declared.insn.Insn.{Insn, TheVariants.{LoadImm}}, Values.{AreInsns as FieldsFit}}
 use Rattle.bpf_insn_types.specs.Program.{Program, insn_at, slot_count}
-use Rattle.bpf_verify_model.specs.declared.state.State.{State}
+use Rattle.bpf_verify_model.specs.{declared.state.State.{State}, Inflow.{state_before}}
 use Rattle.bpf_verify_model.specs.Accepted.{BrokenRule, WithinLimits, first_fault, fault_within}
-use Rattle.bpf_verify_model.specs.Inflow.{state_before}
 use Rattle.bpf_verify.specs.States.{AreStatesBefore}
-use Rattle.bpf_verify_origin.specs.declared.inflow.Inflow.{Inflow}
-use Rattle.bpf_verify_origin.specs.declared.inflow.Inflow.TheVariants.{Nowhere}
-use Rattle.bpf_verify_origin.specs.declared.fault.Fault.{Fault}
-use Rattle.bpf_verify_origin.specs.declared.source.Source.{Source}
-use Rattle.bpf_verify_origin.specs.declared.source.Source.TheVariants.{Start}
+use Rattle.bpf_verify_origin.specs.declared.{inflow.Inflow.{Inflow, TheVariants.{Nowhere}}, fault.Fault.{Fault}}
+use Rattle.bpf_verify_origin.specs.{declared.source.Source.{Source, TheVariants.{Start}}, Sources.{source_before}}
 use Rattle.bpf_verify_origin.specs.Edges.{inflow, inflow_from, passed_slots, state_between}
-use Rattle.bpf_verify_origin.specs.Sources.{source_before}
 
 -- a fault as a broken rule at a slot
 abbrev pub broken_rule : Fault → BrokenRule

@@ -1,14 +1,9 @@
 -- Where the value of a register comes from on a run.
 use Rattle.std.specs.Prelude.{◌≡◌, ℕ, ◌⊎◌, Bool, true, false, List, [], ◌∷◌, Option, Some, None}
-use Rattle.bpf_insn_types.specs.declared.insn.Insn.{Insn}
-use Rattle.bpf_insn_types.specs.Values.{AreInsns}
-use Rattle.bpf_insn_types.specs.Program.{Program, insn_at}
-use Rattle.bpf_step_model.specs.State.{Machine, register}
-use Rattle.bpf_step_model.specs.Step.{step}
-use Rattle.bpf_verify_origin.specs.declared.source.Source.{Source}
-use Rattle.bpf_verify_origin.specs.declared.source.Source.TheVariants.{Start, Written, Entered, Meeting}
-use Rattle.bpf_verify_origin.specs.Sources.{writes_register, source_before}
-use Rattle.bpf_verify_origin.specs.Runs.{GoesOnTo, Enters, ComesTo}
+use Rattle.bpf_insn_types.specs.{declared.insn.Insn.{Insn}, Values.{AreInsns}, Program.{Program, insn_at}}
+use Rattle.bpf_step_model.specs.{State.{Machine, register}, Step.{step}}
+use Rattle.bpf_verify_origin.specs.declared.source.Source.{Source, TheVariants.{Start, Written, Entered, Meeting}}
+use Rattle.bpf_verify_origin.specs.{Sources.{writes_register, source_before}, Runs.{GoesOnTo, Enters, ComesTo}}
 
 -- whether the instruction at a slot, if one starts there, writes a register
 abbrev pub writes_if_any : Option Insn → ℕ → Bool

@@ -1,11 +1,8 @@
 -- Runs are those of the machine's definition.
-use Rattle.std.specs.Prelude.{ℕ, ◌<◌, ◌^◌, List, ◌++◌}
-use Rattle.std.specs.List.{AllByRecursion}
+use Rattle.std.specs.{Prelude.{ℕ, ◌<◌, ◌^◌, List, ◌++◌}, List.{AllByRecursion}}
 use Rattle.array_maps.specs.Accesses.{Access}
-use Rattle.bpf_insn_types.specs.Values.{AreInsns}
-use Rattle.bpf_insn_types.specs.Program.{Program}
-use Rattle.bpf_step_model.specs.State.{Machine}
-use Rattle.bpf_step_model.specs.Steps.{Steps}
+use Rattle.bpf_insn_types.specs.{Values.{AreInsns}, Program.{Program}}
+use Rattle.bpf_step_model.specs.{State.{Machine}, Steps.{Steps}}
 use Rattle.bpf_verify_origin.specs.Runs.{RunsTo}
 
 -- the words of maps, each below 2 ^ 64

@@ -1,13 +1,9 @@
 -- Runs of a program's machine up to its first fault.
-use Rattle.std.specs.Prelude.{◌≡◌, ℕ, ◌<◌, ◌^◌, ◌⊎◌, List, [], ◌∷◌, Option}
-use Rattle.std.specs.List.{AllByRecursion}
-use Rattle.bpf_insn_types.specs.Values.{AreInsns}
-use Rattle.bpf_insn_types.specs.Program.{Program, slot_count}
-use Rattle.bpf_verify_model.specs.declared.state.State.{State}
-use Rattle.bpf_verify_model.specs.Accepted.{WithinLimits}
-use Rattle.bpf_step_model.specs.State.{Machine, main_entry, callback_entry}
+use Rattle.std.specs.{Prelude.{◌≡◌, ℕ, ◌<◌, ◌^◌, ◌⊎◌, List, [], ◌∷◌, Option}, List.{AllByRecursion}}
+use Rattle.bpf_insn_types.specs.{Values.{AreInsns}, Program.{Program, slot_count}}
+use Rattle.bpf_verify_model.specs.{declared.state.State.{State}, Accepted.{WithinLimits}}
+use Rattle.bpf_step_model.specs.{State.{Machine, main_entry, callback_entry}, Run.{after_request}}
 use Rattle.bpf_step_model.specs.Step.{StepOutcome, NoStep, Next, Asks, Loops, Refuses, Exits, step}
-use Rattle.bpf_step_model.specs.Run.{after_request}
 use Rattle.bpf_step_model.specs.ProgramInOrder.{resumed}
 use Rattle.bpf_verify_sound.specs.Containment.{ContainedIf, ContainedBefore}
 use Rattle.bpf_verify_origin.specs.Edges.{passed_slots, state_between}

@@ -1,16 +1,11 @@
 -- Where the value of a register comes from.
-use Rattle.std.specs.Prelude.{ℕ, zero, suc, ◌+◌, ◌==◌, ◌&&◌, not, nat_le, Bool}
-use Rattle.std.specs.Prelude.{true, false, if◌then◌else◌, Option, Some, None}
-use Rattle.bpf_insn_types.specs.declared.insn.AtomicOp.{AtomicOp}
-use Rattle.bpf_insn_types.specs.declared.insn.AtomicOp.TheVariants.{Simple, Fetch, Xchg, Cmpxchg}
-use Rattle.bpf_insn_types.specs.declared.insn.Insn.{Insn}
-use Rattle.bpf_insn_types.specs.declared.insn.Insn.TheVariants.{Alu, Neg, Movsx, Endian, Call, Load}
-use Rattle.bpf_insn_types.specs.declared.insn.Insn.TheVariants.{LoadSx, Atomic, LoadImm}
-use Rattle.bpf_insn_types.specs.Program.{Program, insn_at}
-use Rattle.bpf_verify_origin.specs.declared.inflow.Inflow.{Inflow}
-use Rattle.bpf_verify_origin.specs.declared.inflow.Inflow.TheVariants.{Nowhere, One, Several}
-use Rattle.bpf_verify_origin.specs.declared.source.Source.{Source}
-use Rattle.bpf_verify_origin.specs.declared.source.Source.TheVariants.{Start, Written, Entered, Meeting}
+use Rattle.std.specs.Prelude.{ℕ, zero, suc, ◌+◌, ◌==◌, ◌&&◌, not, nat_le, Bool, true, false, if◌then◌else◌, Option}
+use Rattle.std.specs.Prelude.{Some, None}
+use Rattle.bpf_insn_types.specs.declared.insn.AtomicOp.{AtomicOp, TheVariants.{Simple, Fetch, Xchg, Cmpxchg}}
+use Rattle.bpf_insn_types.specs.{declared.insn.Insn.{Insn, TheVariants.{LoadImm}}, Program.{Program, insn_at}}
+use Rattle.bpf_insn_types.specs.declared.insn.Insn.TheVariants.{Alu, Neg, Movsx, Endian, Call, Load, LoadSx, Atomic}
+use Rattle.bpf_verify_origin.specs.declared.inflow.Inflow.{Inflow, TheVariants.{Nowhere, One, Several}}
+use Rattle.bpf_verify_origin.specs.declared.source.Source.{Source, TheVariants.{Start, Written, Entered, Meeting}}
 use Rattle.bpf_verify_origin.specs.Edges.{inflow}
 
 -- an atomic operation that fetches or exchanges writes its source register, and one that compares R0

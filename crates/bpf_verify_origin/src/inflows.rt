@@ -1,12 +1,11 @@
 //! Where the edges into each slot come from: a table, made in one pass.
 
-ghost use Rattle.std.specs.Prelude.{◌≡◌, ℕ, ◌<◌, ◌≤◌, ◌==◌, ◌++◌, ◌∷◌, [], true, length};
-ghost use Rattle.std.specs.Prelude.{replicate, slice_index_or, IfOk, OnOk};
+ghost use Rattle.std.specs.Prelude.{◌≡◌, ℕ, ◌<◌, ◌≤◌, ◌==◌, ◌++◌, ◌∷◌, [], true, length, replicate, slice_index_or};
+ghost use Rattle.std.specs.Prelude.{IfOk, OnOk};
 ghost use Rattle.bpf_insn_types.specs.Program.{slot_count};
 ghost use Rattle.bpf_verify.specs.States.{AreStatesBefore};
 ghost use Rattle.bpf_verify_origin.specs.declared.inflow.Inflow.TheVariants.{Nowhere};
-ghost use Rattle.bpf_verify_origin.specs.Edges.{edge_leads, with_edge, with_edges};
-ghost use Rattle.bpf_verify_origin.specs.Inspected.{AreInflows, is_stop};
+ghost use Rattle.bpf_verify_origin.specs.{Edges.{edge_leads, with_edge, with_edges}, Inspected.{AreInflows, is_stop}};
 
 use crate::inflow::Inflow;
 use crate::outflow::{outflow, state_in};

@@ -1,11 +1,9 @@
 //! A program is inspected.
 
-ghost use Rattle.std.specs.Prelude.{◌≡◌, IfSome, IfNone, IfOk};
-ghost use Rattle.std.specs.Option.{option_map};
+ghost use Rattle.std.specs.{Prelude.{◌≡◌, IfSome, IfNone, IfOk}, Option.{option_map}};
 ghost use Rattle.bpf_insn_types.specs.Program.{slot_count};
 ghost use Rattle.bpf_verify_model.specs.Accepted.{WithinLimits, first_fault};
-ghost use Rattle.bpf_verify_origin.specs.Edges.{slots_before};
-ghost use Rattle.bpf_verify_origin.specs.Inspected.{broken_rule};
+ghost use Rattle.bpf_verify_origin.specs.{Edges.{slots_before}, Inspected.{broken_rule}};
 
 use crate::fault::Fault;
 use crate::fields::insns_fit;

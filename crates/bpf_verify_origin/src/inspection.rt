@@ -1,17 +1,12 @@
 //! An inspected program.
 
-ghost use Rattle.std.specs.Prelude.{◌≡◌, ℕ, IfSome, None};
-ghost use Rattle.std.specs.Option.{option_map};
-ghost use Rattle.bpf_insn_types.specs.Program.{insn_at};
-ghost use Rattle.bpf_insn_types.specs.Values.{AreInsns};
-ghost use Rattle.bpf_verify_model.specs.Inflow.{received_all, state_before};
-ghost use Rattle.bpf_verify_model.specs.Accepted.{first_fault};
-ghost use Rattle.bpf_verify_origin.specs.Edges.{flow_passed, inflow, state_between};
-ghost use Rattle.bpf_verify_origin.specs.Runs.{HoldsBefore, HoldsBetween, StatesHold};
+ghost use Rattle.std.specs.{Prelude.{◌≡◌, ℕ, IfSome, None}, Option.{option_map}};
+ghost use Rattle.bpf_insn_types.specs.{Program.{insn_at}, Values.{AreInsns}};
+ghost use Rattle.bpf_verify_model.specs.{Inflow.{received_all, state_before}, Accepted.{first_fault}};
+ghost use Rattle.bpf_verify_origin.specs.{Edges.{flow_passed, inflow, state_between}, Inspected.{IsStateBetween}};
+ghost use Rattle.bpf_verify_origin.specs.{Runs.{HoldsBefore, HoldsBetween, StatesHold}, Sources.{source_before}};
 ghost use Rattle.bpf_verify_origin.specs.RunSources.{IsSourceBefore, SourcesHold};
-ghost use Rattle.bpf_verify_origin.specs.Inspected.{broken_rule, is_past, is_up_to};
-ghost use Rattle.bpf_verify_origin.specs.Inspected.{IsPassedTo, IsStateBefore, IsStateBetween};
-ghost use Rattle.bpf_verify_origin.specs.Sources.{source_before};
+ghost use Rattle.bpf_verify_origin.specs.Inspected.{broken_rule, is_past, is_up_to, IsPassedTo, IsStateBefore};
 
 use crate::fault::Fault;
 use crate::finding::insn_in;

@@ -1,8 +1,6 @@
 //! What an inspection says of a program holds on each run of the machine up to its first fault: laws, for proofs alone.
 
-ghost use Rattle.bpf_verify_origin.specs.Runs.{EachStateHolds};
-ghost use Rattle.bpf_verify_origin.specs.RunSources.{EachSourceHolds};
-ghost use Rattle.bpf_verify_origin.specs.RunSteps.{StepsAreRuns};
+ghost use Rattle.bpf_verify_origin.specs.{Runs.{EachStateHolds}, RunSources.{EachSourceHolds}, RunSteps.{StepsAreRuns}};
 
 use bpf_insn_types::results_fit;
 

@@ -2,9 +2,8 @@
 
 ghost use Rattle.std.specs.Prelude.{◌≡◌, ◌+◌, ◌*◌, ◌<◌, ◌++◌, ℕ, length, slice_index_or, None, IfOk, OnOk};
 ghost use Rattle.bpf_insn_types.specs.Program.{Program};
-ghost use Rattle.bpf_verify_origin.specs.declared.source.Source.TheVariants.{Start};
+ghost use Rattle.bpf_verify_origin.specs.{declared.source.Source.TheVariants.{Start}, Inspected.{AreSources, AreWays}};
 ghost use Rattle.bpf_verify_origin.specs.Sources.{source_by_insn, source_into};
-ghost use Rattle.bpf_verify_origin.specs.Inspected.{AreSources, AreWays};
 
 use crate::finding::insn_in;
 use crate::inflow::Inflow;

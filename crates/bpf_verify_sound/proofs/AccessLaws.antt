@@ -1,17 +1,12 @@
 -- An access that breaks no rule goes to its place, and finds the bytes that it reads.
 use Rattle.std.proofs.Common.{◌≡◌, None}
 use Rattle.bpf_insn_types.specs.Program.{Program}
-use Rattle.bpf_verify_model.specs.declared.memory_access.MemoryAccess.{MemoryAccess}
-use Rattle.bpf_verify_model.specs.declared.state.State.{State}
-use Rattle.bpf_verify_model.specs.States.{known_register}
-use Rattle.bpf_verify_model.specs.Rules.{place_fault, bytes_fault, or_else}
-use Rattle.bpf_step_model.specs.State.{Machine, register}
-use Rattle.bpf_step_model.specs.Memory.{place}
-use Rattle.bpf_verify_sound.specs.Containment.{Contained}
-use Rattle.bpf_verify_sound.specs.KnownStates.{IsWellFormedState}
-use Rattle.bpf_verify_sound.proofs.PlaceLaws.{PlaceIs, place-rules, place-is}
+use Rattle.bpf_verify_model.specs.declared.{memory_access.MemoryAccess.{MemoryAccess}, state.State.{State}}
+use Rattle.bpf_verify_model.specs.{States.{known_register}, Rules.{place_fault, bytes_fault, or_else}}
+use Rattle.bpf_step_model.specs.{State.{Machine, register}, Memory.{place}}
+use Rattle.bpf_verify_sound.specs.{Containment.{Contained}, KnownStates.{IsWellFormedState}}
+use Rattle.bpf_verify_sound.proofs.{PlaceLaws.{PlaceIs, place-rules, place-is}, Tests.{or_else-one, or_else-two}}
 use Rattle.bpf_verify_sound.proofs.Operands.{register-known, register-span}
-use Rattle.bpf_verify_sound.proofs.Tests.{or_else-one, or_else-two}
 
 pub record Accesses (program : Program) (m : Machine) (state : State) (access : MemoryAccess) : Type 0 where
   pub place_is : PlaceIs program.sizes access.size access.offset (known_register state access.base)

@@ -1,13 +1,10 @@
 -- What is known after a call.
 use Rattle.std.proofs.Common.{◌≡◌, ◌+◌, List, [], ◌∷◌, ◌++◌, drop, replicate, set, Option, Some, refl, arith, true}
 use Rattle.bpf_insn_types.specs.Program.{Program, leads_to}
-use Rattle.bpf_verify_model.specs.declared.abstract_value.AbstractValue.{AbstractValue}
-use Rattle.bpf_verify_model.specs.declared.outflow.Edge.{Edge}
-use Rattle.bpf_verify_model.specs.declared.state.State.{State}
-use Rattle.bpf_verify_model.specs.Flow.{forgets, known_after_call, edge_to}
+use Rattle.bpf_verify_model.specs.declared.{abstract_value.AbstractValue.{AbstractValue}, outflow.Edge.{Edge}}
+use Rattle.bpf_verify_model.specs.{declared.state.State.{State}, Flow.{forgets, known_after_call, edge_to}}
 use Rattle.bpf_step_model.specs.State.{Value, Unwritten, Machine, advanced, after_call}
-use Rattle.bpf_verify_sound.specs.Containment.{ContainsValue, ContainEach, Contained}
-use Rattle.bpf_verify_sound.specs.Ways.{GoesBy}
+use Rattle.bpf_verify_sound.specs.{Containment.{ContainsValue, ContainEach, Contained}, Ways.{GoesBy}}
 use Rattle.bpf_verify_sound.proofs.Moves.{ahead-goes}
 
 registers-after : (xs : List AbstractValue) (vs : List Value) (x : AbstractValue) (v : Value) → ContainEach xs vs

@@ -1,35 +1,20 @@
 -- Arithmetic goes on within the abstract states.
 use Rattle.std.proofs.Common.{◌≡◌, ℕ, false, not, is_none, refl, arith}
-use Rattle.bpf_insn_types.specs.declared.insn.Width.{Width}
-use Rattle.bpf_insn_types.specs.declared.insn.Width.TheVariants.{W64}
-use Rattle.bpf_insn_types.specs.declared.insn.AluOp.{AluOp}
-use Rattle.bpf_insn_types.specs.declared.insn.MovsxBits.{MovsxBits}
-use Rattle.bpf_insn_types.specs.declared.insn.ByteOrder.{ByteOrder}
-use Rattle.bpf_insn_types.specs.declared.insn.EndianBits.{EndianBits}
-use Rattle.bpf_insn_types.specs.declared.insn.Operand.{Operand}
-use Rattle.bpf_insn_types.specs.declared.insn.Insn.TheVariants.{Alu, Neg, Movsx, Endian}
-use Rattle.bpf_insn_types.specs.Program.{Program}
-use Rattle.bpf_insn_types.specs.Words.{negated, moved_signed, in_order}
-use Rattle.bpf_insn_types.specs.WordBounds.{ResultsFit}
-use Rattle.value_range.specs.declared.operation.Operation.{Operation}
-use Rattle.value_range.specs.declared.operation.Operation.TheVariants.{Neg as NegOperation}
-use Rattle.value_range.specs.declared.operation.Operation.TheVariants.{Movsx as MovsxOperation}
-use Rattle.value_range.specs.declared.operation.Operation.TheVariants.{Endian as EndianOperation}
-use Rattle.bpf_verify_model.specs.declared.abstract_value.AbstractValue.{AbstractValue}
-use Rattle.bpf_verify_model.specs.declared.abstract_value.AbstractValue.TheVariants as known
-use Rattle.bpf_verify_model.specs.declared.state.State.{State}
-use Rattle.bpf_verify_model.specs.States.{known_register}
+use Rattle.bpf_insn_types.specs.declared.insn.{Width.{Width, TheVariants.{W64}}, AluOp.{AluOp}, MovsxBits.{MovsxBits}}
+use Rattle.bpf_insn_types.specs.declared.insn.{ByteOrder.{ByteOrder}, EndianBits.{EndianBits}, Operand.{Operand}}
+use Rattle.bpf_insn_types.specs.{declared.insn.Insn.TheVariants.{Alu, Neg, Movsx, Endian}, Program.{Program}}
+use Rattle.bpf_insn_types.specs.{Words.{negated, moved_signed, in_order}, WordBounds.{ResultsFit}}
+use Rattle.value_range.specs.declared.operation.Operation.{Operation, TheVariants.{Endian as EndianOperation}}
+use Rattle.value_range.specs.declared.operation.Operation.TheVariants.{Neg as NegOperation, Movsx as MovsxOperation}
+use Rattle.bpf_verify_model.specs.declared.{abstract_value.AbstractValue.{AbstractValue}, state.State.{State}}
+use Rattle.bpf_verify_model.specs.{States.{known_register}, Flow.{flow, known_behind}}
 use Rattle.bpf_verify_model.specs.Values.{known_operand, known_of_number, known_result, is_number_value}
-use Rattle.bpf_verify_model.specs.Flow.{flow, known_behind}
-use Rattle.bpf_step_model.specs.State.{Machine, register}
-use Rattle.bpf_step_model.specs.Values.{operand_value, on_word, result_of}
+use Rattle.bpf_verify_model.specs.declared.abstract_value.AbstractValue.TheVariants as known
+use Rattle.bpf_step_model.specs.{State.{Machine, register}, Values.{operand_value, on_word, result_of}}
 use Rattle.bpf_step_model.specs.Step.{insn_step}
-use Rattle.bpf_verify_sound.specs.Containment.{Contained}
-use Rattle.bpf_verify_sound.specs.Standing.{KeepsRules}
-use Rattle.bpf_verify_sound.specs.Ways.{StepFlows}
-use Rattle.bpf_verify_sound.proofs.NumberLaws.{number-follows, result-follows}
+use Rattle.bpf_verify_sound.specs.{Containment.{Contained}, Standing.{KeepsRules}, Ways.{StepFlows}}
+use Rattle.bpf_verify_sound.proofs.{NumberLaws.{number-follows, result-follows}, Moves.{follows-on, sets-flows}}
 use Rattle.bpf_verify_sound.proofs.Operands.{register-known, register-span, operand-known, operand-has_span}
-use Rattle.bpf_verify_sound.proofs.Moves.{follows-on, sets-flows}
 
 number-there : (operation : Operation) (width : Width) (x : AbstractValue) → not (is_number_value x) ≡ false
     → is_none (known_of_number operation width x) ≡ false

@@ -1,47 +1,28 @@
 -- Atomic operations go on within the abstract states.
-use Rattle.std.proofs.Common.{◌≡◌, ℕ, ◌+◌, ◌<◌, ◌≤◌, ◌^◌, Bool, true, false, not}
-use Rattle.std.proofs.Common.{Option, Some, None, refl, sym, ap, subst, arith}
-use Rattle.std.specs.Prelude.{ℤ, if◌then◌else◌}
-use Rattle.bpf_insn_types.specs.Sizes.{atomic_bytes}
-use Rattle.bpf_insn_types.specs.declared.insn.Width.{Width}
-use Rattle.bpf_insn_types.specs.declared.insn.Width.TheVariants.{W32, W64}
-use Rattle.bpf_insn_types.specs.declared.insn.AtomicOp.{AtomicOp}
+use Rattle.std.proofs.Common.{◌≡◌, ℕ, ◌+◌, ◌<◌, ◌≤◌, ◌^◌, Bool, true, false, not, Option, Some, None, refl, sym, ap}
+use Rattle.std.{proofs.Common.{subst, arith}, specs.Prelude.{ℤ, if◌then◌else◌}}
+use Rattle.bpf_insn_types.specs.{Sizes.{atomic_bytes}, declared.insn.Width.{Width, TheVariants.{W32, W64}}}
+use Rattle.bpf_insn_types.specs.{declared.insn.{AtomicOp.{AtomicOp}, Insn.TheVariants.{Atomic}}, Words.{modulus}}
 use Rattle.bpf_insn_types.specs.declared.insn.AtomicOp.TheVariants.{Simple, Fetch as FetchOp, Xchg as XchgOp, Cmpxchg}
-use Rattle.bpf_insn_types.specs.declared.insn.Insn.TheVariants.{Atomic}
 use Rattle.bpf_insn_types.specs.Program.{Program, leads_to}
-use Rattle.bpf_insn_types.specs.Words.{modulus}
-use Rattle.array_maps.specs.declared.access.Part.{Part}
-use Rattle.array_maps.specs.declared.access.Part.TheVariants.{Whole, Half as Of}
-use Rattle.array_maps.specs.Halves.{part_of}
-use Rattle.value_range.specs.Spans.{top}
-use Rattle.value_range.proofs.SpanLaws.{top-contains}
-use Rattle.bpf_verify_model.specs.declared.abstract_value.AbstractValue.{AbstractValue}
-use Rattle.bpf_verify_model.specs.declared.abstract_value.AbstractValue.TheVariants as known
-use Rattle.bpf_verify_model.specs.declared.memory_access.MemoryAccess.{MemoryAccess}
-use Rattle.bpf_verify_model.specs.declared.memory_access.AccessKind.TheVariants.{Changes}
-use Rattle.bpf_verify_model.specs.declared.state.State.{State}
-use Rattle.bpf_verify_model.specs.States.{known_register, with_known}
-use Rattle.bpf_verify_model.specs.Values.{is_number_value}
+use Rattle.array_maps.specs.{declared.access.Part.{Part, TheVariants.{Whole, Half as Of}}, Halves.{part_of}}
+use Rattle.value_range.{specs.Spans.{top}, proofs.SpanLaws.{top-contains}}
+use Rattle.bpf_verify_model.specs.declared.{abstract_value.AbstractValue.{AbstractValue}, state.State.{State}}
+use Rattle.bpf_verify_model.specs.declared.memory_access.{MemoryAccess.{MemoryAccess}, AccessKind.TheVariants.{Changes}}
+use Rattle.bpf_verify_model.specs.{States.{known_register, with_known}, Values.{is_number_value}}
 use Rattle.bpf_verify_model.specs.Accesses.{has_unwritten_byte, is_ctx}
 use Rattle.bpf_verify_model.specs.Rules.{fetches_into_r10, compares_with_no_number}
 use Rattle.bpf_verify_model.specs.Flow.{with_fetched, ahead_outflow, flow, known_behind}
+use Rattle.bpf_verify_model.specs.declared.abstract_value.AbstractValue.TheVariants as known
 use Rattle.bpf_step_model.specs.State.{Value, Word, Machine, register, advanced, with_register, with_frame}
 use Rattle.bpf_step_model.specs.Memory.{Place, InFrame, InMap, written_at, number_at, place}
-use Rattle.bpf_step_model.specs.SoundMachine.{SoundMachine}
-use Rattle.bpf_step_model.specs.Step.{NoStep, tells, atomic_left, changes_frame, request_of, changes_at}
-use Rattle.bpf_step_model.specs.Step.{changes, may_tell, compared_value, insn_step}
+use Rattle.bpf_step_model.specs.{SoundMachine.{SoundMachine}, Step.{may_tell, compared_value, insn_step}}
+use Rattle.bpf_step_model.specs.Step.{NoStep, tells, atomic_left, changes_frame, request_of, changes_at, changes}
 use Rattle.bpf_step_model.specs.Run.{after_request, part_bytes}
-use Rattle.bpf_verify_sound.specs.Containment.{ContainsValue, Contained}
-use Rattle.bpf_verify_sound.specs.KnownStates.{IsWellFormedState}
-use Rattle.bpf_verify_sound.specs.Standing.{KeepsRules}
-use Rattle.bpf_verify_sound.specs.Ways.{GoesBy, StepFlows}
-use Rattle.bpf_verify_sound.proofs.RegisterLaws.{contain-set}
-use Rattle.bpf_verify_sound.proofs.ByteLaws.{IsNumberOf, write-unknown}
-use Rattle.bpf_verify_sound.proofs.PlaceLaws.{PlaceIs}
-use Rattle.bpf_verify_sound.proofs.AccessLaws.{accesses}
-use Rattle.bpf_verify_sound.proofs.Operands.{register-known}
-use Rattle.bpf_verify_sound.proofs.Loads.{part-below, own-number}
-use Rattle.bpf_verify_sound.proofs.Stores.{same-ahead}
+use Rattle.bpf_verify_sound.specs.{Containment.{ContainsValue, Contained}, KnownStates.{IsWellFormedState}}
+use Rattle.bpf_verify_sound.{specs.{Standing.{KeepsRules}, Ways.{GoesBy, StepFlows}}, proofs.RegisterLaws.{contain-set}}
+use Rattle.bpf_verify_sound.proofs.{ByteLaws.{IsNumberOf, write-unknown}, PlaceLaws.{PlaceIs}, AccessLaws.{accesses}}
+use Rattle.bpf_verify_sound.proofs.{Operands.{register-known}, Loads.{part-below, own-number}, Stores.{same-ahead}}
 use Rattle.bpf_verify_sound.proofs.Moves.{follows-on, ahead-goes}
 use Rattle.bpf_verify_sound.proofs.Tests.{not-not-true, or-left, or-right, test-fails, test-later}
 

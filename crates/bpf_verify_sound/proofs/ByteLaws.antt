@@ -1,16 +1,11 @@
 -- The bytes of a frame, and which of them are known to be written.
 use Rattle.std.proofs.Common.{◌≡◌, ℕ, zero, suc, ◌+◌, ◌-◌, ◌^◌, ◌<◌, ◌≤◌, Bool, true, false, List, [], ◌∷◌, ◌++◌}
 use Rattle.std.proofs.Common.{length, take, drop, replicate, map, Option, Some, None, refl, sym, ap, ◌∙◌, subst, arith}
-use Rattle.std.specs.Prelude.{slice_range}
-use Rattle.std.specs.List.{list_all}
-use Rattle.std.specs.Int.{bytes_low_first, byte_at}
-use Rattle.std.proofs.Math.Nat.{pow-suc}
-use Rattle.std.proofs.lemmas.List.{length-take-le, length-drop, length-append, take-append-drop}
-use Rattle.std.proofs.lemmas.List.{append_assoc, length-replicate}
-use Rattle.std.proofs.lemmas.List.Folds.{drop_split}
+use Rattle.std.specs.{Prelude.{slice_range}, List.{list_all}, Int.{bytes_low_first, byte_at}}
+use Rattle.std.proofs.{Math.Nat.{pow-suc}, lemmas.List.{length-replicate, Folds.{drop_split}}}
+use Rattle.std.proofs.lemmas.List.{length-take-le, length-drop, length-append, take-append-drop, append_assoc}
 use Rattle.bpf_verify_model.specs.Written.{all_written, written_from}
-use Rattle.bpf_step_model.specs.State.{Bytes}
-use Rattle.bpf_step_model.specs.Memory.{with_low_byte, number_of, number_at, written_at}
+use Rattle.bpf_step_model.specs.{State.{Bytes}, Memory.{with_low_byte, number_of, number_at, written_at}}
 use Rattle.bpf_verify_sound.specs.Containment.{IsWritten, AreWritten}
 
 -- a number of n bytes

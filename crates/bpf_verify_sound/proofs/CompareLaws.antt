@@ -1,32 +1,20 @@
 -- What a comparison says is the abstract state on the edge that it takes.
-use Rattle.std.proofs.Common.{◌≡◌, ℕ, zero, ◌<◌, ◌%◌, ◌^◌, Bool, true, false, not, Option}
-use Rattle.std.proofs.Common.{Some, None, refl, sym, ap, ◌∙◌, subst, arith}
-use Rattle.std.specs.Prelude.{ℤ, pos, ◌==◌, if◌then◌else◌, FitsSigned}
-use Rattle.std.specs.Int.{w32}
+use Rattle.std.proofs.Common.{◌≡◌, ℕ, zero, ◌<◌, ◌%◌, ◌^◌, Bool, true, false, not, Option, Some, None, refl, sym, ap}
+use Rattle.std.{proofs.Common.{◌∙◌, subst, arith}, specs.{Prelude.{ℤ, pos, ◌==◌, if◌then◌else◌, FitsSigned}, Int.{w32}}}
 use Rattle.std.proofs.lemmas.Int.{ints}
-use Rattle.bpf_insn_types.specs.declared.insn.Width.{Width}
-use Rattle.bpf_insn_types.specs.declared.insn.Width.TheVariants.{W32, W64}
-use Rattle.bpf_insn_types.specs.declared.insn.Compare.{Compare}
-use Rattle.bpf_insn_types.specs.declared.insn.Compare.TheVariants.{Eq, Ne}
-use Rattle.bpf_insn_types.specs.declared.insn.Operand.{Operand}
-use Rattle.bpf_insn_types.specs.declared.insn.Operand.TheVariants.{Imm, Reg}
-use Rattle.bpf_insn_types.specs.Values.{OperandFits}
-use Rattle.bpf_insn_types.specs.Words.{word_of, holds, modulus, compared}
-use Rattle.value_range.specs.Spans.{Span, IsSpan, Contains, exact}
-use Rattle.value_range.specs.declared.condition.Condition.TheVariants.{Holds}
-use Rattle.value_range.specs.RefineRows.{Refined, refined, opposite}
-use Rattle.value_range.specs.RefineLaw.{RefinedContains}
-use Rattle.value_range.proofs.SpanLaws.{exact-span, exact-contains}
-use Rattle.value_range.proofs.ConditionLaws.{opposite_says}
+use Rattle.bpf_insn_types.specs.declared.insn.{Width.{Width, TheVariants.{W32, W64}}, Compare.{Compare}}
+use Rattle.bpf_insn_types.specs.declared.insn.{Compare.TheVariants.{Eq, Ne}, Operand.{Operand, TheVariants.{Imm, Reg}}}
+use Rattle.bpf_insn_types.specs.{Values.{OperandFits}, Words.{word_of, holds, modulus, compared}}
+use Rattle.value_range.specs.{Spans.{Span, IsSpan, Contains, exact}, declared.condition.Condition.TheVariants.{Holds}}
+use Rattle.value_range.specs.{RefineRows.{Refined, refined, opposite}, RefineLaw.{RefinedContains}}
+use Rattle.value_range.proofs.{SpanLaws.{exact-span, exact-contains}, ConditionLaws.{opposite_says}}
 use Rattle.value_range.proofs.RefineContains.{refined-has}
-use Rattle.bpf_verify_model.specs.declared.abstract_value.AbstractValue.{AbstractValue}
-use Rattle.bpf_verify_model.specs.declared.abstract_value.AbstractValue.TheVariants as known
-use Rattle.bpf_verify_model.specs.declared.state.State.{State}
-use Rattle.bpf_verify_model.specs.declared.outflow.BranchStates.{BranchStates}
-use Rattle.bpf_verify_model.specs.States.{known_register, with_known}
+use Rattle.bpf_verify_model.specs.declared.{abstract_value.AbstractValue.{AbstractValue}, state.State.{State}}
+use Rattle.bpf_verify_model.specs.{declared.outflow.BranchStates.{BranchStates}, States.{known_register, with_known}}
 use Rattle.bpf_verify_model.specs.Values.{known_operand, is_number_value, is_null_check, compares}
 use Rattle.bpf_verify_model.specs.Flow.{compared_imm, refines, unrefined_branch, number_branch, register_branch}
 use Rattle.bpf_verify_model.specs.Flow.{operand_branch, null_check_branch, branch_states}
+use Rattle.bpf_verify_model.specs.declared.abstract_value.AbstractValue.TheVariants as known
 use Rattle.bpf_step_model.specs.State.{Value, Word, Area, Machine, register}
 use Rattle.bpf_step_model.specs.Values.{operand_value, on_two_words, comparison_of}
 use Rattle.bpf_verify_sound.specs.Containment.{ContainsValue, Contained, ContainedIf}

@@ -1,31 +1,20 @@
 -- Where each instruction goes on, and that a caller's frame stays: the machine by itself.
-use Rattle.std.proofs.Common.{◌≡◌, ℕ, suc, ◌+◌, ◌≤◌, max, ◌⊎◌, inl, inr, Bool, true}
-use Rattle.std.proofs.Common.{false, Option, Some, None, refl, sym, subst, arith}
-use Rattle.std.specs.Prelude.{ℤ, pos, nat_le, ◌==◌, if◌then◌else◌, slice_get}
+use Rattle.std.proofs.Common.{◌≡◌, ℕ, suc, ◌+◌, ◌≤◌, max, ◌⊎◌, inl, inr, Bool, true, false, Option, Some, None, refl}
+use Rattle.std.{proofs.Common.{sym, subst, arith}, specs.Prelude.{ℤ, pos, nat_le, ◌==◌, if◌then◌else◌, slice_get}}
 use Rattle.std.proofs.lemmas.Bool.Decides.{nat_tests}
-use Rattle.bpf_insn_types.specs.Sizes.{bytes_of, atomic_bytes}
-use Rattle.bpf_insn_types.specs.Slots.{slots_of}
-use Rattle.bpf_insn_types.specs.declared.insn.Width.{Width}
-use Rattle.bpf_insn_types.specs.declared.insn.AtomicOp.{AtomicOp}
+use Rattle.bpf_insn_types.specs.{Sizes.{bytes_of, atomic_bytes}, Slots.{slots_of}, declared.insn.Width.{Width}}
+use Rattle.bpf_insn_types.specs.declared.insn.{AtomicOp.{AtomicOp}, Compare.{Compare}, Operand.{Operand}, Insn.{Insn}}
 use Rattle.bpf_insn_types.specs.declared.insn.AtomicOp.TheVariants.{Simple, Fetch as FetchOp, Xchg as XchgOp, Cmpxchg}
-use Rattle.bpf_insn_types.specs.declared.insn.Compare.{Compare}
-use Rattle.bpf_insn_types.specs.declared.insn.Operand.{Operand}
-use Rattle.bpf_insn_types.specs.declared.insn.Callee.{Callee}
+use Rattle.bpf_insn_types.specs.declared.insn.{Callee.{Callee}, Insn.TheVariants.{Atomic, LoadImm}}
+use Rattle.bpf_insn_types.specs.declared.insn.Insn.TheVariants.{Alu, Neg, Movsx, Endian, Ja, Ja32, Jump, Call, Exit}
+use Rattle.bpf_insn_types.specs.declared.insn.Insn.TheVariants.{Load as LoadInsn, LoadSx, StoreImm, Store as StoreInsn}
+use Rattle.bpf_insn_types.specs.declared.extension.Extension.{Extension, TheVariants.{Zeros, Signs}}
+use Rattle.bpf_insn_types.specs.{Program.{Program, moved}, Words.{word_of, negated, moved_signed, in_order}}
 use Rattle.bpf_insn_types.specs.declared.insn.Callee.TheVariants as callee
-use Rattle.bpf_insn_types.specs.declared.insn.Insn.{Insn}
-use Rattle.bpf_insn_types.specs.declared.insn.Insn.TheVariants.{Alu, Neg, Movsx, Endian, Ja, Ja32, Jump, Call}
-use Rattle.bpf_insn_types.specs.declared.insn.Insn.TheVariants.{Exit, Load as LoadInsn, LoadSx, StoreImm}
-use Rattle.bpf_insn_types.specs.declared.insn.Insn.TheVariants.{Store as StoreInsn, Atomic, LoadImm}
-use Rattle.bpf_insn_types.specs.declared.extension.Extension.{Extension}
-use Rattle.bpf_insn_types.specs.declared.extension.Extension.TheVariants.{Zeros, Signs}
-use Rattle.bpf_insn_types.specs.Program.{Program, moved}
-use Rattle.bpf_insn_types.specs.Words.{word_of, negated, moved_signed, in_order}
-use Rattle.bpf_verify_model.specs.Rules.{jump_distance, jump_target, goes_on}
-use Rattle.bpf_verify_model.specs.Count.{behind_jump, through}
-use Rattle.bpf_step_model.specs.State.{Value, Word, Frame, Map, Code, Bytes, Machine, register}
-use Rattle.bpf_step_model.specs.State.{advanced, with_register, with_frame}
+use Rattle.bpf_verify_model.specs.{Rules.{jump_distance, jump_target, goes_on}, Count.{behind_jump, through}}
+use Rattle.bpf_step_model.specs.State.{Value, Word, Frame, Map, Code, Bytes, Machine, register, advanced, with_register}
+use Rattle.bpf_step_model.specs.{State.{with_frame}, Values.{operand_value, on_word, result_of, comparison_of}}
 use Rattle.bpf_step_model.specs.Memory.{Place, InFrame, InCaller, InMap, number_at, written_at, place}
-use Rattle.bpf_step_model.specs.Values.{operand_value, on_word, result_of, comparison_of}
 use Rattle.bpf_step_model.specs.LoopCalls.{Validity, RefusedAs, Valid, call_validity}
 use Rattle.bpf_step_model.specs.Step.{Load, StepOutcome, NoStep, Next, Asks, Loops, Refuses, Exits, sets, jumps}
 use Rattle.bpf_step_model.specs.Step.{branches, loaded, caller_number, loads, stores_at, stores, tells, atomic_left}

@@ -1,28 +1,20 @@
 -- A run of an accepted program ends within the longest path from its slot on, and a callback's at an exit.
-use Rattle.std.proofs.Common.{◌≡◌, ℕ, zero, suc, ◌+◌, ◌<◌, ◌≤◌, ◌^◌, Bool, true, false, List, [], ◌∷◌}
-use Rattle.std.proofs.Common.{get_or, Option, Some, None, is_some, refl, sym, ap, ◌∙◌, subst, arith}
-use Rattle.std.specs.Prelude.{◌==◌, slice_get, if◌then◌else◌}
-use Rattle.std.specs.List.{sum}
-use Rattle.std.proofs.lemmas.Bool.Decides.{nat_tests}
+use Rattle.std.proofs.Common.{◌≡◌, ℕ, zero, suc, ◌+◌, ◌<◌, ◌≤◌, ◌^◌, Bool, true, false, List, [], ◌∷◌, get_or, Option}
+use Rattle.std.{proofs.Common.{Some, None, is_some, refl, sym, ap, ◌∙◌, subst, arith}, specs.List.{sum}}
+use Rattle.std.{specs.Prelude.{◌==◌, slice_get, if◌then◌else◌}, proofs.lemmas.Bool.Decides.{nat_tests}}
 use Rattle.std.proofs.lemmas.Option.{slice_get-get_or}
 use Rattle.array_maps.specs.Accesses.{Access, left_by, words_after}
-use Rattle.bpf_insn_types.specs.declared.insn.Insn.{Insn}
-use Rattle.bpf_insn_types.specs.Program.{Program, insn_at, slot_count, leads_to}
+use Rattle.bpf_insn_types.specs.{declared.insn.Insn.{Insn}, Program.{Program, insn_at, slot_count, leads_to}}
 use Rattle.bpf_insn_types.specs.WordBounds.{ResultsFit}
-use Rattle.bpf_verify_model.specs.Count.{JumpsForward, through}
-use Rattle.bpf_verify_model.proofs.JumpLaws.{jumps_forward}
-use Rattle.bpf_verify_model.proofs.LongestLaws.{longest-step}
-use Rattle.bpf_verify_model.proofs.PathLaws.{through-some}
-use Rattle.bpf_step_model.specs.State.{Bytes, Machine}
+use Rattle.bpf_verify_model.{specs.Count.{JumpsForward, through}, proofs.JumpLaws.{jumps_forward}}
+use Rattle.bpf_verify_model.proofs.{LongestLaws.{longest-step}, PathLaws.{through-some}}
+use Rattle.bpf_step_model.specs.{State.{Bytes, Machine}, Run.{mapped, with_first_step, after_access, after_step, run}}
 use Rattle.bpf_step_model.specs.Step.{Request, Load, Store, StoreHalf, Update, Fetch, StepOutcome, NoStep, Next, Asks}
 use Rattle.bpf_step_model.specs.Step.{Loops, Refuses, Exits, within_function, insn_step, insn_step_if_any, step}
 use Rattle.bpf_step_model.specs.Run.{BoundedResult, Ended, Stuck, Unfinished, RunSegment, after_request, action_of}
-use Rattle.bpf_step_model.specs.Run.{mapped, with_first_step, after_access, after_step, run}
 use Rattle.bpf_verify_sound.specs.Soundness.{IsSoundProgram, AreMapWords, OverApproximates, StepsOverApproximated}
 use Rattle.bpf_verify_sound.specs.Soundness.{most_from, most_after, EndsWithin, EndsAtExit}
-use Rattle.bpf_verify_sound.proofs.RuleLaws.{accepted-within}
-use Rattle.bpf_verify_sound.proofs.EntryLaws.{accepted-some}
-use Rattle.bpf_verify_sound.proofs.Moves.{after_request-slot}
+use Rattle.bpf_verify_sound.proofs.{RuleLaws.{accepted-within}, EntryLaws.{accepted-some}, Moves.{after_request-slot}}
 use Rattle.bpf_verify_sound.proofs.RunLaws.{step-known, word-at, words-known}
 use Rattle.bpf_verify_sound.proofs.CountForms.{IsNextSlot, through-next, MoveNext, IsReturn, insn_step-next}
 

@@ -1,27 +1,15 @@
 -- A function that ends does so well.
-use Rattle.std.proofs.Common.{◌≡◌, ℕ, zero, suc, ◌≤◌, Bool, true, false, Option}
-use Rattle.std.proofs.Common.{Some, None, is_some, refl, sym, subst, arith}
-use Rattle.std.specs.Prelude.{nat_lt, nat_le, if◌then◌else◌}
-use Rattle.std.proofs.lemmas.Bool.Decides.{nat_tests}
-use Rattle.bpf_insn_types.specs.declared.insn.Insn.TheVariants.{Exit}
-use Rattle.bpf_insn_types.specs.Program.{Program, function_of}
-use Rattle.bpf_verify_model.specs.declared.abstract_value.AbstractValue.{AbstractValue}
+use Rattle.std.proofs.Common.{◌≡◌, ℕ, zero, suc, ◌≤◌, Bool, true, false, Option, Some, None, is_some, refl, sym, subst}
+use Rattle.std.{proofs.{Common.{arith}, lemmas.Bool.Decides.{nat_tests}}, specs.Prelude.{nat_lt, nat_le, if◌then◌else◌}}
+use Rattle.bpf_insn_types.specs.{declared.insn.Insn.TheVariants.{Exit}, Program.{Program, function_of}}
+use Rattle.bpf_verify_model.specs.declared.{abstract_value.AbstractValue.{AbstractValue}, outflow.Outflow.{Outflow}}
+use Rattle.bpf_verify_model.specs.{declared.{rule.Rule.{Rule}, state.State.{State}}, States.{known_register}}
+use Rattle.bpf_verify_model.specs.{Values.{is_number_value}, Rules.{is_bit, end_fault}, Flow.{flow}}
 use Rattle.bpf_verify_model.specs.declared.abstract_value.AbstractValue.TheVariants as known
-use Rattle.bpf_verify_model.specs.declared.outflow.Outflow.{Outflow}
-use Rattle.bpf_verify_model.specs.declared.rule.Rule.{Rule}
-use Rattle.bpf_verify_model.specs.declared.state.State.{State}
-use Rattle.bpf_verify_model.specs.States.{known_register}
-use Rattle.bpf_verify_model.specs.Values.{is_number_value}
-use Rattle.bpf_verify_model.specs.Rules.{is_bit, end_fault}
-use Rattle.bpf_verify_model.specs.Flow.{flow}
-use Rattle.bpf_step_model.specs.State.{Value, Word, Bytes, Machine, register}
-use Rattle.bpf_step_model.specs.SoundMachine.{SoundMachine}
+use Rattle.bpf_step_model.specs.{State.{Value, Word, Bytes, Machine, register}, SoundMachine.{SoundMachine}}
 use Rattle.bpf_step_model.specs.Step.{NoStep, Exits, ends_with, ends, insn_step}
-use Rattle.bpf_verify_sound.specs.Containment.{ContainsValue, Contained}
-use Rattle.bpf_verify_sound.specs.Standing.{KeepsRules}
-use Rattle.bpf_verify_sound.specs.Ways.{StepFlows}
-use Rattle.bpf_verify_sound.proofs.Operands.{register-known}
-use Rattle.bpf_verify_sound.proofs.AtomicForms.{number-word_of}
+use Rattle.bpf_verify_sound.specs.{Containment.{ContainsValue, Contained}, Standing.{KeepsRules}, Ways.{StepFlows}}
+use Rattle.bpf_verify_sound.proofs.{Operands.{register-known}, AtomicForms.{number-word_of}}
 
 kept : (test : Bool) (rule : Rule) → (if test then None else Some rule) ≡ None → test ≡ true
 kept true rule e = refl

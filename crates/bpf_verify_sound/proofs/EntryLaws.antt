@@ -1,13 +1,10 @@
 -- Main starts within the abstract states.
-use Rattle.std.proofs.Common.{◌≡◌, ℕ, ◌<◌, ◌^◌, Bool, true, false, List, [], ◌∷◌}
-use Rattle.std.proofs.Common.{Option, Some, None, is_some, refl, sym, subst}
-use Rattle.std.specs.Prelude.{◌==◌, if◌then◌else◌}
-use Rattle.bpf_insn_types.specs.declared.insn.Width.TheVariants.{W64}
-use Rattle.bpf_insn_types.specs.declared.insn.Insn.{Insn}
+use Rattle.std.proofs.Common.{◌≡◌, ℕ, ◌<◌, ◌^◌, Bool, true, false, List, [], ◌∷◌, Option, Some, None, is_some, refl}
+use Rattle.std.{proofs.Common.{sym, subst}, specs.Prelude.{◌==◌, if◌then◌else◌}}
+use Rattle.bpf_insn_types.specs.declared.insn.{Width.TheVariants.{W64}, Insn.{Insn}}
 use Rattle.bpf_insn_types.specs.Program.{Program, insn_at, slot_count}
 use Rattle.value_range.proofs.SpanLaws.{top-contains}
-use Rattle.bpf_verify_model.specs.States.{known_main_entry}
-use Rattle.bpf_verify_model.specs.Inflow.{incoming, state_before}
+use Rattle.bpf_verify_model.specs.{States.{known_main_entry}, Inflow.{incoming, state_before}}
 use Rattle.bpf_verify_model.specs.Accepted.{Accepted, first_fault}
 use Rattle.bpf_step_model.specs.State.{main_entry}
 use Rattle.bpf_verify_sound.specs.Containment.{Contained, ContainedIf, ContainedBefore}

@@ -1,40 +1,23 @@
 -- Each instruction that breaks no rule goes on within the abstract states.
-use Rattle.std.proofs.Common.{◌≡◌, ℕ, zero, suc, ◌+◌, Bool, true, false, Option}
-use Rattle.std.proofs.Common.{Some, None, is_none, refl, sym, ap, ◌∙◌}
-use Rattle.std.specs.Prelude.{ℤ, pos, negsuc, ◌==◌, if◌then◌else◌}
-use Rattle.bpf_insn_types.specs.declared.insn.Callee.{Callee}
+use Rattle.std.proofs.Common.{◌≡◌, ℕ, zero, suc, ◌+◌, Bool, true, false, Option, Some, None, is_none, refl, sym, ap}
+use Rattle.std.{proofs.Common.{◌∙◌}, specs.Prelude.{ℤ, pos, negsuc, ◌==◌, if◌then◌else◌}}
+use Rattle.bpf_insn_types.specs.declared.insn.{Callee.{Callee}, Insn.{Insn, TheVariants.{Atomic, LoadImm}}}
+use Rattle.bpf_insn_types.specs.declared.insn.Insn.TheVariants.{Alu, Neg, Movsx, Endian, Ja, Ja32, Jump, Call, Exit}
+use Rattle.bpf_insn_types.specs.declared.insn.Insn.TheVariants.{Load as LoadInsn, LoadSx, StoreImm, Store as StoreInsn}
+use Rattle.bpf_insn_types.specs.{Limits.{sizes_fit}, Program.{Program, function_of, leads_to}, WordBounds.{ResultsFit}}
 use Rattle.bpf_insn_types.specs.declared.insn.Callee.TheVariants as callee
-use Rattle.bpf_insn_types.specs.declared.insn.Insn.{Insn}
-use Rattle.bpf_insn_types.specs.declared.insn.Insn.TheVariants.{Alu, Neg, Movsx, Endian, Ja, Ja32, Jump, Call}
-use Rattle.bpf_insn_types.specs.declared.insn.Insn.TheVariants.{Exit, Load as LoadInsn, LoadSx, StoreImm}
-use Rattle.bpf_insn_types.specs.declared.insn.Insn.TheVariants.{Store as StoreInsn, Atomic, LoadImm}
-use Rattle.bpf_insn_types.specs.Limits.{sizes_fit}
-use Rattle.bpf_insn_types.specs.Program.{Program, function_of, leads_to}
-use Rattle.bpf_insn_types.specs.WordBounds.{ResultsFit}
-use Rattle.bpf_verify_model.specs.declared.helper.Helper.{Helper}
-use Rattle.bpf_verify_model.specs.declared.helper.Helper.TheVariants.{Lookup, Loop}
+use Rattle.bpf_verify_model.specs.declared.{helper.Helper.{Helper, TheVariants.{Lookup, Loop}}, state.State.{State}}
 use Rattle.bpf_verify_model.specs.declared.rule.Rule.TheVariants.{NestedCallback}
-use Rattle.bpf_verify_model.specs.declared.state.State.{State}
 use Rattle.bpf_verify_model.specs.Rules.{helper_fault, callback_fault, is_loop, uses_callbacks}
 use Rattle.bpf_verify_model.specs.Flow.{flow, known_behind, known_after_call, known_answer, calls_back, edge_to}
-use Rattle.bpf_step_model.specs.State.{Machine, register}
-use Rattle.bpf_step_model.specs.Memory.{place}
-use Rattle.bpf_step_model.specs.SoundMachine.{SoundMachine}
+use Rattle.bpf_step_model.specs.{State.{Machine, register}, Memory.{place}, SoundMachine.{SoundMachine}}
 use Rattle.bpf_step_model.specs.Step.{StepOutcome, NoStep, looks_up, key_at, loops, insn_step}
-use Rattle.bpf_verify_sound.specs.Containment.{Contained}
-use Rattle.bpf_verify_sound.specs.KnownStates.{IsWellFormedState}
-use Rattle.bpf_verify_sound.specs.Standing.{KeepsRules}
-use Rattle.bpf_verify_sound.specs.Ways.{StepFlows}
-use Rattle.bpf_verify_sound.proofs.Arithmetic.{alu-flows, neg-flows, movsx-flows, endian-flows}
-use Rattle.bpf_verify_sound.proofs.Jumps.{ja-flows, ja32-flows, branch-known}
-use Rattle.bpf_verify_sound.proofs.Loads.{load-flows, load_sx-flows}
-use Rattle.bpf_verify_sound.proofs.Stores.{store_imm-flows, store-flows}
-use Rattle.bpf_verify_sound.proofs.AtomicForms.{atomic-flows}
-use Rattle.bpf_verify_sound.proofs.WideForms.{load_imm-flows}
-use Rattle.bpf_verify_sound.proofs.EndForms.{exit-flows}
-use Rattle.bpf_verify_sound.proofs.LookupForms.{lookup-flows}
-use Rattle.bpf_verify_sound.proofs.LoopForms.{loop-flows}
-use Rattle.bpf_verify_sound.proofs.Moves.{follows-on}
+use Rattle.bpf_verify_sound.specs.{Containment.{Contained}, KnownStates.{IsWellFormedState}, Standing.{KeepsRules}}
+use Rattle.bpf_verify_sound.{specs.Ways.{StepFlows}, proofs.Jumps.{ja-flows, ja32-flows, branch-known}}
+use Rattle.bpf_verify_sound.proofs.{Arithmetic.{alu-flows, neg-flows, movsx-flows, endian-flows}, EndForms.{exit-flows}}
+use Rattle.bpf_verify_sound.proofs.{Loads.{load-flows, load_sx-flows}, Stores.{store_imm-flows, store-flows}}
+use Rattle.bpf_verify_sound.proofs.{AtomicForms.{atomic-flows}, WideForms.{load_imm-flows}, LookupForms.{lookup-flows}}
+use Rattle.bpf_verify_sound.proofs.{LoopForms.{loop-flows}, Moves.{follows-on}}
 
 -- the helper by the two tests of its number, and what the machine does by them
 helper_by : Bool → Bool → Option Helper

@@ -1,16 +1,11 @@
 -- What flows to a slot is known before it.
-use Rattle.std.proofs.Common.{◌≡◌, ℕ, zero, suc, ◌<◌, inl, inr, Bool, true, false}
-use Rattle.std.proofs.Common.{Option, Some, None, refl, subst, arith}
-use Rattle.std.specs.Prelude.{◌==◌, nat_eq, if◌then◌else◌}
-use Rattle.std.proofs.lemmas.Bool.Decides.{nat_tests}
+use Rattle.std.proofs.Common.{◌≡◌, ℕ, zero, suc, ◌<◌, inl, inr, Bool, true, false, Option, Some, None, refl, subst}
+use Rattle.std.{proofs.{Common.{arith}, lemmas.Bool.Decides.{nat_tests}}, specs.Prelude.{◌==◌, nat_eq, if◌then◌else◌}}
 use Rattle.bpf_insn_types.specs.Program.{Program, insn_at}
-use Rattle.bpf_verify_model.specs.declared.state.State.{State}
-use Rattle.bpf_verify_model.specs.declared.outflow.Edge.{Edge}
-use Rattle.bpf_verify_model.specs.declared.outflow.Outflow.{Outflow}
+use Rattle.bpf_verify_model.specs.declared.{state.State.{State}, outflow.{Edge.{Edge}, Outflow.{Outflow}}}
 use Rattle.bpf_verify_model.specs.Inflow.{flow_from, joined_with, received, received_all, incoming, state_before}
 use Rattle.bpf_step_model.specs.State.{Machine}
-use Rattle.bpf_verify_sound.specs.Containment.{Contained, ContainedIf}
-use Rattle.bpf_verify_sound.specs.Ways.{EdgeLeadsTo, FlowsTo}
+use Rattle.bpf_verify_sound.specs.{Containment.{Contained, ContainedIf}, Ways.{EdgeLeadsTo, FlowsTo}}
 use Rattle.bpf_verify_sound.proofs.JoinLaws.{states-first, states-second}
 
 joined_with-first : (before : Option State) (state : State) (m : Machine) → ContainedIf before m

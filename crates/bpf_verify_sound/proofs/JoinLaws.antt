@@ -1,18 +1,14 @@
 -- The join of two abstract states contains a machine that one of them contains.
-use Rattle.std.proofs.Common.{◌≡◌, ℕ, Bool, true, false, ◌&&◌, List, [], ◌∷◌, Option, Some, None, refl, subst}
-use Rattle.std.specs.Prelude.{◌==◌, if◌then◌else◌}
-use Rattle.std.proofs.lemmas.Bool.Decides.{nat_tests}
-use Rattle.std.proofs.Common.{arith}
-use Rattle.value_range.specs.Spans.{Span, Contains, join}
-use Rattle.value_range.proofs.SpanLaws.{join-first, join-second}
-use Rattle.bpf_verify_model.specs.Written.{joined_written}
-use Rattle.bpf_verify_model.specs.declared.abstract_value.AbstractValue.{AbstractValue}
-use Rattle.bpf_verify_model.specs.declared.abstract_value.AbstractValue.TheVariants as known
+use Rattle.std.proofs.Common.{◌≡◌, ℕ, Bool, true, false, ◌&&◌, List, [], ◌∷◌, Option, Some, None, refl, subst, arith}
+use Rattle.std.{specs.Prelude.{◌==◌, if◌then◌else◌}, proofs.lemmas.Bool.Decides.{nat_tests}}
+use Rattle.value_range.{specs.Spans.{Span, Contains, join}, proofs.SpanLaws.{join-first, join-second}}
+use Rattle.bpf_verify_model.specs.{Written.{joined_written}, declared.abstract_value.AbstractValue.{AbstractValue}}
 use Rattle.bpf_verify_model.specs.declared.state.State.{State}
 use Rattle.bpf_verify_model.specs.States.{joined_values, joined_registers, joined_callers, joined_states}
+use Rattle.bpf_verify_model.specs.declared.abstract_value.AbstractValue.TheVariants as known
 use Rattle.bpf_step_model.specs.State.{Value, Unwritten, Word, Frame, Ctx, Map, Area, Code, Bytes, Machine}
-use Rattle.bpf_verify_sound.specs.Containment.{ContainsValue, ContainEach, IsWritten, AreWritten}
-use Rattle.bpf_verify_sound.specs.Containment.{AreWrittenByCaller, Contained}
+use Rattle.bpf_verify_sound.specs.Containment.{ContainsValue, ContainEach, IsWritten, AreWritten, AreWrittenByCaller}
+use Rattle.bpf_verify_sound.specs.Containment.{Contained}
 
 -- what is kept only where a test holds
 if_kept : (test : Bool) (x : AbstractValue) (v : Value) → (test ≡ true → ContainsValue x v)

@@ -1,27 +1,16 @@
 -- Jumps go on within the abstract states.
-use Rattle.std.proofs.Common.{◌≡◌, ℕ, ◌+◌, Bool, true, false, Option, Some, None, refl, arith}
-use Rattle.std.specs.Prelude.{ℤ}
-use Rattle.bpf_insn_types.specs.declared.insn.Width.{Width}
-use Rattle.bpf_insn_types.specs.declared.insn.Compare.{Compare}
-use Rattle.bpf_insn_types.specs.declared.insn.Operand.{Operand}
-use Rattle.bpf_insn_types.specs.declared.insn.Insn.TheVariants.{Ja, Ja32, Jump}
-use Rattle.bpf_insn_types.specs.Program.{Program, moved, leads_to}
-use Rattle.bpf_verify_model.specs.declared.state.State.{State}
-use Rattle.bpf_verify_model.specs.declared.outflow.BranchStates.{BranchStates}
-use Rattle.bpf_verify_model.specs.States.{known_register}
-use Rattle.bpf_verify_model.specs.Rules.{leads_later}
-use Rattle.bpf_verify_model.specs.Values.{compares}
+use Rattle.std.{proofs.Common.{◌≡◌, ℕ, ◌+◌, Bool, true, false, Option, Some, None, refl, arith}, specs.Prelude.{ℤ}}
+use Rattle.bpf_insn_types.specs.declared.insn.{Width.{Width}, Compare.{Compare}, Operand.{Operand}}
+use Rattle.bpf_insn_types.specs.{declared.insn.Insn.TheVariants.{Ja, Ja32, Jump}, Program.{Program, moved, leads_to}}
+use Rattle.bpf_verify_model.specs.declared.{state.State.{State}, outflow.BranchStates.{BranchStates}}
+use Rattle.bpf_verify_model.specs.{States.{known_register}, Rules.{leads_later}, Values.{compares}}
 use Rattle.bpf_verify_model.specs.Flow.{flow, edge_to, branch_states, branch_outflow}
-use Rattle.bpf_step_model.specs.State.{Machine, register, advanced}
-use Rattle.bpf_step_model.specs.Values.{comparison_of}
+use Rattle.bpf_step_model.specs.{State.{Machine, register, advanced}, Values.{comparison_of}}
 use Rattle.bpf_step_model.specs.Step.{insn_step, branches, jumps}
-use Rattle.bpf_verify_sound.specs.Containment.{Contained, ContainedIf}
-use Rattle.bpf_verify_sound.specs.Standing.{KeepsRules}
-use Rattle.bpf_verify_sound.specs.Ways.{GoesBy, StepFlows}
-use Rattle.bpf_verify_sound.proofs.CompareLaws.{WayFollows, compare-follows}
-use Rattle.bpf_verify_sound.proofs.Operands.{register-known, register-span}
+use Rattle.bpf_verify_sound.specs.{Containment.{Contained, ContainedIf}, Standing.{KeepsRules}}
+use Rattle.bpf_verify_sound.{specs.Ways.{GoesBy, StepFlows}, proofs.CompareLaws.{WayFollows, compare-follows}}
+use Rattle.bpf_verify_sound.proofs.{Operands.{register-known, register-span}, Tests.{not-not-true}}
 use Rattle.bpf_verify_sound.proofs.Moves.{follows-on, ahead-goes, jump-flows}
-use Rattle.bpf_verify_sound.proofs.Tests.{not-not-true}
 
 pub ja-flows : (program : Program) (m : Machine) (state : State) (offset : ℤ) → KeepsRules program m.slot (Ja offset)
     state → Contained state m →

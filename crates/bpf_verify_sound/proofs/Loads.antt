@@ -1,45 +1,27 @@
 -- Loads go on within the abstract states.
-use Rattle.std.proofs.Common.{◌≡◌, ℕ, ◌+◌, ◌-◌, ◌*◌, ◌^◌, ◌<◌, ◌≤◌, Bool, true, false, not}
-use Rattle.std.proofs.Common.{◌&&◌, List, Option, Some, None, refl, sym, subst, arith}
+use Rattle.std.proofs.Common.{◌≡◌, ℕ, ◌+◌, ◌-◌, ◌*◌, ◌^◌, ◌<◌, ◌≤◌, Bool, true, false, not, ◌&&◌, List, Option, Some}
+use Rattle.std.{proofs.{Common.{None, refl, sym, subst, arith}, lemmas.Bool.Decides.{nat_tests}}, specs.List.{sum}}
 use Rattle.std.specs.Prelude.{ℤ, pos, ◌+ℤ◌, nat_lt, nat_le, ◌==◌, if◌then◌else◌}
-use Rattle.std.specs.List.{sum}
-use Rattle.std.proofs.lemmas.Bool.Decides.{nat_tests}
-use Rattle.bpf_insn_types.specs.Sizes.{bytes_of}
-use Rattle.bpf_insn_types.specs.declared.insn.Size.{Size}
-use Rattle.bpf_insn_types.specs.declared.insn.Size.TheVariants.{B, H, W, Dw}
-use Rattle.bpf_insn_types.specs.declared.insn.Width.TheVariants.{W64}
-use Rattle.bpf_insn_types.specs.declared.insn.Insn.TheVariants.{Load as LoadInsn, LoadSx}
-use Rattle.bpf_insn_types.specs.declared.extension.Extension.{Extension}
-use Rattle.bpf_insn_types.specs.declared.extension.Extension.TheVariants.{Zeros, Signs}
+use Rattle.bpf_insn_types.specs.{Sizes.{bytes_of}, declared.insn.Size.{Size, TheVariants.{B, H, W, Dw}}}
+use Rattle.bpf_insn_types.specs.declared.insn.{Width.TheVariants.{W64}, Insn.TheVariants.{Load as LoadInsn, LoadSx}}
+use Rattle.bpf_insn_types.specs.declared.extension.Extension.{Extension, TheVariants.{Zeros, Signs}}
 use Rattle.bpf_insn_types.specs.Program.{Program, leads_to}
-use Rattle.array_maps.specs.declared.access.Half.TheVariants.{Low, High}
-use Rattle.array_maps.specs.declared.access.Part.{Part}
-use Rattle.array_maps.specs.declared.access.Part.TheVariants.{Whole, Half as Of}
+use Rattle.array_maps.specs.declared.access.{Half.TheVariants.{Low, High}, Part.{Part, TheVariants.{Whole, Half as Of}}}
 use Rattle.array_maps.specs.Halves.{half_of, part_of}
-use Rattle.value_range.specs.Spans.{top}
-use Rattle.value_range.proofs.SpanLaws.{norm-contains, top-contains}
-use Rattle.value_range.proofs.Multiples.{multiple-zero}
-use Rattle.bpf_verify_model.specs.Written.{all_written}
-use Rattle.bpf_verify_model.specs.declared.abstract_value.AbstractValue.{AbstractValue}
-use Rattle.bpf_verify_model.specs.declared.abstract_value.AbstractValue.TheVariants as known
-use Rattle.bpf_verify_model.specs.declared.memory_access.MemoryAccess.{MemoryAccess}
-use Rattle.bpf_verify_model.specs.declared.memory_access.AccessKind.TheVariants.{Reads}
-use Rattle.bpf_verify_model.specs.declared.state.State.{State}
-use Rattle.bpf_verify_model.specs.States.{known_register, with_known}
+use Rattle.value_range.{specs.Spans.{top}, proofs.{SpanLaws.{norm-contains, top-contains}, Multiples.{multiple-zero}}}
+use Rattle.bpf_verify_model.specs.{Written.{all_written}, declared.abstract_value.AbstractValue.{AbstractValue}}
+use Rattle.bpf_verify_model.specs.declared.memory_access.{MemoryAccess.{MemoryAccess}, AccessKind.TheVariants.{Reads}}
+use Rattle.bpf_verify_model.specs.{declared.state.State.{State}, States.{known_register, with_known}}
 use Rattle.bpf_verify_model.specs.Accesses.{lacks_bytes, caller_lacks, has_unwritten_byte}
 use Rattle.bpf_verify_model.specs.Flow.{number_of_size, ahead_outflow, flow, known_behind}
-use Rattle.bpf_step_model.specs.State.{Word, Bytes, Machine, register, advanced, with_register}
+use Rattle.bpf_verify_model.specs.declared.abstract_value.AbstractValue.TheVariants as known
+use Rattle.bpf_step_model.specs.{State.{Word, Bytes, Machine, register, advanced, with_register}, Run.{part_bytes}}
 use Rattle.bpf_step_model.specs.Memory.{Place, InFrame, InCaller, InMap, number_at, place}
 use Rattle.bpf_step_model.specs.SoundMachine.{SoundMachine, SoundCaller}
 use Rattle.bpf_step_model.specs.Step.{NoStep, Asks, Load, loads, loaded, extended, caller_number, insn_step}
-use Rattle.bpf_step_model.specs.Run.{part_bytes}
-use Rattle.bpf_verify_sound.specs.Containment.{ContainsValue, AreWrittenByCaller, Contained}
-use Rattle.bpf_verify_sound.specs.KnownStates.{HasCallerCount, IsWellFormedState}
-use Rattle.bpf_verify_sound.specs.Standing.{KeepsRules}
-use Rattle.bpf_verify_sound.specs.Ways.{FollowsValue, StepFlows}
-use Rattle.bpf_verify_sound.proofs.ByteLaws.{IsNumberOf, number-known}
-use Rattle.bpf_verify_sound.proofs.PlaceLaws.{PlaceIs}
-use Rattle.bpf_verify_sound.proofs.AccessLaws.{accesses}
+use Rattle.bpf_verify_sound.specs.{Containment.{ContainsValue, AreWrittenByCaller, Contained}, Standing.{KeepsRules}}
+use Rattle.bpf_verify_sound.specs.{KnownStates.{HasCallerCount, IsWellFormedState}, Ways.{FollowsValue, StepFlows}}
+use Rattle.bpf_verify_sound.proofs.{ByteLaws.{IsNumberOf, number-known}, PlaceLaws.{PlaceIs}, AccessLaws.{accesses}}
 use Rattle.bpf_verify_sound.proofs.Moves.{follows-on, ahead-goes, set-contained, sets-flows}
 use Rattle.bpf_verify_sound.proofs.Tests.{not-not-true, test-fails}
 

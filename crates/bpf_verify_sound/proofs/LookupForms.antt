@@ -1,37 +1,24 @@
 -- A lookup goes on within the abstract states.
-use Rattle.std.proofs.Common.{◌≡◌, ℕ, ◌+◌, ◌-◌, ◌*◌, ◌%◌, ◌^◌, ◌<◌, ◌≤◌, Bool, true, false, not, ◌||◌}
-use Rattle.std.proofs.Common.{List, length, Option, Some, None, refl, sym, ap, ◌∙◌, subst, arith}
+use Rattle.std.proofs.Common.{◌≡◌, ℕ, ◌+◌, ◌-◌, ◌*◌, ◌%◌, ◌^◌, ◌<◌, ◌≤◌, Bool, true, false, not, ◌||◌, List, length}
+use Rattle.std.proofs.{Common.{Option, Some, None, refl, sym, ap, ◌∙◌, subst, arith}, lemmas.Bool.Decides.{nat_tests}}
 use Rattle.std.specs.Prelude.{pos, nat_lt, nat_le, ◌==◌, if◌then◌else◌, slice_get}
-use Rattle.std.proofs.lemmas.Bool.Decides.{nat_tests}
 use Rattle.std.proofs.lemmas.Option.{slice_get-get_or}
-use Rattle.bpf_insn_types.specs.Limits.{sizes_fit}
-use Rattle.bpf_insn_types.specs.Program.{Program, leads_to}
-use Rattle.value_range.specs.Spans.{norm}
-use Rattle.value_range.proofs.SpanLaws.{norm-contains}
-use Rattle.bpf_verify_model.specs.declared.abstract_value.AbstractValue.{AbstractValue}
-use Rattle.bpf_verify_model.specs.declared.abstract_value.AbstractValue.TheVariants as known
-use Rattle.bpf_verify_model.specs.declared.helper.Helper.TheVariants.{Lookup}
-use Rattle.bpf_verify_model.specs.declared.outflow.Edge.{Edge}
-use Rattle.bpf_verify_model.specs.declared.state.State.{State}
-use Rattle.bpf_verify_model.specs.States.{known_register}
-use Rattle.bpf_verify_model.specs.Accesses.{has_unwritten_byte}
+use Rattle.bpf_insn_types.specs.{Limits.{sizes_fit}, Program.{Program, leads_to}}
+use Rattle.value_range.{specs.Spans.{norm}, proofs.SpanLaws.{norm-contains}}
+use Rattle.bpf_verify_model.specs.declared.{abstract_value.AbstractValue.{AbstractValue}, outflow.Edge.{Edge}}
+use Rattle.bpf_verify_model.specs.declared.{helper.Helper.TheVariants.{Lookup}, state.State.{State}}
+use Rattle.bpf_verify_model.specs.{States.{known_register}, Accesses.{has_unwritten_byte}}
 use Rattle.bpf_verify_model.specs.Rules.{is_key_position, is_key, is_map, helper_fault}
 use Rattle.bpf_verify_model.specs.Flow.{known_after_call, known_lookup, address_in, edge_to}
+use Rattle.bpf_verify_model.specs.declared.abstract_value.AbstractValue.TheVariants as known
 use Rattle.bpf_step_model.specs.State.{Value, Unwritten, Word, Frame, Ctx, Map, Area, Machine, register}
-use Rattle.bpf_step_model.specs.Values.{area_address}
+use Rattle.bpf_step_model.specs.{Values.{area_address}, SoundMachine.{SoundValue, SoundMachine}}
 use Rattle.bpf_step_model.specs.Memory.{Place, InFrame, InCaller, place, in_frame, in_caller, frame_position}
-use Rattle.bpf_step_model.specs.SoundMachine.{SoundValue, SoundMachine}
 use Rattle.bpf_step_model.specs.Step.{key_at, lookup_result, answers, looks_up}
-use Rattle.bpf_verify_sound.specs.Containment.{ContainsValue, Contained}
-use Rattle.bpf_verify_sound.specs.KnownStates.{IsWellFormedState}
-use Rattle.bpf_verify_sound.specs.Ways.{FollowsValue, StepFlows}
-use Rattle.bpf_verify_sound.proofs.RegisterLaws.{all-at}
-use Rattle.bpf_verify_sound.proofs.ByteLaws.{IsNumberOf}
-use Rattle.bpf_verify_sound.proofs.PlaceLaws.{PlaceIs, frame-goes}
-use Rattle.bpf_verify_sound.proofs.NumberLaws.{there_if}
-use Rattle.bpf_verify_sound.proofs.Operands.{register-known}
-use Rattle.bpf_verify_sound.proofs.Loads.{own-number, main-number}
-use Rattle.bpf_verify_sound.proofs.WideForms.{count-few}
+use Rattle.bpf_verify_sound.specs.{Containment.{ContainsValue, Contained}, KnownStates.{IsWellFormedState}}
+use Rattle.bpf_verify_sound.{specs.Ways.{FollowsValue, StepFlows}, proofs.RegisterLaws.{all-at}}
+use Rattle.bpf_verify_sound.proofs.{ByteLaws.{IsNumberOf}, PlaceLaws.{PlaceIs, frame-goes}, NumberLaws.{there_if}}
+use Rattle.bpf_verify_sound.proofs.{Operands.{register-known}, Loads.{own-number, main-number}, WideForms.{count-few}}
 use Rattle.bpf_verify_sound.proofs.AfterCalls.{call-goes}
 use Rattle.bpf_verify_sound.proofs.Tests.{and-one, and-two, not-not-true, or-left, or-right, test-fails, test-later}
 

@@ -1,44 +1,29 @@
 -- A loop call goes on within the abstract states, and so do its iterations start.
 use Rattle.std.proofs.Common.{◌≡◌, ℕ, zero, suc, ◌+◌, ◌-◌, ◌%◌, ◌^◌, ◌<◌, ◌≤◌, inr, Bool, true, false, not, ◌||◌}
 use Rattle.std.proofs.Common.{replicate, Option, Some, None, is_some, refl, sym, ap, ◌∙◌, subst, arith}
-use Rattle.std.specs.Prelude.{negsuc, nat_lt, ◌==◌, if◌then◌else◌}
-use Rattle.std.proofs.lemmas.Bool.Decides.{nat_tests}
-use Rattle.bpf_insn_types.specs.declared.insn.Width.TheVariants.{W32, W64}
-use Rattle.bpf_insn_types.specs.declared.insn.AluOp.TheVariants.{Mov}
-use Rattle.bpf_insn_types.specs.Program.{Program, insn_at, leads_to, function_of}
-use Rattle.bpf_insn_types.specs.Words.{word_of, alu}
+use Rattle.std.{specs.Prelude.{negsuc, nat_lt, ◌==◌, if◌then◌else◌}, proofs.lemmas.Bool.Decides.{nat_tests}}
+use Rattle.bpf_insn_types.specs.declared.insn.{Width.TheVariants.{W32, W64}, AluOp.TheVariants.{Mov}}
+use Rattle.bpf_insn_types.specs.{Program.{Program, insn_at, leads_to, function_of}, Words.{word_of, alu}}
 use Rattle.bpf_insn_types.specs.WordBounds.{ResultsFit}
-use Rattle.value_range.specs.Spans.{Contains, top}
-use Rattle.value_range.specs.declared.operation.Operation.TheVariants.{Alu as AluOperation}
-use Rattle.value_range.specs.AluRows.{meant, span_of}
-use Rattle.value_range.proofs.SpanLaws.{norm-contains, top-contains, exact-contains}
+use Rattle.value_range.specs.{Spans.{Contains, top}, declared.operation.Operation.TheVariants.{Alu as AluOperation}}
+use Rattle.value_range.{specs.AluRows.{meant, span_of}, proofs.SpanLaws.{norm-contains, top-contains, exact-contains}}
 use Rattle.value_range.proofs.Multiples.{multiple-zero}
-use Rattle.bpf_verify_model.specs.Written.{none_written}
-use Rattle.bpf_verify_model.specs.declared.abstract_value.AbstractValue.{AbstractValue}
-use Rattle.bpf_verify_model.specs.declared.abstract_value.AbstractValue.TheVariants as known
-use Rattle.bpf_verify_model.specs.declared.helper.Helper.TheVariants.{Loop}
-use Rattle.bpf_verify_model.specs.declared.outflow.Outflow.{Outflow}
-use Rattle.bpf_verify_model.specs.declared.state.State.{State}
-use Rattle.bpf_verify_model.specs.States.{known_register}
-use Rattle.bpf_verify_model.specs.Values.{is_number_value}
+use Rattle.bpf_verify_model.specs.{Written.{none_written}, declared.abstract_value.AbstractValue.{AbstractValue}}
+use Rattle.bpf_verify_model.specs.declared.{helper.Helper.TheVariants.{Loop}, outflow.Outflow.{Outflow}}
+use Rattle.bpf_verify_model.specs.{declared.state.State.{State}, States.{known_register}, Values.{is_number_value}}
 use Rattle.bpf_verify_model.specs.Rules.{is_code, is_ctx_argument, has_wrong_loop_arguments, helper_fault}
-use Rattle.bpf_verify_model.specs.Flow.{known_after_call, most_iterations, known_index, known_ctx}
-use Rattle.bpf_verify_model.specs.Flow.{known_callback_entry, enters, edge_to}
-use Rattle.bpf_step_model.specs.declared.refused_call.RefusedCall.{RefusedCall}
+use Rattle.bpf_verify_model.specs.Flow.{known_after_call, most_iterations, known_index, known_ctx, known_callback_entry}
+use Rattle.bpf_verify_model.specs.Flow.{enters, edge_to}
+use Rattle.bpf_verify_model.specs.declared.abstract_value.AbstractValue.TheVariants as known
+use Rattle.bpf_step_model.specs.{declared.refused_call.RefusedCall.{RefusedCall}, Step.{takes_arguments, loops}}
 use Rattle.bpf_step_model.specs.State.{Value, Unwritten, Word, Frame, Code, Bytes, Machine, register, advanced}
 use Rattle.bpf_step_model.specs.State.{after_call, ctx_value, fresh_frame, callback_entry}
-use Rattle.bpf_step_model.specs.SoundMachine.{SoundValue, SoundMachine}
-use Rattle.bpf_step_model.specs.LoopCalls.{RefusedAs, Valid, count_validity}
-use Rattle.bpf_step_model.specs.Step.{NoStep, Refuses, loop_call_step, calls_loop, takes_ctx}
-use Rattle.bpf_step_model.specs.Step.{takes_flags, takes_arguments, loops}
-use Rattle.bpf_verify_sound.specs.Containment.{ContainsValue, AreWritten, Contained}
-use Rattle.bpf_verify_sound.specs.KnownStates.{HasSpan, IsWellFormedState}
-use Rattle.bpf_verify_sound.specs.Ways.{StepFlows}
-use Rattle.bpf_verify_sound.proofs.RegisterLaws.{all-at}
-use Rattle.bpf_verify_sound.proofs.Operands.{register-known, register-span}
-use Rattle.bpf_verify_sound.proofs.NumberLaws.{span-has}
-use Rattle.bpf_verify_sound.proofs.StartLaws.{start-later, start-stands}
-use Rattle.bpf_verify_sound.proofs.AfterCalls.{call-goes}
+use Rattle.bpf_step_model.specs.{SoundMachine.{SoundValue, SoundMachine}, LoopCalls.{RefusedAs, Valid, count_validity}}
+use Rattle.bpf_step_model.specs.Step.{NoStep, Refuses, loop_call_step, calls_loop, takes_ctx, takes_flags}
+use Rattle.bpf_verify_sound.specs.{Containment.{ContainsValue, AreWritten, Contained}, Ways.{StepFlows}}
+use Rattle.bpf_verify_sound.{specs.KnownStates.{HasSpan, IsWellFormedState}, proofs.RegisterLaws.{all-at}}
+use Rattle.bpf_verify_sound.proofs.{Operands.{register-known, register-span}, NumberLaws.{span-has}}
+use Rattle.bpf_verify_sound.proofs.{StartLaws.{start-later, start-stands}, AfterCalls.{call-goes}}
 use Rattle.bpf_verify_sound.proofs.Tests.{not-not-true, or-left, or-right, test-fails}
 
 -- a fresh frame has no byte that is known to be written

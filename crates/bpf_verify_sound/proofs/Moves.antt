@@ -1,26 +1,17 @@
 -- A machine that goes on: after an instruction, with a register set, or at a jump's target.
-use Rattle.std.proofs.Common.{◌≡◌, ℕ, ◌+◌, ◌<◌, inl, inr, Bool, true, false, not, ◌&&◌}
-use Rattle.std.proofs.Common.{Option, Some, None, is_none, refl, sym, subst, arith}
-use Rattle.std.specs.Prelude.{nat_lt, ◌==◌, if◌then◌else◌, List}
+use Rattle.std.proofs.Common.{◌≡◌, ℕ, ◌+◌, ◌<◌, inl, inr, Bool, true, false, not, ◌&&◌, Option, Some, None, is_none}
+use Rattle.std.{proofs.Common.{refl, sym, subst, arith}, specs.Prelude.{nat_lt, ◌==◌, if◌then◌else◌, List}}
 use Rattle.std.proofs.lemmas.Bool.Decides.{nat_tests}
-use Rattle.bpf_insn_types.specs.Slots.{slots_of}
-use Rattle.bpf_insn_types.specs.declared.insn.Insn.{Insn}
-use Rattle.bpf_insn_types.specs.Program.{Program, leads_to}
-use Rattle.bpf_verify_model.specs.declared.abstract_value.AbstractValue.{AbstractValue}
-use Rattle.bpf_verify_model.specs.declared.state.State.{State}
-use Rattle.bpf_verify_model.specs.declared.outflow.Edge.{Edge}
-use Rattle.bpf_verify_model.specs.declared.outflow.Outflow.{Outflow}
-use Rattle.bpf_verify_model.specs.States.{with_known}
+use Rattle.bpf_insn_types.specs.{Slots.{slots_of}, declared.insn.Insn.{Insn}, Program.{Program, leads_to}}
+use Rattle.bpf_verify_model.specs.declared.{abstract_value.AbstractValue.{AbstractValue}, state.State.{State}}
+use Rattle.bpf_verify_model.specs.{declared.outflow.{Edge.{Edge}, Outflow.{Outflow}}, States.{with_known}}
 use Rattle.bpf_verify_model.specs.Rules.{leads_later, goes_on, falls_off}
 use Rattle.bpf_verify_model.specs.Flow.{with_known_result, edge_to, ahead_outflow}
-use Rattle.bpf_step_model.specs.State.{Value, Machine, advanced, at_slot, with_register}
+use Rattle.bpf_step_model.specs.{State.{Value, Machine, advanced, at_slot, with_register}, Run.{after_request}}
 use Rattle.bpf_step_model.specs.Step.{StepOutcome, NoStep, Next, Asks, Loops, Refuses, Exits, sets, jumps}
 use Rattle.bpf_step_model.specs.Step.{within_function, Request, Load, Store, StoreHalf, Update, Fetch}
-use Rattle.bpf_step_model.specs.Run.{after_request}
-use Rattle.bpf_verify_sound.specs.Containment.{ContainsValue, Contained}
-use Rattle.bpf_verify_sound.specs.Ways.{FollowsValue, GoesBy, StepFlows}
-use Rattle.bpf_verify_sound.proofs.RegisterLaws.{contain-set}
-use Rattle.bpf_verify_sound.proofs.Tests.{and-one, and-two, not-not-true}
+use Rattle.bpf_verify_sound.specs.{Containment.{ContainsValue, Contained}, Ways.{FollowsValue, GoesBy, StepFlows}}
+use Rattle.bpf_verify_sound.proofs.{RegisterLaws.{contain-set}, Tests.{and-one, and-two, not-not-true}}
 
 -- V4: where an instruction goes on, one of the same function follows
 pub follows-on : (insns : List Insn) (slot : ℕ) (insn : Insn) → goes_on insn ≡ true → falls_off insns slot insn ≡ false

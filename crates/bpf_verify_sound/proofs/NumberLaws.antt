@@ -1,30 +1,19 @@
 -- What operators give is what is known of it.
 use Rattle.std.proofs.Common.{◌≡◌, ℕ, ◌+◌, ◌≤◌, Bool, true, false, ◌&&◌, Some, None, refl, sym, subst, arith}
-use Rattle.std.specs.Prelude.{nat_le, ◌==◌, if◌then◌else◌}
-use Rattle.std.specs.Option.{option_map}
+use Rattle.std.specs.{Prelude.{nat_le, ◌==◌, if◌then◌else◌}, Option.{option_map}}
 use Rattle.std.proofs.lemmas.Bool.Decides.{nat_tests}
-use Rattle.bpf_insn_types.specs.declared.insn.Width.{Width}
-use Rattle.bpf_insn_types.specs.declared.insn.Width.TheVariants.{W32, W64}
-use Rattle.bpf_insn_types.specs.declared.insn.AluOp.{AluOp}
-use Rattle.bpf_insn_types.specs.declared.insn.AluOp.TheVariants.{Add, Sub, Mov}
-use Rattle.bpf_insn_types.specs.Words.{alu}
-use Rattle.bpf_insn_types.specs.WordBounds.{ResultsFit}
-use Rattle.value_range.specs.Spans.{Span, IsSpan, Contains}
-use Rattle.value_range.specs.declared.operation.Operation.{Operation}
-use Rattle.value_range.specs.declared.operation.Operation.TheVariants.{Alu as AluOperation}
-use Rattle.value_range.specs.AluRows.{meant, span_of}
-use Rattle.value_range.proofs.SpanLaws.{exact-number}
-use Rattle.value_range.proofs.AluContains.{span_of-contains}
-use Rattle.value_range.proofs.RowSpans.{operand-span}
+use Rattle.bpf_insn_types.specs.{declared.insn.{Width.{Width, TheVariants.{W32, W64}}, AluOp.{AluOp}}, Words.{alu}}
+use Rattle.bpf_insn_types.specs.{declared.insn.AluOp.TheVariants.{Add, Sub, Mov}, WordBounds.{ResultsFit}}
+use Rattle.value_range.specs.{Spans.{Span, IsSpan, Contains}, declared.operation.Operation.{Operation}}
+use Rattle.value_range.specs.{declared.operation.Operation.TheVariants.{Alu as AluOperation}, AluRows.{meant, span_of}}
+use Rattle.value_range.proofs.{SpanLaws.{exact-number}, AluContains.{span_of-contains}, RowSpans.{operand-span}}
 use Rattle.bpf_verify_model.specs.declared.abstract_value.AbstractValue.{AbstractValue}
+use Rattle.bpf_verify_model.specs.Values.{known_of_number, known_of_numbers, known_copy, known_position, known_area}
+use Rattle.bpf_verify_model.specs.Values.{known_moved, known_sum, known_result}
 use Rattle.bpf_verify_model.specs.declared.abstract_value.AbstractValue.TheVariants as known
-use Rattle.bpf_verify_model.specs.Values.{known_of_number, known_of_numbers, known_copy, known_position}
-use Rattle.bpf_verify_model.specs.Values.{known_area, known_moved, known_sum, known_result}
 use Rattle.bpf_step_model.specs.State.{Value, Word, Frame, Ctx, Map, Area, Code}
 use Rattle.bpf_step_model.specs.Values.{on_word, on_words, copied, within_frame, area_address, shifted, result_of}
-use Rattle.bpf_verify_sound.specs.Containment.{ContainsValue}
-use Rattle.bpf_verify_sound.specs.KnownStates.{HasSpan}
-use Rattle.bpf_verify_sound.specs.Ways.{FollowsValue}
+use Rattle.bpf_verify_sound.specs.{Containment.{ContainsValue}, KnownStates.{HasSpan}, Ways.{FollowsValue}}
 use Rattle.bpf_verify_sound.proofs.Tests.{and-one, and-two}
 
 -- the meaning of an operation on words of two ranges

@@ -1,23 +1,15 @@
 -- Registers and operands of a machine of which something is known.
-use Rattle.std.proofs.Common.{ℕ, zero, suc, ◌<◌, ◌^◌, List, [], ◌∷◌, get_or, set, arith}
-use Rattle.std.specs.Prelude.{ℤ, FitsSigned}
-use Rattle.std.specs.Int.{w32}
-use Rattle.std.proofs.lemmas.Int.{ints}
-use Rattle.bpf_insn_types.specs.declared.insn.Operand.{Operand}
-use Rattle.bpf_insn_types.specs.declared.insn.Operand.TheVariants.{Imm, Reg}
-use Rattle.bpf_insn_types.specs.Values.{OperandFits}
+use Rattle.std.{proofs.Common.{ℕ, zero, suc, ◌<◌, ◌^◌, List, [], ◌∷◌, get_or, set, arith}, specs.Int.{w32}}
+use Rattle.std.{specs.Prelude.{ℤ, FitsSigned}, proofs.lemmas.Int.{ints}}
+use Rattle.bpf_insn_types.specs.{declared.insn.Operand.{Operand, TheVariants.{Imm, Reg}}, Values.{OperandFits}}
 use Rattle.bpf_insn_types.specs.Words.{word_of}
 use Rattle.value_range.proofs.SpanLaws.{exact-span, exact-contains}
-use Rattle.bpf_verify_model.specs.declared.abstract_value.AbstractValue.{AbstractValue}
+use Rattle.bpf_verify_model.specs.declared.{abstract_value.AbstractValue.{AbstractValue}, state.State.{State}}
+use Rattle.bpf_verify_model.specs.{States.{known_register, with_known}, Values.{known_operand}}
 use Rattle.bpf_verify_model.specs.declared.abstract_value.AbstractValue.TheVariants as known
-use Rattle.bpf_verify_model.specs.declared.state.State.{State}
-use Rattle.bpf_verify_model.specs.States.{known_register, with_known}
-use Rattle.bpf_verify_model.specs.Values.{known_operand}
-use Rattle.bpf_step_model.specs.State.{Value, Unwritten, Machine, register}
-use Rattle.bpf_step_model.specs.Values.{operand_value}
+use Rattle.bpf_step_model.specs.{State.{Value, Unwritten, Machine, register}, Values.{operand_value}}
 use Rattle.bpf_verify_sound.specs.Containment.{ContainsValue, ContainEach, Contained}
-use Rattle.bpf_verify_sound.specs.KnownStates.{HasSpan, IsWellFormedState}
-use Rattle.bpf_verify_sound.proofs.RegisterLaws.{contain-at, all-at}
+use Rattle.bpf_verify_sound.{specs.KnownStates.{HasSpan, IsWellFormedState}, proofs.RegisterLaws.{contain-at, all-at}}
 
 -- the abstract value of a register contains it, and has a span
 pub register-known : (state : State) (m : Machine) (r : ℕ) → Contained state m → ContainsValue (known_register state r)

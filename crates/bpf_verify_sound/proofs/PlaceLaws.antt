@@ -2,30 +2,20 @@
 use Rattle.std.proofs.Common.{◌≡◌, ℕ, ◌+◌, ◌-◌, ◌*◌, ◌/◌, ◌%◌, ◌^◌, ◌<◌, ◌≤◌, zero, suc, Bool, true, false, not, ◌&&◌}
 use Rattle.std.proofs.Common.{◌||◌, Option, Some, None, refl, sym, ap, ◌∙◌, subst, arith, List, [], ◌∷◌, take}
 use Rattle.std.specs.Prelude.{ℤ, pos, negsuc, ◌+ℤ◌, int_lt, nat_lt, nat_le, ◌==◌, if◌then◌else◌, slice_get}
-use Rattle.std.specs.Ordering.{int_eq}
-use Rattle.std.specs.List.{sum}
-use Rattle.std.proofs.lemmas.Int.{ints}
+use Rattle.std.{specs.{Ordering.{int_eq}, List.{sum}}, proofs.lemmas.{Int.{ints}, List.Sums.{sum_by-cons}}}
 use Rattle.std.proofs.lemmas.Bool.Decides.{nat_tests, Decides-int_eq}
-use Rattle.std.proofs.lemmas.List.Sums.{sum_by-cons}
 use Rattle.bpf_insn_types.specs.Program.{Program, moved}
-use Rattle.array_maps.specs.declared.access.Half.TheVariants.{Low, High}
-use Rattle.array_maps.specs.declared.access.Part.{Part}
-use Rattle.array_maps.specs.declared.access.Part.TheVariants.{Whole, Half as Of}
+use Rattle.array_maps.specs.declared.access.{Half.TheVariants.{Low, High}, Part.{Part, TheVariants.{Whole, Half as Of}}}
 use Rattle.array_maps.specs.MapList.{base_of}
-use Rattle.value_range.specs.Spans.{Span, IsSpan, Contains}
-use Rattle.value_range.proofs.Multiples.{coarser}
-use Rattle.bpf_verify_model.specs.declared.abstract_value.AbstractValue.{AbstractValue}
-use Rattle.bpf_verify_model.specs.declared.abstract_value.AbstractValue.TheVariants as known
+use Rattle.value_range.{specs.Spans.{Span, IsSpan, Contains}, proofs.Multiples.{coarser}}
+use Rattle.bpf_verify_model.specs.{declared.abstract_value.AbstractValue.{AbstractValue}, Rules.{place_fault}}
 use Rattle.bpf_verify_model.specs.declared.memory_access.MemoryAccess.{MemoryAccess}
 use Rattle.bpf_verify_model.specs.Accesses.{is_memory, is_part_of_half, is_misaligned, is_spread, misses_alignment}
 use Rattle.bpf_verify_model.specs.Accesses.{is_outside_frame, is_outside_map, is_outside}
-use Rattle.bpf_verify_model.specs.Rules.{place_fault}
-use Rattle.bpf_step_model.specs.State.{Value, Frame, Ctx, Area}
-use Rattle.bpf_step_model.specs.Memory.{Place, InFrame, InCaller, InMap, frame_position, in_frame}
-use Rattle.bpf_step_model.specs.Memory.{in_caller, part_at, in_element, in_map, place}
-use Rattle.bpf_step_model.specs.Run.{part_bytes}
-use Rattle.bpf_verify_sound.specs.Containment.{ContainsValue}
-use Rattle.bpf_verify_sound.specs.KnownStates.{HasSpan}
+use Rattle.bpf_verify_model.specs.declared.abstract_value.AbstractValue.TheVariants as known
+use Rattle.bpf_step_model.specs.{State.{Value, Frame, Ctx, Area}, Memory.{in_element, in_map, place}, Run.{part_bytes}}
+use Rattle.bpf_step_model.specs.Memory.{Place, InFrame, InCaller, InMap, frame_position, in_frame, in_caller, part_at}
+use Rattle.bpf_verify_sound.specs.{Containment.{ContainsValue}, KnownStates.{HasSpan}}
 use Rattle.bpf_verify_sound.proofs.Tests.{not-not-true, or-left, or-right, test-fails, test-later}
 
 -- a place that isn't negative

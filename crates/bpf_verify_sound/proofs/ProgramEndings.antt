@@ -1,29 +1,21 @@
 -- Iterations, loops in order and programs in order end.
-use Rattle.std.proofs.Common.{◌≡◌, ℕ, zero, suc, ◌+◌, ◌<◌, ◌≤◌, ◌^◌, Bool, true, false}
-use Rattle.std.proofs.Common.{inl, inr, List, refl, sym, ap, subst, arith}
-use Rattle.std.specs.Prelude.{◌==◌, if◌then◌else◌}
-use Rattle.bpf_insn_types.specs.Program.{Program, slot_count, function_of}
-use Rattle.bpf_insn_types.specs.WordBounds.{ResultsFit}
-use Rattle.bpf_verify_model.specs.Count.{function_start, count_of}
-use Rattle.bpf_verify_model.proofs.LongestLaws.{longest-small}
-use Rattle.bpf_step_model.specs.State.{Machine, LoopCall, main_entry, callback_entry}
-use Rattle.bpf_step_model.specs.Run.{BoundedResult, Ended, Stuck, Unfinished, followed, mapped}
-use Rattle.bpf_step_model.specs.Run.{StopReason, Exit, Loop, Refused, RunSegment, run}
-use Rattle.bpf_step_model.specs.Iteration.{Iterated, exited_by, exited, iteration}
+use Rattle.std.proofs.Common.{◌≡◌, ℕ, zero, suc, ◌+◌, ◌<◌, ◌≤◌, ◌^◌, Bool, true, false, inl, inr, List, refl, sym, ap}
+use Rattle.std.{proofs.Common.{subst, arith}, specs.Prelude.{◌==◌, if◌then◌else◌}}
+use Rattle.bpf_insn_types.specs.{Program.{Program, slot_count, function_of}, WordBounds.{ResultsFit}}
+use Rattle.bpf_verify_model.{specs.Count.{function_start, count_of}, proofs.LongestLaws.{longest-small}}
+use Rattle.bpf_step_model.specs.{State.{Machine, LoopCall, main_entry, callback_entry}, Run.{Refused, RunSegment, run}}
+use Rattle.bpf_step_model.specs.Run.{BoundedResult, Ended, Stuck, Unfinished, followed, mapped, StopReason, Exit, Loop}
+use Rattle.bpf_step_model.specs.{Iteration.{Iterated, exited_by, exited, iteration}, Bounds.{Extends}}
 use Rattle.bpf_step_model.specs.LoopInOrder.{Looped, behind, loop_from, loop_in_order}
 use Rattle.bpf_step_model.specs.ProgramInOrder.{LoopMade, Finished, with_loop, resumed, after_loop, after_stop}
 use Rattle.bpf_step_model.specs.ProgramInOrder.{after_segment, main_from, program_in_order}
+use Rattle.bpf_step_model.proofs.BoundLaws.{program_extends}
 use Rattle.bpf_verify_sound.specs.Soundness.{IsSoundProgram, AreMapWords, OverApproximates, OverApproximatesCall}
 use Rattle.bpf_verify_sound.specs.Soundness.{OverApproximatesOnceResumed, StopIsOverApproximated, RunIsOverApproximated}
 use Rattle.bpf_verify_sound.specs.Soundness.{most_from, most_after, EndsWithin, IsExit, EndsAtExit, callback_count}
 use Rattle.bpf_verify_sound.specs.Soundness.{IterationEnds, LoopEnds, OverApproximatesLoop, ProgramEnds, EndsIfFinished}
-use Rattle.bpf_verify_sound.specs.Soundness.{EachProgramEnds}
-use Rattle.bpf_step_model.specs.Bounds.{Extends}
-use Rattle.bpf_step_model.proofs.BoundLaws.{program_extends}
-use Rattle.bpf_verify_sound.proofs.StartIndex.{start-function}
-use Rattle.bpf_verify_sound.proofs.EntryLaws.{main-contained}
-use Rattle.bpf_verify_sound.proofs.SoundLaws.{entry-sound}
-use Rattle.bpf_verify_sound.proofs.RunLaws.{run-known}
+use Rattle.bpf_verify_sound.{specs.Soundness.{EachProgramEnds}, proofs.StartIndex.{start-function}}
+use Rattle.bpf_verify_sound.proofs.{EntryLaws.{main-contained}, SoundLaws.{entry-sound}, RunLaws.{run-known}}
 use Rattle.bpf_verify_sound.proofs.CountLaws.{most-some, run-within, run-exit}
 
 most-small : (program : Program) (slot : ℕ) → most_from program slot ≤ slot_count program.insns

@@ -1,6 +1,5 @@
 -- Registers, one by one.
-use Rattle.std.proofs.Common.{ℕ, zero, suc, List, [], ◌∷◌, get_or, set}
-use Rattle.std.specs.List.{AllByRecursion}
+use Rattle.std.{proofs.Common.{ℕ, zero, suc, List, [], ◌∷◌, get_or, set}, specs.List.{AllByRecursion}}
 use Rattle.bpf_verify_model.specs.declared.abstract_value.AbstractValue.{AbstractValue}
 use Rattle.bpf_verify_model.specs.declared.abstract_value.AbstractValue.TheVariants as known
 use Rattle.bpf_step_model.specs.State.{Value, Unwritten}

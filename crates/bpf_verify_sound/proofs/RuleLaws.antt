@@ -1,24 +1,17 @@
 -- An accepted program keeps each rule at each slot.
-use Rattle.std.proofs.Common.{◌≡◌, ℕ, zero, suc, ◌-◌, Bool, true, false, not, List}
-use Rattle.std.proofs.Common.{[], ◌∷◌, Some, None, refl, sym, ap, ◌∙◌, subst}
-use Rattle.std.specs.Prelude.{nat_lt, ◌==◌, if◌then◌else◌}
-use Rattle.bpf_insn_types.specs.Limits.{sizes_fit}
-use Rattle.bpf_insn_types.specs.Slots.{slots_of}
-use Rattle.bpf_insn_types.specs.Values.{InsnFits, AreInsns}
-use Rattle.bpf_insn_types.specs.declared.insn.Insn.{Insn}
-use Rattle.bpf_insn_types.specs.Program.{Program, insn_at, slot_count, function_of}
-use Rattle.bpf_verify_model.specs.declared.state.State.{State}
-use Rattle.bpf_verify_model.specs.Accesses.{memory_access_of}
+use Rattle.std.proofs.Common.{◌≡◌, ℕ, zero, suc, ◌-◌, Bool, true, false, not, List, [], ◌∷◌, Some, None, refl, sym, ap}
+use Rattle.std.{proofs.Common.{◌∙◌, subst}, specs.Prelude.{nat_lt, ◌==◌, if◌then◌else◌}}
+use Rattle.bpf_insn_types.specs.{Limits.{sizes_fit}, Slots.{slots_of}, Values.{InsnFits, AreInsns}}
+use Rattle.bpf_insn_types.specs.{declared.insn.Insn.{Insn}, Program.{Program, insn_at, slot_count, function_of}}
+use Rattle.bpf_verify_model.specs.{declared.state.State.{State}, Accesses.{memory_access_of}, Inflow.{state_before}}
 use Rattle.bpf_verify_model.specs.Rules.{jumps_astray, falls_off, names_none, calls_no_helper, calls_otherwise}
 use Rattle.bpf_verify_model.specs.Rules.{loads_outer, loads_no_map, writes_r10, reads_unwritten}
 use Rattle.bpf_verify_model.specs.Rules.{has_wrong_arithmetic_operands, has_wrong_comparison_operands, stores_no_number}
 use Rattle.bpf_verify_model.specs.Rules.{access_fault, call_fault, callback_fault, exit_fault, operand_fault}
 use Rattle.bpf_verify_model.specs.Rules.{state_fault, insn_fault, slot_fault, or_else, fault_of}
-use Rattle.bpf_verify_model.specs.Inflow.{state_before}
 use Rattle.bpf_verify_model.specs.Accepted.{fault_at_insn, fault_within, first_fault, is_too_large, Accepted}
 use Rattle.bpf_verify_model.proofs.JumpLaws.{fault_at-none, within}
-use Rattle.bpf_verify_sound.specs.KnownStates.{IsWellFormedState}
-use Rattle.bpf_verify_sound.specs.Standing.{KeepsRules}
+use Rattle.bpf_verify_sound.specs.{KnownStates.{IsWellFormedState}, Standing.{KeepsRules}}
 use Rattle.bpf_verify_sound.proofs.Tests.{not-not-true, or-right, or_else-one, or_else-two, test-fails, test-later}
 
 -- a test that gives something where it holds, and all in all nothing was given

@@ -1,21 +1,15 @@
 -- Runs of an accepted program are never stuck.
-use Rattle.std.proofs.Common.{◌≡◌, ℕ, zero, suc, ◌<◌, ◌^◌, List, [], ◌∷◌, get_or}
-use Rattle.std.proofs.Common.{Option, Some, None, refl, sym, ◌∙◌, subst, arith}
-use Rattle.std.specs.Prelude.{slice_get, slice_index}
-use Rattle.std.specs.List.{AllByRecursion, sum}
-use Rattle.std.proofs.Math.ListN.{length-set}
-use Rattle.std.proofs.lemmas.Option.{slice_get-get_or, get_or_from_slice_get}
+use Rattle.std.proofs.Common.{◌≡◌, ℕ, zero, suc, ◌<◌, ◌^◌, List, [], ◌∷◌, get_or, Option, Some, None, refl, sym, ◌∙◌}
+use Rattle.std.{proofs.Common.{subst, arith}, specs.{Prelude.{slice_get, slice_index}, List.{AllByRecursion, sum}}}
+use Rattle.std.proofs.{Math.ListN.{length-set}, lemmas.Option.{slice_get-get_or, get_or_from_slice_get}}
 use Rattle.array_maps.specs.Accesses.{Access, left_by, words_after}
-use Rattle.bpf_insn_types.specs.Program.{Program}
-use Rattle.bpf_insn_types.specs.WordBounds.{ResultsFit}
-use Rattle.bpf_step_model.specs.State.{Machine}
+use Rattle.bpf_insn_types.specs.{Program.{Program}, WordBounds.{ResultsFit}}
+use Rattle.bpf_step_model.specs.{State.{Machine}, Run.{mapped, with_first_step, after_access, after_step, run}}
 use Rattle.bpf_step_model.specs.Step.{Request, StepOutcome, NoStep, Next, Asks, Loops, Refuses, Exits, step}
 use Rattle.bpf_step_model.specs.Run.{BoundedResult, Ended, Stuck, Unfinished, RunSegment, after_request, action_of}
-use Rattle.bpf_step_model.specs.Run.{mapped, with_first_step, after_access, after_step, run}
 use Rattle.bpf_verify_sound.specs.Soundness.{IsSoundProgram, AreMapWords, OverApproximates, StepsOverApproximated}
 use Rattle.bpf_verify_sound.specs.Soundness.{StepContained, StepSound, RunIsOverApproximated}
-use Rattle.bpf_verify_sound.proofs.RegisterLaws.{all-set}
-use Rattle.bpf_verify_sound.proofs.StepLaws.{step-contained}
+use Rattle.bpf_verify_sound.proofs.{RegisterLaws.{all-set}, StepLaws.{step-contained}}
 use Rattle.bpf_verify_sound.proofs.SoundLaws.{step-sound, call-sound}
 
 -- a step that keeps a machine sound, and the abstract state true, goes on within the abstract states

@@ -1,64 +1,41 @@
 -- What each instruction does keeps a machine sound.
-use Rattle.std.proofs.Common.{◌≡◌, ℕ, ◌+◌, ◌*◌, ◌/◌, ◌%◌, ◌^◌, ◌<◌, ◌≤◌, Bool, true, false, ◌&&◌}
-use Rattle.std.proofs.Common.{List, length, Option, Some, None, is_some, refl, ◌∙◌, arith}
-use Rattle.std.specs.Prelude.{ℤ, pos, negsuc, nat_lt, nat_le, ◌==◌, if◌then◌else◌, slice_get, FitsSigned}
-use Rattle.std.specs.List.{AllByRecursion, list_any}
-use Rattle.std.specs.Int.{w32}
-use Rattle.std.proofs.lemmas.Int.{ints}
-use Rattle.std.proofs.Math.ListN.{length-set}
-use Rattle.std.proofs.lemmas.List.{length-drop}
-use Rattle.std.proofs.lemmas.Bool.Decides.{nat_tests}
-use Rattle.bpf_insn_types.specs.Sizes.{bytes_of, atomic_bytes}
-use Rattle.bpf_insn_types.specs.Values.{InsnFits, OperandFits}
-use Rattle.bpf_insn_types.specs.declared.insn.Width.{Width}
-use Rattle.bpf_insn_types.specs.declared.insn.Width.TheVariants.{W32, W64}
-use Rattle.bpf_insn_types.specs.declared.insn.AtomicOp.{AtomicOp}
+use Rattle.std.proofs.Common.{◌≡◌, ℕ, ◌+◌, ◌*◌, ◌/◌, ◌%◌, ◌^◌, ◌<◌, ◌≤◌, Bool, true, false, ◌&&◌, List, length, Option}
+use Rattle.std.{proofs.Common.{Some, None, is_some, refl, ◌∙◌, arith}, specs.List.{AllByRecursion, list_any}}
+use Rattle.std.specs.{Prelude.{ℤ, pos, negsuc, nat_lt, nat_le, ◌==◌, if◌then◌else◌, slice_get, FitsSigned}, Int.{w32}}
+use Rattle.std.proofs.{lemmas.{Int.{ints}, List.{length-drop}, Bool.Decides.{nat_tests}}, Math.ListN.{length-set}}
+use Rattle.bpf_insn_types.specs.{Sizes.{bytes_of, atomic_bytes}, Values.{InsnFits, OperandFits}}
+use Rattle.bpf_insn_types.specs.declared.insn.{Width.{Width, TheVariants.{W32, W64}}, AtomicOp.{AtomicOp}, Insn.{Insn}}
 use Rattle.bpf_insn_types.specs.declared.insn.AtomicOp.TheVariants.{Simple, Fetch as FetchOp, Xchg as XchgOp, Cmpxchg}
-use Rattle.bpf_insn_types.specs.declared.insn.Callee.{Callee}
-use Rattle.bpf_insn_types.specs.declared.insn.Callee.TheVariants as callee
-use Rattle.bpf_insn_types.specs.declared.insn.Operand.{Operand}
-use Rattle.bpf_insn_types.specs.declared.insn.Operand.TheVariants.{Imm, Reg}
-use Rattle.bpf_insn_types.specs.declared.insn.ImmKind.{ImmKind}
+use Rattle.bpf_insn_types.specs.declared.insn.{Callee.{Callee}, Operand.{Operand, TheVariants.{Imm, Reg}}}
+use Rattle.bpf_insn_types.specs.declared.insn.{ImmKind.{ImmKind}, Insn.TheVariants.{Atomic, LoadImm}}
 use Rattle.bpf_insn_types.specs.declared.insn.ImmKind.TheVariants.{Number, Code as CodeKind, Map as MapKind, MapValue}
-use Rattle.bpf_insn_types.specs.declared.insn.Insn.{Insn}
-use Rattle.bpf_insn_types.specs.declared.insn.Insn.TheVariants.{Alu, Neg, Movsx, Endian, Ja, Ja32, Jump, Call}
-use Rattle.bpf_insn_types.specs.declared.insn.Insn.TheVariants.{Exit, Load as LoadInsn, LoadSx, StoreImm}
-use Rattle.bpf_insn_types.specs.declared.insn.Insn.TheVariants.{Store as StoreInsn, Atomic, LoadImm}
-use Rattle.bpf_insn_types.specs.declared.extension.Extension.{Extension}
-use Rattle.bpf_insn_types.specs.declared.extension.Extension.TheVariants.{Zeros, Signs}
-use Rattle.bpf_insn_types.specs.Program.{Program, moved, code_target, callback_starts}
-use Rattle.bpf_insn_types.specs.Words.{word_of, negated, moved_signed, in_order}
-use Rattle.bpf_insn_types.specs.WordBounds.{ResultsFit}
-use Rattle.bpf_insn_types.proofs.WordLaws.{modulus-most}
-use Rattle.array_maps.specs.declared.access.Rmw.TheVariants.{Op as Applies, Xchg, CmpXchg}
-use Rattle.array_maps.specs.declared.access.Half.TheVariants.{Low}
-use Rattle.array_maps.specs.declared.access.Part.{Part}
-use Rattle.array_maps.specs.declared.access.Part.TheVariants.{Whole, Half as Of}
-use Rattle.array_maps.specs.Halves.{half_of, with_half, part_of}
-use Rattle.array_maps.specs.Accesses.{left_by}
-use Rattle.array_maps.specs.MapList.{base_of}
+use Rattle.bpf_insn_types.specs.declared.insn.Insn.TheVariants.{Alu, Neg, Movsx, Endian, Ja, Ja32, Jump, Call, Exit}
+use Rattle.bpf_insn_types.specs.declared.insn.Insn.TheVariants.{Load as LoadInsn, LoadSx, StoreImm, Store as StoreInsn}
+use Rattle.bpf_insn_types.specs.declared.extension.Extension.{Extension, TheVariants.{Zeros, Signs}}
+use Rattle.bpf_insn_types.specs.{Program.{Program, moved, code_target, callback_starts}, WordBounds.{ResultsFit}}
+use Rattle.bpf_insn_types.{specs.Words.{word_of, negated, moved_signed, in_order}, proofs.WordLaws.{modulus-most}}
+use Rattle.bpf_insn_types.specs.declared.insn.Callee.TheVariants as callee
+use Rattle.array_maps.specs.declared.access.{Rmw.TheVariants.{Op as Applies, Xchg, CmpXchg}, Half.TheVariants.{Low}}
+use Rattle.array_maps.specs.{declared.access.Part.{Part, TheVariants.{Whole, Half as Of}}, Accesses.{left_by}}
+use Rattle.array_maps.specs.{Halves.{half_of, with_half, part_of}, MapList.{base_of}}
 use Rattle.bpf_step_model.specs.State.{Value, Unwritten, Word, Frame, Ctx, Map, Area, Code, Bytes, Machine, register}
 use Rattle.bpf_step_model.specs.State.{advanced, at_slot, with_register, with_frame, after_call}
 use Rattle.bpf_step_model.specs.Memory.{Place, InFrame, InCaller, InMap, number_at, written_at, frame_position}
 use Rattle.bpf_step_model.specs.Memory.{in_frame, in_caller, part_at, in_element, in_map, place}
 use Rattle.bpf_step_model.specs.Values.{area_address, operand_value, on_word, result_of, comparison_of}
 use Rattle.bpf_step_model.specs.SoundMachine.{IsStart, SoundValue, SoundFrame, SoundCaller, SoundCtx, SoundCall}
-use Rattle.bpf_step_model.specs.LoopCalls.{RefusedAs, Valid, count_validity}
+use Rattle.bpf_step_model.specs.{LoopCalls.{RefusedAs, Valid, count_validity}, Step.{ends, insn_step}}
 use Rattle.bpf_step_model.specs.Step.{Load, StepOutcome, NoStep, Next, Asks, Loops, Refuses, Exits, sets, jumps}
 use Rattle.bpf_step_model.specs.Step.{branches, extended, loaded, caller_number, loads, store_of, stores_at, stores}
 use Rattle.bpf_step_model.specs.Step.{map_operator, half_operator, idle_operand, tells, atomic_left, changes_frame}
 use Rattle.bpf_step_model.specs.Step.{request_of, changes_at, compared_value, may_tell, changes, map_named, area_named}
 use Rattle.bpf_step_model.specs.Step.{code_named, wide_value, key_at, lookup_result, answers, looks_up, loop_call_step}
 use Rattle.bpf_step_model.specs.Step.{calls_loop, takes_ctx, takes_flags, takes_arguments, loops, calls, ends_with}
-use Rattle.bpf_step_model.specs.Step.{ends, insn_step}
-use Rattle.bpf_step_model.specs.Run.{part_bytes, after_request, action_of}
-use Rattle.bpf_step_model.specs.ProgramInOrder.{resumed}
-use Rattle.bpf_verify_sound.proofs.RegisterLaws.{all-set, all-at}
-use Rattle.bpf_verify_sound.proofs.Operands.{word-fits}
+use Rattle.bpf_step_model.specs.{Run.{part_bytes, after_request, action_of}, ProgramInOrder.{resumed}}
+use Rattle.bpf_verify_sound.proofs.{RegisterLaws.{all-set, all-at}, Operands.{word-fits}, SoundValues.{exchanged-below}}
 use Rattle.bpf_verify_sound.proofs.Loads.{extended-below, size-most, part-below}
-use Rattle.bpf_verify_sound.proofs.SoundValues.{SoundIf, word-sound, area-sound, result-sound, all-drop}
-use Rattle.bpf_verify_sound.proofs.SoundValues.{BelowIf, number-below, written-sound, with_half-below}
-use Rattle.bpf_verify_sound.proofs.SoundValues.{combined-below, exchanged-below}
+use Rattle.bpf_verify_sound.proofs.SoundValues.{SoundIf, word-sound, area-sound, result-sound, all-drop, BelowIf}
+use Rattle.bpf_verify_sound.proofs.SoundValues.{number-below, written-sound, with_half-below, combined-below}
 
 -- a machine's parts, in a function by its number
 pub record SoundParts (program : Program) (function : ℕ) (m : Machine) : Type 0 where

@@ -1,30 +1,18 @@
 -- Values, bytes and words of real runs.
-use Rattle.std.proofs.Common.{◌≡◌, ℕ, zero, suc, ◌+◌, ◌-◌, ◌/◌, ◌^◌, ◌<◌, ◌≤◌, Bool, true, false, List, []}
-use Rattle.std.proofs.Common.{◌∷◌, ◌++◌, length, take, drop, map, Option, Some, None, refl, arith}
-use Rattle.std.specs.Prelude.{nat_le, ◌==◌, if◌then◌else◌, slice_range}
-use Rattle.std.specs.List.{AllByRecursion}
-use Rattle.std.specs.Int.{bytes_low_first}
-use Rattle.std.proofs.Math.Nat.{pow-suc, pow-le-pow_right}
-use Rattle.std.proofs.lemmas.Bool.Decides.{nat_tests}
+use Rattle.std.proofs.Common.{◌≡◌, ℕ, zero, suc, ◌+◌, ◌-◌, ◌/◌, ◌^◌, ◌<◌, ◌≤◌, Bool, true, false, List, [], ◌∷◌, ◌++◌}
+use Rattle.std.{proofs.Common.{length, take, drop, map, Option, Some, None, refl, arith}, specs.List.{AllByRecursion}}
+use Rattle.std.specs.{Prelude.{nat_le, ◌==◌, if◌then◌else◌, slice_range}, Int.{bytes_low_first}}
+use Rattle.std.proofs.{Math.Nat.{pow-suc, pow-le-pow_right}, lemmas.Bool.Decides.{nat_tests}}
 use Rattle.std.proofs.lemmas.List.{length-take, length-take-le, length-drop, length-append}
-use Rattle.bpf_insn_types.specs.declared.insn.Width.{Width}
-use Rattle.bpf_insn_types.specs.declared.insn.Width.TheVariants.{W32, W64}
-use Rattle.bpf_insn_types.specs.declared.insn.AluOp.{AluOp}
-use Rattle.bpf_insn_types.specs.declared.insn.AluOp.TheVariants.{Add, Sub, Mov}
-use Rattle.bpf_insn_types.specs.Program.{Program}
-use Rattle.bpf_insn_types.specs.Words.{alu}
-use Rattle.bpf_insn_types.specs.WordBounds.{ResultsFit}
-use Rattle.bpf_insn_types.proofs.WordLaws.{modulus-most}
-use Rattle.array_maps.specs.declared.access.Op.{Op}
-use Rattle.array_maps.specs.declared.access.Op.TheVariants as op
-use Rattle.array_maps.specs.declared.access.Rmw.{Rmw}
-use Rattle.array_maps.specs.declared.access.Rmw.TheVariants.{Op as Applies, Xchg, CmpXchg}
-use Rattle.array_maps.specs.declared.access.Half.{Half}
-use Rattle.array_maps.specs.declared.access.Half.TheVariants.{Low, High}
-use Rattle.array_maps.specs.declared.access.Part.{Part}
+use Rattle.bpf_insn_types.specs.{declared.insn.{Width.{Width, TheVariants.{W32, W64}}, AluOp.{AluOp}}, Words.{alu}}
+use Rattle.bpf_insn_types.specs.{declared.insn.AluOp.TheVariants.{Add, Sub, Mov}, Program.{Program}}
+use Rattle.bpf_insn_types.{specs.WordBounds.{ResultsFit}, proofs.WordLaws.{modulus-most}}
+use Rattle.array_maps.specs.declared.access.{Op.{Op}, Rmw.{Rmw, TheVariants.{Op as Applies, Xchg, CmpXchg}}}
+use Rattle.array_maps.specs.declared.access.{Half.{Half, TheVariants.{Low, High}}, Part.{Part}}
 use Rattle.array_maps.specs.declared.access.Part.TheVariants.{Whole, Half as Of}
 use Rattle.array_maps.specs.Halves.{half_of, of_halves, with_half, halves_added}
 use Rattle.array_maps.specs.Accesses.{combined, changed, exchanged}
+use Rattle.array_maps.specs.declared.access.Op.TheVariants as op
 use Rattle.bpf_step_model.specs.State.{Value, Unwritten, Word, Frame, Ctx, Map, Area, Code, Bytes}
 use Rattle.bpf_step_model.specs.Memory.{with_low_byte, number_of, number_at, written_at}
 use Rattle.bpf_step_model.specs.Values.{on_word, on_words, copied, area_address, shifted, result_of}

@@ -1,13 +1,10 @@
 -- A callback's start is the start of its function.
-use Rattle.std.proofs.Common.{◌≡◌, ℕ, zero, suc, ◌+◌, ◌-◌, ◌<◌, ◌≤◌, Bool, true, false, cond}
-use Rattle.std.proofs.Common.{◌||◌, List, ◌∷◌, get_or, refl, sym, ap, ◌∙◌, arith}
-use Rattle.std.specs.Prelude.{nat_le, ◌==◌}
-use Rattle.std.specs.List.{list_any, filter, count_by, range_with_len}
-use Rattle.std.proofs.lemmas.Bool.Decides.{nat_tests}
+use Rattle.std.proofs.Common.{◌≡◌, ℕ, zero, suc, ◌+◌, ◌-◌, ◌<◌, ◌≤◌, Bool, true, false, cond, ◌||◌, List, ◌∷◌, get_or}
+use Rattle.std.{proofs.Common.{refl, sym, ap, ◌∙◌, arith}, specs.Prelude.{nat_le, ◌==◌}}
+use Rattle.std.{specs.List.{list_any, filter, count_by, range_with_len}, proofs.lemmas.Bool.Decides.{nat_tests}}
 use Rattle.std.proofs.lemmas.List.Sums.{sum_by-cons}
-use Rattle.bpf_insn_types.specs.declared.insn.Insn.{Insn}
-use Rattle.bpf_insn_types.specs.Program.{Program, slot_count, named_from, is_callback_start}
-use Rattle.bpf_insn_types.specs.Program.{callback_starts, function_of}
+use Rattle.bpf_insn_types.specs.{declared.insn.Insn.{Insn}, Program.{function_of}}
+use Rattle.bpf_insn_types.specs.Program.{Program, slot_count, named_from, is_callback_start, callback_starts}
 use Rattle.bpf_verify_model.specs.Count.{function_start}
 use Rattle.bpf_step_model.specs.SoundMachine.{IsStart}
 

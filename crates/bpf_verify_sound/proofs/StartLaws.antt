@@ -1,19 +1,13 @@
 -- Where callbacks start.
-use Rattle.std.proofs.Common.{◌≡◌, ℕ, zero, suc, ◌+◌, ◌-◌, ◌<◌, ◌≤◌, Bool, true, false, cond, ◌&&◌, ◌||◌, List}
-use Rattle.std.proofs.Common.{[], ◌∷◌, Option, Some, None, is_some, refl, sym, ap, ◌∙◌, subst, arith}
-use Rattle.std.specs.Prelude.{ℤ, nat_lt, nat_le, nat_eq, ◌==◌, if◌then◌else◌}
+use Rattle.std.proofs.Common.{◌≡◌, ℕ, zero, suc, ◌+◌, ◌-◌, ◌<◌, ◌≤◌, Bool, true, false, cond, ◌&&◌, ◌||◌, List, [], ◌∷◌}
+use Rattle.std.proofs.Common.{Option, Some, None, is_some, refl, sym, ap, ◌∙◌, subst, arith}
+use Rattle.std.{specs.Prelude.{ℤ, nat_lt, nat_le, nat_eq, ◌==◌, if◌then◌else◌}, proofs.lemmas.Bool.Decides.{nat_tests}}
 use Rattle.std.specs.List.{list_any, filter, count_by, range_with_len, cons_option}
-use Rattle.std.proofs.lemmas.Bool.Decides.{nat_tests}
-use Rattle.std.proofs.lemmas.List.Sums.{sum_by-cons}
-use Rattle.std.proofs.lemmas.Map.Views.{any-filter_same}
-use Rattle.bpf_insn_types.specs.Slots.{slots_of}
-use Rattle.bpf_insn_types.specs.declared.insn.ImmKind.{ImmKind}
-use Rattle.bpf_insn_types.specs.declared.insn.ImmKind.TheVariants.{Code}
-use Rattle.bpf_insn_types.specs.declared.insn.Insn.{Insn}
-use Rattle.bpf_insn_types.specs.declared.insn.Insn.TheVariants.{LoadImm}
+use Rattle.std.proofs.lemmas.{List.Sums.{sum_by-cons}, Map.Views.{any-filter_same}}
+use Rattle.bpf_insn_types.specs.{Slots.{slots_of}, declared.insn.{ImmKind.{ImmKind, TheVariants.{Code}}, Insn.{Insn}}}
+use Rattle.bpf_insn_types.{specs.declared.insn.Insn.TheVariants.{LoadImm}, proofs.ProgramLaws.{insn_at-end}}
 use Rattle.bpf_insn_types.specs.Program.{moved, insn_at, named_past, code_target, named_by, named_from}
 use Rattle.bpf_insn_types.specs.Program.{is_callback_start, slot_count, callback_starts, function_of}
-use Rattle.bpf_insn_types.proofs.ProgramLaws.{insn_at-end}
 
 -- what is found among more is found
 or-there : (a b : Bool) → b ≡ true → (a || b) ≡ true

@@ -1,34 +1,18 @@
 -- One step of an accepted program goes on within the abstract states.
-use Rattle.std.proofs.Common.{◌≡◌, ℕ, Option, Some, None, is_some, refl, sym, ap, ◌∙◌, subst}
-use Rattle.std.specs.Prelude.{◌==◌}
-use Rattle.bpf_insn_types.specs.Values.{AreInsns}
-use Rattle.bpf_insn_types.specs.declared.insn.Insn.{Insn}
-use Rattle.bpf_insn_types.specs.Program.{Program, insn_at, function_of}
+use Rattle.std.{proofs.Common.{◌≡◌, ℕ, Option, Some, None, is_some, refl, sym, ap, ◌∙◌, subst}, specs.Prelude.{◌==◌}}
+use Rattle.bpf_insn_types.specs.{Values.{AreInsns}, declared.insn.Insn.{Insn}, Program.{Program, insn_at, function_of}}
 use Rattle.bpf_insn_types.specs.WordBounds.{ResultsFit}
-use Rattle.bpf_verify_model.specs.declared.state.State.{State}
-use Rattle.bpf_verify_model.specs.declared.outflow.Outflow.{Outflow}
-use Rattle.bpf_verify_model.specs.declared.rule.Rule.{Rule}
-use Rattle.bpf_verify_model.specs.Rules.{fault_of}
-use Rattle.bpf_verify_model.specs.Flow.{flow}
-use Rattle.bpf_verify_model.specs.Inflow.{flow_unless, flow_from, state_before}
+use Rattle.bpf_verify_model.specs.declared.{state.State.{State}, outflow.Outflow.{Outflow}, rule.Rule.{Rule}}
+use Rattle.bpf_verify_model.specs.{Rules.{fault_of}, Flow.{flow}, Inflow.{flow_unless, flow_from, state_before}}
 use Rattle.bpf_verify_model.specs.Accepted.{Accepted}
-use Rattle.bpf_step_model.specs.State.{Machine, callback_entry}
-use Rattle.bpf_step_model.specs.SoundMachine.{SoundMachine}
-use Rattle.bpf_step_model.specs.Step.{StepOutcome, NoStep, Next, Asks, Loops, Refuses, Exits}
-use Rattle.bpf_step_model.specs.Step.{within_function, insn_step, insn_step_if_any, step}
-use Rattle.bpf_step_model.specs.Run.{after_request}
-use Rattle.bpf_step_model.specs.ProgramInOrder.{resumed}
-use Rattle.bpf_verify_sound.specs.Containment.{Contained, ContainedIf, ContainedBefore}
-use Rattle.bpf_verify_sound.specs.KnownStates.{IsWellFormedState, IfReachedWellFormed}
-use Rattle.bpf_verify_sound.specs.Standing.{KeepsRules}
-use Rattle.bpf_verify_sound.specs.Ways.{GoesBy, EntersBy, StepFlows}
-use Rattle.bpf_verify_sound.specs.Soundness.{StepContained}
-use Rattle.bpf_verify_sound.proofs.InflowLaws.{state_before-brings}
-use Rattle.bpf_verify_sound.proofs.RuleLaws.{fault_of-none, accepted-at, accepted-sizes, fits_at}
-use Rattle.bpf_verify_sound.proofs.KnownLaws.{incoming-known}
-use Rattle.bpf_verify_sound.proofs.Moves.{within_function-flows}
-use Rattle.bpf_verify_sound.proofs.Forms.{insn_step-flow}
-use Rattle.bpf_verify_sound.proofs.Tests.{and-one}
+use Rattle.bpf_step_model.specs.{State.{Machine, callback_entry}, SoundMachine.{SoundMachine}, Run.{after_request}}
+use Rattle.bpf_step_model.specs.Step.{StepOutcome, NoStep, Next, Asks, Loops, Refuses, Exits, within_function}
+use Rattle.bpf_step_model.specs.{Step.{insn_step, insn_step_if_any, step}, ProgramInOrder.{resumed}}
+use Rattle.bpf_verify_sound.specs.{Containment.{Contained, ContainedIf, ContainedBefore}, Standing.{KeepsRules}}
+use Rattle.bpf_verify_sound.specs.{KnownStates.{IsWellFormedState, IfReachedWellFormed}, Soundness.{StepContained}}
+use Rattle.bpf_verify_sound.{specs.Ways.{GoesBy, EntersBy, StepFlows}, proofs.InflowLaws.{state_before-brings}}
+use Rattle.bpf_verify_sound.proofs.{RuleLaws.{fault_of-none, accepted-at, accepted-sizes, fits_at}, Tests.{and-one}}
+use Rattle.bpf_verify_sound.proofs.{KnownLaws.{incoming-known}, Moves.{within_function-flows}, Forms.{insn_step-flow}}
 
 -- where the edges out of a slot are those of the definitions, each machine that a step leads to is contained before its
 -- slot

@@ -1,39 +1,22 @@
 -- Stores go on within the abstract states.
 use Rattle.std.proofs.Common.{◌≡◌, ℕ, ◌+◌, ◌≤◌, Bool, true, false, Option, Some, None, refl, sym, subst, arith}
-use Rattle.std.specs.Prelude.{ℤ, nat_le, if◌then◌else◌}
-use Rattle.std.proofs.lemmas.Bool.Decides.{nat_tests}
-use Rattle.bpf_insn_types.specs.Sizes.{bytes_of}
-use Rattle.bpf_insn_types.specs.declared.insn.Size.{Size}
-use Rattle.bpf_insn_types.specs.declared.insn.Insn.TheVariants.{StoreImm, Store as StoreInsn}
-use Rattle.bpf_insn_types.specs.Program.{Program, leads_to}
-use Rattle.bpf_insn_types.specs.Words.{word_of}
-use Rattle.array_maps.specs.declared.access.Part.{Part}
-use Rattle.array_maps.specs.declared.access.Part.TheVariants.{Whole, Half as Of}
-use Rattle.bpf_verify_model.specs.Written.{written_from}
-use Rattle.bpf_verify_model.specs.declared.abstract_value.AbstractValue.{AbstractValue}
-use Rattle.bpf_verify_model.specs.declared.abstract_value.AbstractValue.TheVariants as known
-use Rattle.bpf_verify_model.specs.declared.memory_access.MemoryAccess.{MemoryAccess}
-use Rattle.bpf_verify_model.specs.declared.memory_access.AccessKind.TheVariants.{Writes}
-use Rattle.bpf_verify_model.specs.declared.state.State.{State}
-use Rattle.bpf_verify_model.specs.States.{known_register}
-use Rattle.bpf_verify_model.specs.Values.{is_number_value}
+use Rattle.std.{specs.Prelude.{ℤ, nat_le, if◌then◌else◌}, proofs.lemmas.Bool.Decides.{nat_tests}}
+use Rattle.bpf_insn_types.specs.{Sizes.{bytes_of}, declared.insn.Size.{Size}, Program.{Program, leads_to}}
+use Rattle.bpf_insn_types.specs.{declared.insn.Insn.TheVariants.{StoreImm, Store as StoreInsn}, Words.{word_of}}
+use Rattle.array_maps.specs.declared.access.Part.{Part, TheVariants.{Whole, Half as Of}}
+use Rattle.bpf_verify_model.specs.{Written.{written_from}, declared.abstract_value.AbstractValue.{AbstractValue}}
+use Rattle.bpf_verify_model.specs.declared.memory_access.{MemoryAccess.{MemoryAccess}, AccessKind.TheVariants.{Writes}}
+use Rattle.bpf_verify_model.specs.{declared.state.State.{State}, States.{known_register}, Values.{is_number_value}}
 use Rattle.bpf_verify_model.specs.Accesses.{is_ctx}
 use Rattle.bpf_verify_model.specs.Flow.{with_own, with_written, with_store, ahead_outflow, flow, known_behind}
-use Rattle.bpf_step_model.specs.State.{Value, Word, Machine, register, advanced, with_frame}
-use Rattle.bpf_step_model.specs.Memory.{Place, InFrame, InMap, written_at, place}
-use Rattle.bpf_step_model.specs.SoundMachine.{SoundMachine}
+use Rattle.bpf_verify_model.specs.declared.abstract_value.AbstractValue.TheVariants as known
+use Rattle.bpf_step_model.specs.{State.{Value, Word, Machine, register, advanced, with_frame}, Run.{after_request}}
+use Rattle.bpf_step_model.specs.{Memory.{Place, InFrame, InMap, written_at, place}, SoundMachine.{SoundMachine}}
 use Rattle.bpf_step_model.specs.Step.{store_of, stores_at, stores, insn_step}
-use Rattle.bpf_step_model.specs.Run.{after_request}
-use Rattle.bpf_verify_sound.specs.Containment.{ContainsValue, Contained}
-use Rattle.bpf_verify_sound.specs.KnownStates.{IsWellFormedState}
-use Rattle.bpf_verify_sound.specs.Standing.{KeepsRules}
-use Rattle.bpf_verify_sound.specs.Ways.{GoesBy, StepFlows}
-use Rattle.bpf_verify_sound.proofs.ByteLaws.{write-known}
-use Rattle.bpf_verify_sound.proofs.PlaceLaws.{PlaceIs}
-use Rattle.bpf_verify_sound.proofs.AccessLaws.{accesses}
-use Rattle.bpf_verify_sound.proofs.Operands.{register-known}
-use Rattle.bpf_verify_sound.proofs.Moves.{follows-on, ahead-goes}
-use Rattle.bpf_verify_sound.proofs.Tests.{not-not-true, test-fails}
+use Rattle.bpf_verify_sound.specs.{Containment.{ContainsValue, Contained}, KnownStates.{IsWellFormedState}}
+use Rattle.bpf_verify_sound.{specs.{Standing.{KeepsRules}, Ways.{GoesBy, StepFlows}}, proofs.ByteLaws.{write-known}}
+use Rattle.bpf_verify_sound.proofs.{PlaceLaws.{PlaceIs}, AccessLaws.{accesses}, Operands.{register-known}}
+use Rattle.bpf_verify_sound.proofs.{Moves.{follows-on, ahead-goes}, Tests.{not-not-true, test-fails}}
 
 -- a store to the frame marks its bytes
 frame-store : (program : Program) (m : Machine) (state : State) (size n p : ℕ)

@@ -1,11 +1,10 @@
 -- Abstract states contain machines.
 use Rattle.std.specs.Prelude.{◌≡◌, ℕ, ◌<◌, Bool, true, false, List, [], ◌∷◌, Option, Some, None, is_some}
 use Rattle.value_range.specs.Spans.{Contains}
-use Rattle.bpf_verify_model.specs.declared.abstract_value.AbstractValue.{AbstractValue}
-use Rattle.bpf_verify_model.specs.declared.abstract_value.AbstractValue.TheVariants as known
-use Rattle.bpf_verify_model.specs.declared.state.State.{State}
-use Rattle.bpf_insn_types.specs.Program.{Program, insn_at}
+use Rattle.bpf_verify_model.specs.declared.{abstract_value.AbstractValue.{AbstractValue}, state.State.{State}}
 use Rattle.bpf_verify_model.specs.Inflow.{state_before}
+use Rattle.bpf_verify_model.specs.declared.abstract_value.AbstractValue.TheVariants as known
+use Rattle.bpf_insn_types.specs.Program.{Program, insn_at}
 use Rattle.bpf_step_model.specs.State.{Value, Word, Frame, Ctx, Map, Area, Code, Bytes, Machine}
 
 -- a register's value is one of those that are known of it

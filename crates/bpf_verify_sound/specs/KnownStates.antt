@@ -1,10 +1,8 @@
 -- What is true of everything that is known: ranges are spans, and there are eleven registers and 512 bytes.
-use Rattle.std.specs.Prelude.{◌≡◌, Bool, List, length, Option, Some, None}
-use Rattle.std.specs.List.{AllByRecursion}
+use Rattle.std.specs.{Prelude.{◌≡◌, Bool, List, length, Option, Some, None}, List.{AllByRecursion}}
 use Rattle.value_range.specs.Spans.{IsSpan}
-use Rattle.bpf_verify_model.specs.declared.abstract_value.AbstractValue.{AbstractValue}
+use Rattle.bpf_verify_model.specs.declared.{abstract_value.AbstractValue.{AbstractValue}, state.State.{State}}
 use Rattle.bpf_verify_model.specs.declared.abstract_value.AbstractValue.TheVariants.{Number, Area, AreaOrNull}
-use Rattle.bpf_verify_model.specs.declared.state.State.{State}
 
 -- the range of a value, if it has one, is a span
 abbrev pub HasSpan : AbstractValue → Type 0

@@ -1,23 +1,17 @@
 -- The soundness of the verifier: an accepted program's machine is never stuck.
-use Rattle.std.specs.Prelude.{◌≡◌, ℕ, ℤ, pos, negsuc, ◌+◌, ◌<◌, ◌≤◌, ◌^◌, true}
-use Rattle.std.specs.Prelude.{List, length, Option, Some, None, is_some}
-use Rattle.std.specs.List.{AllByRecursion, sum}
-use Rattle.bpf_insn_types.specs.Values.{AreInsns}
-use Rattle.bpf_insn_types.specs.Program.{Program, slot_count, function_of}
+use Rattle.std.specs.Prelude.{◌≡◌, ℕ, ℤ, pos, negsuc, ◌+◌, ◌<◌, ◌≤◌, ◌^◌, true, List, length, Option, Some, None}
+use Rattle.std.specs.{Prelude.{is_some}, List.{AllByRecursion, sum}}
+use Rattle.bpf_insn_types.specs.{Values.{AreInsns}, Program.{Program, slot_count, function_of}}
 use Rattle.array_maps.specs.Accesses.{left_by}
-use Rattle.bpf_verify_model.specs.Accepted.{Accepted}
-use Rattle.bpf_verify_model.specs.Count.{longest, function_start, count_of}
+use Rattle.bpf_verify_model.specs.{Accepted.{Accepted}, Count.{longest, function_start, count_of}}
 use Rattle.bpf_verify_model.specs.Inflow.{state_before}
-use Rattle.bpf_step_model.specs.State.{Machine, LoopCall, main_entry, callback_entry}
+use Rattle.bpf_step_model.specs.{State.{Machine, LoopCall, main_entry, callback_entry}, Iteration.{Iterated, iteration}}
 use Rattle.bpf_step_model.specs.Step.{StepOutcome, NoStep, Next, Asks, Loops, Refuses, Exits, step}
-use Rattle.bpf_step_model.specs.Run.{BoundedResult, Ended, Stuck, Unfinished, StopReason, Exit, Loop}
-use Rattle.bpf_step_model.specs.Run.{Refused, RunSegment, after_request, action_of, run}
-use Rattle.bpf_step_model.specs.Iteration.{Iterated, iteration}
-use Rattle.bpf_step_model.specs.LoopInOrder.{Looped, loop_in_order}
+use Rattle.bpf_step_model.specs.Run.{BoundedResult, Ended, Stuck, Unfinished, StopReason, Exit, Loop, Refused}
+use Rattle.bpf_step_model.specs.{Run.{RunSegment, after_request, action_of, run}, LoopInOrder.{Looped, loop_in_order}}
 use Rattle.bpf_step_model.specs.ProgramInOrder.{LoopMade, Finished, resumed, program_in_order}
-use Rattle.bpf_verify_sound.specs.Containment.{ContainedBefore}
-use Rattle.bpf_verify_sound.specs.KnownStates.{IfReachedWellFormed}
 use Rattle.bpf_step_model.specs.SoundMachine.{IsStart, SoundMachine, SoundCall}
+use Rattle.bpf_verify_sound.specs.{Containment.{ContainedBefore}, KnownStates.{IfReachedWellFormed}}
 
 -- an accepted program of instructions whose fields fit
 pub record IsSoundProgram (program : Program) : Type 0 where
@@ -108,7 +102,7 @@ abbrev pub EntryIsOverApproximated : Type 0
 EntryIsOverApproximated = (program : Program) → IsSoundProgram program → (argument : ℕ) → argument < 2 ^ 64
     → OverApproximates program (main_entry argument)
 
--- a run isn't stuck, and where it comes to a turn, it goes on within the abstract states from there, over words that
+-- a run isn't stuck, and where it pauses at a turn, it goes on within the abstract states from there, over words that
 -- are such again
 abbrev pub StopIsOverApproximated : Program → StopReason → Type 0
 StopIsOverApproximated program (Exit ret) = ret < 2 ^ 64

@@ -1,14 +1,10 @@
 -- Where a machine goes by the edges out of a slot.
-use Rattle.std.specs.Prelude.{◌≡◌, ℕ, ◌<◌, ◌^◌, ◌⊎◌, true, Option, Some, None, is_some}
-use Rattle.std.specs.List.{sum}
+use Rattle.std.specs.{Prelude.{◌≡◌, ℕ, ◌<◌, ◌^◌, ◌⊎◌, true, Option, Some, None, is_some}, List.{sum}}
 use Rattle.bpf_insn_types.specs.Program.{Program, insn_at, leads_to}
-use Rattle.bpf_verify_model.specs.declared.abstract_value.AbstractValue.{AbstractValue}
-use Rattle.bpf_verify_model.specs.declared.outflow.Edge.{Edge}
+use Rattle.bpf_verify_model.specs.declared.{abstract_value.AbstractValue.{AbstractValue}, outflow.Edge.{Edge}}
 use Rattle.bpf_verify_model.specs.declared.outflow.Outflow.{Outflow}
-use Rattle.bpf_step_model.specs.State.{Value, Machine, callback_entry}
+use Rattle.bpf_step_model.specs.{State.{Value, Machine, callback_entry}, Run.{after_request}, ProgramInOrder.{resumed}}
 use Rattle.bpf_step_model.specs.Step.{StepOutcome, NoStep, Next, Asks, Loops, Refuses, Exits}
-use Rattle.bpf_step_model.specs.Run.{after_request}
-use Rattle.bpf_step_model.specs.ProgramInOrder.{resumed}
 use Rattle.bpf_verify_sound.specs.Containment.{ContainsValue, Contained}
 
 -- where something is known of a result, there is one, and it is true of it

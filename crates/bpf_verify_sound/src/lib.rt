@@ -23,7 +23,7 @@ pub fn law_of_steps()
 }
 
 /// The law of runs: no run of an accepted program is stuck at any bound, over maps of the sizes, and from
-/// where it comes to a turn it goes on so. Each ends within the most instructions from its slot on, with
+/// where it pauses at a turn it goes on so. Each ends within the most instructions from its slot on, with
 /// what may still come after the turn; a callback's ends at an exit alone. From the start of a function
 /// that is the count that the verifier reports: a callback starts where its function does, and no count is
 /// more than the program's slots.

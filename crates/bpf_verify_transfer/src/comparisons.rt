@@ -1,10 +1,9 @@
 //! Both edges of a comparison.
 
 ghost use Rattle.std.specs.Prelude.{◌≡◌};
-ghost use Rattle.bpf_verify_model.specs.States.{known_register};
+ghost use Rattle.bpf_verify_model.specs.{States.{known_register}, Flow.{branch_states}};
 ghost use Rattle.bpf_verify_model.specs.Flow.{compared_imm, with_operand_number, refines, unrefined_branch};
 ghost use Rattle.bpf_verify_model.specs.Flow.{number_branch, register_branch, operand_branch, null_check_branch};
-ghost use Rattle.bpf_verify_model.specs.Flow.{branch_states};
 
 use bpf_insn_types::{Compare, Operand, Reg, Width};
 use bpf_verify_model::{AbstractValue, BranchStates, State};

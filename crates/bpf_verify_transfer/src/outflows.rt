@@ -1,15 +1,13 @@
 //! The edges out of an instruction.
 
 ghost use Rattle.std.specs.Prelude.{◌≡◌, ◌≤◌, ◌+◌};
-ghost use Rattle.bpf_insn_types.specs.Slots.{slots_of};
-ghost use Rattle.bpf_insn_types.specs.Program.{moved};
-ghost use Rattle.bpf_verify_model.specs.States.{known_register};
-ghost use Rattle.bpf_verify_model.specs.Flow.{edge_to, branch_outflow, jump_outflow, ahead_outflow};
-ghost use Rattle.bpf_verify_model.specs.Flow.{enters, calls_back, known_behind, flow};
+ghost use Rattle.bpf_insn_types.specs.{Slots.{slots_of}, Program.{moved}};
+ghost use Rattle.bpf_verify_model.specs.{States.{known_register}, Flow.{known_behind, flow}};
+ghost use Rattle.bpf_verify_model.specs.Flow.{edge_to, branch_outflow, jump_outflow, ahead_outflow, enters, calls_back};
 
-use crate::behind_insn::behind;
 use crate::comparisons::branch_states;
 use crate::entries::callback_entry;
+use crate::insn_effects::state_after;
 use bpf_insn_types::{Insn, slots};
 use bpf_verify_model::{AbstractValue, BranchStates, Edge, Helper, Outflow, State, reg};
 use bpf_verify_values::{helper_of, slot_beyond};
@@ -74,7 +72,7 @@ fn ahead(sizes: &[u32], slot: u32, state: &State, insn: Insn) -> Option<Edge>
     ensures { result ≡ edge_to (Some (slot + slots_of insn)) (Some (known_behind sizes.now slot state.now insn)) }
 {
     let mut after = *state;
-    behind(sizes, slot, &mut after, insn);
+    state_after(sizes, slot, &mut after, insn);
     Some(Edge {
         target: slot + slots(&insn),
         state: after,

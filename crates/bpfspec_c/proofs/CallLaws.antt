@@ -1,14 +1,11 @@
 -- What calls give, by whether the handle held a machine.
 use Rattle.std.proofs.Common.{◌≡◌, ◌≢◌, ℕ, ℤ, Bool, true, false, if◌then◌else◌, ◌==◌, List, length, Option, Some, None}
-use Rattle.std.proofs.Common.{refl, sym, ap, subst, ◌∙◌}
-use Rattle.std.specs.Prelude.{Result, is_some}
+use Rattle.std.{proofs.Common.{refl, sym, ap, subst, ◌∙◌}, specs.Prelude.{Result, is_some}}
 use Rattle.std.proofs.lemmas.Bool.{eq-eqb, ne_eqb}
-use Rattle.bpfspec_machine.specs.declared.load_error.LoadError.{LoadError}
-use Rattle.bpfspec_machine.specs.Machines.{MachineState}
+use Rattle.bpfspec_machine.specs.{declared.load_error.LoadError.{LoadError}, Machines.{MachineState}}
 use Rattle.bpfspec_machine.specs.Elements.{has_element, with_element_if, has_words, words_of, with_words_if}
-use Rattle.bpfspec_c.specs.declared.refusal.Refusal.{Refusal}
+use Rattle.bpfspec_c.specs.{declared.refusal.Refusal.{Refusal}, Calls.{SetsWords}}
 use Rattle.bpfspec_c.specs.Calls.{LoadedAs, Loads, Ran, Runs, RanAll, RunsIf, RunsEach, Answers, Tells, words_at, Sets}
-use Rattle.bpfspec_c.specs.Calls.{SetsWords}
 use Rattle.bpfspec_c.specs.Statuses as status
 
 -- a machine that is there stays

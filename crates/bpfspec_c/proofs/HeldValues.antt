@@ -10,9 +10,7 @@ use denote.RawPtr.{Ptr, ptr_val}
 use denote.Steps.{nothing}
 use denote.Struct.Struct.{within}
 use denote.Struct.Owning.{shape}
-use Rattle.std.specs.Prelude.{true, is_some}
-use Rattle.std.specs.declared.option.Option.{Option}
-use Rattle.std.specs.declared.option.Option.TheVariants.{None, Some}
+use Rattle.std.specs.{Prelude.{true, is_some}, declared.option.Option.{Option, TheVariants.{None, Some}}}
 use Rattle.bpfspec_machine.specs.contracts.machine.Machine.{the_row as machine_row}
 use Rattle.bpfspec_c.specs.Holding.{holds}
 use Rattle.bpfspec_c.specs.contracts.held.Held as held

@@ -1,12 +1,8 @@
 -- What is given of what was printed.
-use Rattle.std.proofs.Common.{◌≡◌, ℕ, ℤ, ◌<◌, ◌≤◌, Bool, true, false, List, ◌++◌, length, drop, Ok, Err, Result}
-use Rattle.std.proofs.Common.{sym, subst, arith}
-use Rattle.std.specs.Prelude.{nat_le}
-use Rattle.std.proofs.lemmas.Bool.Decides.{nat_tests}
+use Rattle.std.proofs.Common.{◌≡◌, ℕ, ℤ, ◌<◌, ◌≤◌, Bool, true, false, List, ◌++◌, length, drop, Ok, Err, Result, sym}
+use Rattle.std.{proofs.{Common.{subst, arith}, lemmas.Bool.Decides.{nat_tests}}, specs.Prelude.{nat_le}}
 use Rattle.std.specs.String.{string_bytes}
-use Rattle.bpfspec_serve.specs.declared.serving.Answer.{Answer as AnswerGiven}
-use Rattle.bpfspec_serve.specs.Answering.{answer_of}
-use Rattle.bpfspec_serve.specs.Output.{Answer}
+use Rattle.bpfspec_serve.specs.{declared.serving.Answer.{Answer as AnswerGiven}, Answering.{answer_of}, Output.{Answer}}
 use Rattle.bpfspec_c.specs.Printing.{Gives, WritesIf, answer_status, given}
 use Rattle.bpfspec_c.specs.Statuses as status
 

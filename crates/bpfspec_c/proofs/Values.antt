@@ -18,11 +18,8 @@ use denote.Param.{layout}
 use denote.Param.Laws.{Laws}
 use denote.Struct.Struct.{within}
 use denote.Struct.Owning.{shape}
-use Rattle.core.specs.declared.alloc.Allocator.{Ghosts}
-use Rattle.core.proofs.alloc.Calls.{Al, handle_tells}
-use Rattle.core.proofs.cell.Inside.{Good}
-use Rattle.std_alloc.specs.Box.Ownership.{box_owns}
-use Rattle.std_alloc.proofs.ResultValues.{and_tt}
+use Rattle.core.{specs.declared.alloc.Allocator.{Ghosts}, proofs.{alloc.Calls.{Al, handle_tells}, cell.Inside.{Good}}}
+use Rattle.std_alloc.{specs.Box.Ownership.{box_owns}, proofs.ResultValues.{and_tt}}
 use Rattle.bpfspec_c.specs.contracts.loose.Loose as loose
 
 abbrev pub both : Val → Val → Val

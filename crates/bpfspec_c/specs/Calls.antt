@@ -1,16 +1,13 @@
 -- What the calls of the library give. Each has the handle's machine before and after it, its status, and the
 -- contents of what it writes to, before and after it.
-use Rattle.std.specs.Prelude.{◌≡◌, ℕ, ℤ, Bool, true, false, if◌then◌else◌, ◌==◌, List, length, slice_get}
-use Rattle.std.specs.Prelude.{Option, Some, None, Result, Ok, Err, Box}
-use Rattle.std.specs.declared.alloc.Global.{Global}
+use Rattle.std.specs.Prelude.{◌≡◌, ℕ, ℤ, Bool, true, false, if◌then◌else◌, ◌==◌, List, length, slice_get, Option, Some}
+use Rattle.std.specs.{Prelude.{None, Result, Ok, Err, Box}, declared.alloc.Global.{Global}}
 use Rattle.bpf_insn_types.specs.Outcome.{MatchesUnlessMemory}
 use Rattle.loop_core_model.specs.declared.verdict.LoopReport.{LoopReport}
-use Rattle.bpfspec_machine.specs.declared.load_error.LoadError.{LoadError}
+use Rattle.bpfspec_machine.specs.{declared.load_error.LoadError.{LoadError}, Loading.{load_refusal}}
 use Rattle.bpfspec_machine.specs.Machines.{MachineState, MachineRan, RanEach, count_at}
-use Rattle.bpfspec_machine.specs.Loading.{load_refusal}
 use Rattle.bpfspec_machine.specs.Elements.{has_element, element_of, with_element_if, has_words, words_of, with_words_if}
-use Rattle.bpfspec_c.specs.declared.refusal.Refusal.{Refusal}
-use Rattle.bpfspec_c.specs.declared.loop_line.LoopLine.{LoopLine}
+use Rattle.bpfspec_c.specs.declared.{refusal.Refusal.{Refusal}, loop_line.LoopLine.{LoopLine}}
 use Rattle.bpfspec_c.specs.Refusals.{error_status, told_after}
 use Rattle.bpfspec_c.specs.Statuses as status
 

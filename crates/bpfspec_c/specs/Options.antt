@@ -1,7 +1,6 @@
 -- What C asks of facts.
 use Rattle.std.specs.Prelude.{if◌then◌else◌}
-use Rattle.bpfspec_command_line.specs.declared.job.Ask.{Ask}
-use Rattle.bpfspec_command_line.specs.declared.job.UnitForm.TheVariants.{Assembler, Hex}
+use Rattle.bpfspec_command_line.specs.declared.job.{Ask.{Ask}, UnitForm.TheVariants.{Assembler, Hex}}
 use Rattle.loop_core_model.specs.declared.loop_test.Test.TheVariants.{Lrpd, Flow}
 use Rattle.bpfspec_c.specs.declared.options.Options.{Options}
 

@@ -1,12 +1,10 @@
 -- What the calls that print give. Each has its status, and the contents of the buffer and of the size that is written,
 -- before and after it.
-use Rattle.std.specs.Prelude.{◌≡◌, ℕ, ℤ, Bool, true, false, nat_le, List, ◌++◌, length, drop}
-use Rattle.std.specs.Prelude.{Option, Some, None, IfSome, Result, Ok, Err}
-use Rattle.bpfspec_serve.specs.declared.serving.Served.{Served}
-use Rattle.bpfspec_serve.specs.declared.serving.Served.TheVariants as served
-use Rattle.bpfspec_serve.specs.declared.serving.Answer.{Answer as AnswerGiven}
+use Rattle.std.specs.Prelude.{◌≡◌, ℕ, ℤ, Bool, true, false, nat_le, List, ◌++◌, length, drop, Option, Some, None}
+use Rattle.std.specs.Prelude.{IfSome, Result, Ok, Err}
+use Rattle.bpfspec_serve.specs.{declared.serving.{Served.{Served}, Answer.{Answer as AnswerGiven}}, Output.{Answer}}
 use Rattle.bpfspec_serve.specs.Answering.{answer_of}
-use Rattle.bpfspec_serve.specs.Output.{Answer}
+use Rattle.bpfspec_serve.specs.declared.serving.Served.TheVariants as served
 use Rattle.bpfspec_c.specs.Statuses as status
 
 -- the status of an answer, which says what the program's exit status does: accepted, refused, or no text of its form

@@ -3,8 +3,7 @@ use Rattle.std.specs.Prelude.{ℤ}
 use Rattle.bpf_text_lex.specs.FaultNumbers.{text_fault_number}
 use Rattle.bpf_insn.specs.FaultNumbers.{codec_fault_number}
 use Rattle.bpf_verify_model.specs.RuleNumbers.{rule_number}
-use Rattle.bpfspec_machine.specs.declared.load_error.LoadError.{LoadError}
-use Rattle.bpfspec_machine.specs.declared.load_error.LoadError.TheVariants.{Text, Codec, Rule, Memory}
+use Rattle.bpfspec_machine.specs.declared.load_error.LoadError.{LoadError, TheVariants.{Text, Codec, Rule, Memory}}
 use Rattle.bpfspec_c.specs.declared.refusal.Refusal.{Refusal}
 use Rattle.bpfspec_c.specs.Statuses as status
 

@@ -2,8 +2,8 @@
 
 ghost use Rattle.std.specs.Prelude.{◌≡◌, None, length};
 ghost use Rattle.bpfspec_machine.specs.Loading.{loaded, text_program, hex_program, insns_program};
-ghost use Rattle.bpfspec_c.specs.Calls.{Holds, Loads, Runs, RunsEach, Tells, Sets, SetsWords};
-ghost use Rattle.bpfspec_c.specs.Calls.{value_at, size_at, words_at, most_at, loop_at};
+ghost use Rattle.bpfspec_c.specs.Calls.{Holds, Loads, Runs, RunsEach, Tells, Sets, SetsWords, value_at, size_at};
+ghost use Rattle.bpfspec_c.specs.Calls.{words_at, most_at, loop_at};
 
 use crate::loaded::Loaded;
 use crate::loop_line::{LoopLine, loop_line};

@@ -1,11 +1,8 @@
 //! What a handle holds.
 
-ghost use Rattle.std.specs.Prelude.{◌≡◌, true, is_some};
-ghost use Rattle.std.specs.declared.option.Option.{Option};
-ghost use Rattle.std.specs.declared.option.Option.TheVariants.{None, Some};
+ghost use Rattle.std.specs.{Prelude.{◌≡◌, true, is_some}, declared.option.Option.{Option, TheVariants.{None, Some}}};
 ghost use Rattle.std.specs.Coded.{coded_option};
-ghost use Rattle.bpfspec_machine.specs.Machines.{MachineState};
-ghost use Rattle.bpfspec_machine.specs.contracts.machine.Machine.{the_row as machine_row};
+ghost use Rattle.bpfspec_machine.specs.{Machines.{MachineState}, contracts.machine.Machine.{the_row as machine_row}};
 ghost use Rattle.bpfspec_c.specs.Holding.{holds};
 
 use crate::loose::Loose;

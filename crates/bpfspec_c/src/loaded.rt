@@ -1,7 +1,6 @@
 //! A handle.
 
-ghost use Rattle.std.specs.Prelude.{◌≡◌, is_some};
-ghost use Rattle.std.specs.Option.{MatchOption};
+ghost use Rattle.std.specs.{Prelude.{◌≡◌, is_some}, Option.{MatchOption}};
 ghost use Rattle.std.specs.declared.option.Option.TheVariants.{None, Some};
 
 use crate::held::Held;

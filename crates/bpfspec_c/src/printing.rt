@@ -1,12 +1,10 @@
 //! The calls that print what the program prints of an input.
 
 ghost use Rattle.std.specs.Prelude.{◌≡◌};
-ghost use Rattle.bpfspec_command_line.specs.declared.job.Job.TheVariants.{Serve, Facts};
-ghost use Rattle.bpfspec_command_line.specs.declared.job.Mode.TheVariants.{Verify};
+ghost use Rattle.bpfspec_command_line.specs.declared.job.{Job.TheVariants.{Serve, Facts}, Mode.TheVariants.{Verify}};
 ghost use Rattle.bpfspec_command_line.specs.declared.job.UnitForm.TheVariants.{Assembler, Hex};
 ghost use Rattle.bpfspec_serve.specs.Answering.{Answers};
-ghost use Rattle.bpfspec_c.specs.Options.{ask_of};
-ghost use Rattle.bpfspec_c.specs.Printing.{Gives, Prints, answer_status, given};
+ghost use Rattle.bpfspec_c.specs.{Options.{ask_of}, Printing.{Gives, Prints, answer_status, given}};
 
 use crate::options::{Options, ask_of};
 use crate::statuses::{DONE, MALFORMED, MEMORY, OUT_OF_RANGE, REFUSED};

@@ -1,31 +1,18 @@
 -- What clap's builders make of a command, its getters read of an argument, and the subcommands ask for.
-use Rattle.std.proofs.Common.{◌≡◌, ℕ, Bool, ◌||◌, T, ◌==◌, true, false, Option, Some, refl, sym, subst}
-use Rattle.std.proofs.Common.{None, Result, Ok, Err, List, [], ◌∷◌, length, codes, ap, ap₂, ◌∙◌}
-use Rattle.std.specs.Prelude.{Box, option_map}
-use Rattle.std.specs.Box.{box_value}
-use Rattle.std.specs.Str.{bytes_eq}
-use Rattle.std.specs.Str.Parse.{ParsesUnsigned}
-use Rattle.clap.specs.Words.{AddsArg, AddsInTurn, AddsSubcommand, App, ReadsOne, Row, Rule, Text}
-use Rattle.clap.specs.Words.{first_of, one_of, one_text, rows_of, subcommand_rows, with_rule, with_subcommand}
-use Rattle.clap.specs.declared.builder.arg.Arg.{Arg}
-use Rattle.clap.specs.declared.builder.command.Command.{Command}
-use Rattle.clap.specs.declared.parser.matches.ArgMatches.TheViews.{out-SubCommand}
-use Rattle.clap.specs.declared.parser.matches.Found.{Found}
-use Rattle.clap.specs.declared.parser.matches.SubCommand.{SubCommand}
+use Rattle.std.proofs.Common.{◌≡◌, ℕ, Bool, ◌||◌, T, ◌==◌, true, false, Option, Some, refl, sym, subst, None, Result}
+use Rattle.std.{proofs.Common.{Ok, Err, List, [], ◌∷◌, length, codes, ap, ap₂, ◌∙◌}, specs.Prelude.{Box, option_map}}
+use Rattle.std.specs.{Box.{box_value}, Str.{bytes_eq, Parse.{ParsesUnsigned}}}
+use Rattle.clap.specs.Words.{AddsArg, AddsInTurn, AddsSubcommand, App, ReadsOne, Row, Rule, Text, first_of, one_of}
+use Rattle.clap.specs.Words.{one_text, rows_of, subcommand_rows, with_rule, with_subcommand}
+use Rattle.clap.specs.declared.{builder.{arg.Arg.{Arg}, command.Command.{Command}}, parser.matches.Found.{Found}}
+use Rattle.clap.specs.declared.parser.matches.{ArgMatches.TheViews.{out-SubCommand}, SubCommand.{SubCommand}}
 use Rattle.clap.proofs.WalkLemmas.{one_text-rows}
-use Rattle.loop_core_model.specs.declared.loop_test.Test.{Test}
-use Rattle.loop_core_model.specs.declared.loop_test.Test.TheVariants.{Flow, Lrpd}
-use Rattle.loop_core_split.specs.declared.plan.Plan.{Plan}
-use Rattle.loop_core_split.specs.declared.plan.Policy.{Policy}
-use Rattle.loop_core_split.specs.declared.plan.Policy.TheVariants.{Pays, Blocks}
+use Rattle.loop_core_model.specs.declared.loop_test.Test.{Test, TheVariants.{Flow, Lrpd}}
+use Rattle.loop_core_split.specs.declared.plan.{Plan.{Plan}, Policy.{Policy, TheVariants.{Pays, Blocks}}}
 use Rattle.bpfspec_command_line.specs.CommandLine.{AreArgs, AreCommands, AsksFor, AsksForJob, AsksForStats, Finds}
-use Rattle.bpfspec_command_line.specs.CommandLine.{IsArg, IsArgument, IsAskOf, IsChosen, IsCommand}
-use Rattle.bpfspec_command_line.specs.CommandLine.{with_commands, with_rules}
-use Rattle.bpfspec_command_line.specs.CommandLine.{IsNumber, IsNumberWithin, IsPlanOf, IsPolicy, IsTest}
-use Rattle.bpfspec_command_line.specs.declared.job.Ask.{Ask}
-use Rattle.bpfspec_command_line.specs.declared.job.Job.{Job}
-use Rattle.bpfspec_command_line.specs.declared.job.Job.TheVariants.{Serve, Run, Facts}
-use Rattle.bpfspec_command_line.specs.declared.job.Mode.{Mode}
+use Rattle.bpfspec_command_line.specs.CommandLine.{IsArg, IsArgument, IsAskOf, IsChosen, IsCommand, with_commands}
+use Rattle.bpfspec_command_line.specs.CommandLine.{with_rules, IsNumber, IsNumberWithin, IsPlanOf, IsPolicy, IsTest}
+use Rattle.bpfspec_command_line.specs.declared.job.{Ask.{Ask}, Job.{Job, TheVariants.{Serve, Run, Facts}}, Mode.{Mode}}
 use Rattle.bpfspec_command_line.specs.declared.job.Mode.TheVariants.{Verify, Order, Replay, Asm, Disasm}
 
 -- what a flag chooses that is read as given or not

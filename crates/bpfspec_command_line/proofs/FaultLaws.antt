@@ -1,11 +1,9 @@
 -- What is told of words, by the kinds of error that clap may give.
 use Rattle.std.proofs.Common.{◌≡◌, ◌⊎◌, inl, inr, subst, true, List, Result}
 use Rattle.clap.specs.Words.{App, FailsBy, IsAmong, Kinds, Text, fault_of, is_simple_and_free}
-use Rattle.clap.specs.declared.error.Error.{Error}
-use Rattle.clap.specs.declared.error.kind.ErrorKind.{ErrorKind}
+use Rattle.clap.specs.declared.error.{Error.{Error}, kind.ErrorKind.{ErrorKind}}
 use Rattle.clap.specs.declared.error.kind.ErrorKind.TheVariants.{DisplayHelp, DisplayVersion, OutOfMemory}
-use Rattle.bpfspec_command_line.specs.Faults.{Shows, is_usage}
-use Rattle.bpfspec_command_line.specs.declared.job.LineFault.{LineFault}
+use Rattle.bpfspec_command_line.specs.{Faults.{Shows, is_usage}, declared.job.LineFault.{LineFault}}
 use Rattle.bpfspec_command_line.specs.declared.job.LineFault.TheVariants.{Memory}
 
 -- of the kinds that an error may have, where it shows help or the version

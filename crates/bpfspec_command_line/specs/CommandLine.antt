@@ -1,26 +1,16 @@
 -- The program's command line, in clap's words, and what the words of one ask for.
-use Rattle.std.specs.Prelude.{◌≡◌, ◌≢◌, ℕ, ◌^◌, ◌<◌, ◌≤◌, List, [], ◌∷◌, Option, Some, None, MatchOption, codes}
-use Rattle.std.specs.Prelude.{Bool, true, false}
-use Rattle.std.specs.Str.Parse.{IsNumeral, digits_value, without_leading_plus}
-use Rattle.clap.specs.Words.{App, Row, Rule, Text, app_of, fault_of, first_of, new_app, new_rule}
-use Rattle.clap.specs.Words.{one_of, rule_of, subcommand_of, with_rule, with_subcommand}
-use Rattle.clap.specs.declared.builder.arg.Arg.{Arg}
-use Rattle.clap.specs.declared.builder.command.Command.{Command}
-use Rattle.clap.specs.declared.builder.command.Command.TheViews.{out-Command}
+use Rattle.std.specs.Prelude.{◌≡◌, ◌≢◌, ℕ, ◌^◌, ◌<◌, ◌≤◌, List, [], ◌∷◌, Option, Some, None, MatchOption, codes, Bool}
+use Rattle.std.specs.{Prelude.{true, false}, Str.Parse.{IsNumeral, digits_value, without_leading_plus}}
+use Rattle.clap.specs.Words.{App, Row, Rule, Text, app_of, fault_of, first_of, new_app, new_rule, one_of, rule_of}
+use Rattle.clap.specs.{Words.{subcommand_of, with_rule, with_subcommand}, declared.builder.arg.Arg.{Arg}}
+use Rattle.clap.specs.declared.builder.command.Command.{Command, TheViews.{out-Command}}
 use Rattle.clap.specs.declared.builder.ArgAction.TheVariants.{Set, SetTrue}
-use Rattle.loop_core_model.specs.declared.loop_test.Test.{Test}
-use Rattle.loop_core_model.specs.declared.loop_test.Test.TheVariants.{Lrpd, Flow}
-use Rattle.loop_core_split.specs.declared.plan.Plan.{Plan}
-use Rattle.loop_core_split.specs.declared.plan.Policy.{Policy}
-use Rattle.loop_core_split.specs.declared.plan.Policy.TheVariants.{Pays, Blocks}
+use Rattle.loop_core_model.specs.declared.loop_test.Test.{Test, TheVariants.{Lrpd, Flow}}
+use Rattle.loop_core_split.specs.declared.plan.{Plan.{Plan}, Policy.{Policy, TheVariants.{Pays, Blocks}}}
 use Rattle.loop_core_split.specs.Plans.{IsPlan}
-use Rattle.bpfspec_command_line.specs.declared.job.Ask.{Ask}
-use Rattle.bpfspec_command_line.specs.declared.job.Job.{Job}
-use Rattle.bpfspec_command_line.specs.declared.job.Job.TheVariants.{Serve, Run, Facts}
-use Rattle.bpfspec_command_line.specs.declared.job.Mode.{Mode}
+use Rattle.bpfspec_command_line.specs.declared.job.{Ask.{Ask}, Job.{Job, TheVariants.{Serve, Run, Facts}}, Mode.{Mode}}
 use Rattle.bpfspec_command_line.specs.declared.job.Mode.TheVariants.{Verify, Order, Replay, Asm, Disasm}
-use Rattle.bpfspec_command_line.specs.declared.job.Request.{Request}
-use Rattle.bpfspec_command_line.specs.declared.job.UnitForm.{UnitForm}
+use Rattle.bpfspec_command_line.specs.declared.job.{Request.{Request}, UnitForm.{UnitForm}}
 use Rattle.bpfspec_command_line.specs.declared.job.UnitForm.TheVariants.{Assembler, Hex}
 
 -- a flag of this name

@@ -1,10 +1,8 @@
 -- Why the words of a command line are no command.
 use Rattle.std.specs.Prelude.{◌≡◌, ◌⊎◌, Bool, true, false, List, []}
-use Rattle.clap.specs.Words.{App, IsAmong, Text, fault_of, subcommand_of}
-use Rattle.clap.specs.declared.error.kind.ErrorKind.{ErrorKind}
+use Rattle.clap.specs.{Words.{App, IsAmong, Text, fault_of, subcommand_of}, declared.error.kind.ErrorKind.{ErrorKind}}
 use Rattle.clap.specs.declared.error.kind.ErrorKind.TheVariants.{DisplayHelp, DisplayVersion}
-use Rattle.bpfspec_command_line.specs.CommandLine.{AsksForJob, bpfspec_app}
-use Rattle.bpfspec_command_line.specs.declared.job.LineFault.{LineFault}
+use Rattle.bpfspec_command_line.specs.{CommandLine.{AsksForJob, bpfspec_app}, declared.job.LineFault.{LineFault}}
 use Rattle.bpfspec_command_line.specs.declared.job.LineFault.TheVariants.{Help, Usage, Memory}
 
 -- a text that words ask for, and no fault of theirs

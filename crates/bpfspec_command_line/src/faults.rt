@@ -1,7 +1,6 @@
 //! Why a command line asks for no job, as it is printed.
 
-ghost use Rattle.std.specs.Prelude.{◌≡◌, ◌↔◌, IsTrue, IfOk, true, false};
-ghost use Rattle.std.specs.IoError.{error_kind};
+ghost use Rattle.std.specs.{Prelude.{◌≡◌, ◌↔◌, IsTrue, IfOk, true, false}, IoError.{error_kind}};
 ghost use Rattle.std.specs.declared.io.ErrorKind.TheVariants as io_errors;
 ghost use Rattle.clap.specs.Words.{kind_of};
 ghost use Rattle.bpfspec_command_line.specs.Faults.{Shows, is_help, is_usage};

@@ -1,18 +1,13 @@
 -- What refusals mean from one step of loading to the next.
-use Rattle.std.proofs.Common.{◌≡◌, ℕ, Bool, true, false, if◌then◌else◌, List, Ok, Err}
-use Rattle.std.proofs.Common.{refl, ap, ◌∙◌}
-use Rattle.std.specs.Prelude.{Result, IsUtf8}
-use Rattle.std.specs.Str.{is_utf8}
+use Rattle.std.proofs.Common.{◌≡◌, ℕ, Bool, true, false, if◌then◌else◌, List, Ok, Err, refl, ap, ◌∙◌}
+use Rattle.std.specs.{Prelude.{Result, IsUtf8}, Str.{is_utf8}}
 use Rattle.std.proofs.lemmas.Str.{is_utf8-from_IsUtf8, IsUtf8-from_is_utf8}
-use Rattle.bpf_insn_types.specs.Program.{Program}
-use Rattle.bpf_insn_types.specs.Outcome.{RefusalMatches}
+use Rattle.bpf_insn_types.specs.{Program.{Program}, Outcome.{RefusalMatches}}
+use Rattle.bpf_text_lex.specs.{declared.text_error.TextError.{TextError}, Refusals.{text_refusal}}
 use Rattle.bpf_text_lex.specs.declared.text_error.TextFault.TheVariants as text_faults
-use Rattle.bpf_text_lex.specs.declared.text_error.TextError.{TextError}
 use Rattle.bpf_text_lex.specs.declared.text_error.TextError.TheVariants as text
-use Rattle.bpf_text_lex.specs.Refusals.{text_refusal}
 use Rattle.bpf_text.specs.HexText.{SizesAndBytes}
-use Rattle.bpfspec_machine.specs.declared.load_error.LoadError.{LoadError}
-use Rattle.bpfspec_machine.specs.declared.load_error.LoadError.TheVariants.{Text, Codec, Rule, Memory}
+use Rattle.bpfspec_machine.specs.declared.load_error.LoadError.{LoadError, TheVariants.{Text, Codec, Rule, Memory}}
 use Rattle.bpfspec_machine.specs.Loading.{load_refusal, text_load_error, as_loaded, readable, program_of_text}
 use Rattle.bpfspec_machine.specs.Loading.{parts_of_text, program_of_parts, loaded}
 

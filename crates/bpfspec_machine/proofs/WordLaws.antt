@@ -1,10 +1,7 @@
 -- Where the words of a map lie.
-use Rattle.std.proofs.Common.{◌≡◌, ◌+◌, ◌-◌, ◌<◌, ◌≤◌, ℕ, zero, suc, true, List, [], ◌∷◌, length, drop}
-use Rattle.std.proofs.Common.{slice_index, slice_range, arith}
-use Rattle.std.specs.List.{sum}
-use Rattle.std.proofs.lemmas.Bool.{eqb-true}
-use Rattle.std.proofs.lemmas.List.{length-drop, length-take-le}
-use Rattle.std.proofs.lemmas.List.Sums.{sum_by_more_le}
+use Rattle.std.proofs.Common.{◌≡◌, ◌+◌, ◌-◌, ◌<◌, ◌≤◌, ℕ, zero, suc, true, List, [], ◌∷◌, length, drop, slice_index}
+use Rattle.std.{proofs.{Common.{slice_range, arith}, lemmas.Bool.{eqb-true}}, specs.List.{sum}}
+use Rattle.std.proofs.lemmas.List.{length-drop, length-take-le, Sums.{sum_by_more_le}}
 use Rattle.array_maps.specs.MapList.{base_of}
 use Rattle.bpfspec_machine.specs.Elements.{has_words}
 

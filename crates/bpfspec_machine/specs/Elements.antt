@@ -1,8 +1,7 @@
 -- The elements of a machine's maps.
-use Rattle.std.specs.Prelude.{◌==◌, ℕ, ◌+◌, nat_lt, Bool, false, if◌then◌else◌, Option, Some, None}
-use Rattle.std.specs.Prelude.{List, length, slice_get, slice_set, slice_index, slice_range}
-use Rattle.array_maps.specs.MapList.{MapList, base_of}
-use Rattle.array_maps.specs.Accesses.{Write, words_after_run}
+use Rattle.std.specs.Prelude.{◌==◌, ℕ, ◌+◌, nat_lt, Bool, false, if◌then◌else◌, Option, Some, None, List, length}
+use Rattle.std.specs.Prelude.{slice_get, slice_set, slice_index, slice_range}
+use Rattle.array_maps.specs.{MapList.{MapList, base_of}, Accesses.{Write, words_after_run}}
 use Rattle.bpfspec_machine.specs.Machines.{MachineState}
 
 -- an index is below a map's size, where there is the map

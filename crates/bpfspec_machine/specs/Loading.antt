@@ -1,19 +1,14 @@
 -- What is loaded.
-use Rattle.std.specs.Prelude.{ℕ, List, if◌then◌else◌, Option, Some, None, Result, Ok, Err}
-use Rattle.std.specs.Str.{is_utf8}
-use Rattle.bpf_insn_types.specs.declared.insn.Insn.{Insn}
-use Rattle.bpf_insn_types.specs.Program.{Program}
-use Rattle.bpf_insn.specs.declared.codec_error.CodecError.{CodecError}
+use Rattle.std.specs.{Prelude.{ℕ, List, if◌then◌else◌, Option, Some, None, Result, Ok, Err}, Str.{is_utf8}}
+use Rattle.bpf_insn_types.specs.{declared.insn.Insn.{Insn}, Program.{Program}}
+use Rattle.bpf_insn.specs.{declared.codec_error.CodecError.{CodecError}, Reading.{reading}}
 use Rattle.bpf_insn.specs.declared.codec_error.CodecError.TheVariants as codec
-use Rattle.bpf_insn.specs.Reading.{reading}
-use Rattle.bpf_text_lex.specs.declared.text_error.TextFault.TheVariants as text_faults
 use Rattle.bpf_text_lex.specs.declared.text_error.TextError.{TextError}
+use Rattle.bpf_text_lex.specs.declared.text_error.TextFault.TheVariants as text_faults
 use Rattle.bpf_text_lex.specs.declared.text_error.TextError.TheVariants as text
-use Rattle.bpf_text.specs.HexText.{SizesAndBytes, hex_text}
-use Rattle.bpf_text.specs.AssemblerText.{assembler_text}
+use Rattle.bpf_text.specs.{HexText.{SizesAndBytes, hex_text}, AssemblerText.{assembler_text}}
 use Rattle.bpf_verify_model.specs.Accepted.{BrokenRule, first_fault}
-use Rattle.bpfspec_machine.specs.declared.load_error.LoadError.{LoadError}
-use Rattle.bpfspec_machine.specs.declared.load_error.LoadError.TheVariants.{Text, Codec, Rule, Memory}
+use Rattle.bpfspec_machine.specs.declared.load_error.LoadError.{LoadError, TheVariants.{Text, Codec, Rule, Memory}}
 use Rattle.bpfspec_machine.specs.Machines.{MachineState, new_machine}
 
 -- the refusal of an error, unless memory ran out

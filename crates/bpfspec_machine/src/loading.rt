@@ -3,13 +3,10 @@
 ghost use Rattle.std.specs.Prelude.{◌≡◌, ◌≤◌, IfOk, IfErr, Ok, length};
 ghost use Rattle.bpf_insn_types.specs.Outcome.{MatchesUnlessMemory};
 ghost use Rattle.bpf_verify_sound.specs.Soundness.{most_from};
-ghost use Rattle.bpfspec_machine.specs.declared.load_error.LoadError.TheVariants.{Memory};
-ghost use Rattle.bpfspec_machine.specs.Loading.{load_refusal, text_load_error, codec_load_error, as_loaded};
-ghost use Rattle.bpfspec_machine.specs.Loading.{readable, text_program, parts_of_text, insns_program, hex_program};
-ghost use Rattle.bpfspec_machine.specs.Loading.{loaded};
-ghost use Rattle.bpfspec_machine.specs.Machines.{new_machine};
-ghost use Rattle.bpf_text.specs.AssemblerText.{assembler_text};
-ghost use Rattle.bpf_text.specs.HexText.{hex_text};
+ghost use Rattle.bpfspec_machine.specs.{declared.load_error.LoadError.TheVariants.{Memory}, Machines.{new_machine}};
+ghost use Rattle.bpfspec_machine.specs.Loading.{load_refusal, text_load_error, codec_load_error, as_loaded, readable};
+ghost use Rattle.bpfspec_machine.specs.Loading.{text_program, parts_of_text, insns_program, hex_program, loaded};
+ghost use Rattle.bpf_text.specs.{AssemblerText.{assembler_text}, HexText.{hex_text}};
 
 use crate::load_error::LoadError;
 use crate::machine::Machine;

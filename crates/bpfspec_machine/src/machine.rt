@@ -1,11 +1,10 @@
 //! Machines.
 
-ghost use Rattle.std.specs.Prelude.{◌≡◌, ◌<◌, ◌≤◌, if◌then◌else◌, length, slice_get};
-ghost use Rattle.std.specs.List.{sum};
+ghost use Rattle.std.specs.{Prelude.{◌≡◌, ◌<◌, ◌≤◌, if◌then◌else◌, length, slice_get}, List.{sum}};
 ghost use Rattle.bpf_verify_sound.specs.Soundness.{most_from};
 ghost use Rattle.bpfspec_machine.specs.Machines.{new_machine, MachineRan, RanEach, count_at};
-ghost use Rattle.bpfspec_machine.specs.Elements.{has_element, element_of, with_element_if};
-ghost use Rattle.bpfspec_machine.specs.Elements.{has_words, words_of, with_words_if};
+ghost use Rattle.bpfspec_machine.specs.Elements.{has_element, element_of, with_element_if, has_words, words_of};
+ghost use Rattle.bpfspec_machine.specs.Elements.{with_words_if};
 ghost use Rattle.array_maps.specs.MapList.{zero_maps, base_of};
 
 use array_maps::Maps;

@@ -1,12 +1,9 @@
 -- Printing one after the other, as loops do.
-use Rattle.std.proofs.Common.{◌≡◌, ℕ, zero, suc, ◌+◌, ◌-◌, ◌<◌, List, [], ◌∷◌, ◌++◌, length, take}
-use Rattle.std.proofs.Common.{drop, get_or, sym, ap, ◌∙◌, append_assoc, add-one, arith}
-use Rattle.std.specs.Prelude.{slice_range}
-use Rattle.std.proofs.lemmas.List.Sums.{sum_by_more}
-use Rattle.std.proofs.lemmas.List.{drop-drop}
+use Rattle.std.proofs.Common.{◌≡◌, ℕ, zero, suc, ◌+◌, ◌-◌, ◌<◌, List, [], ◌∷◌, ◌++◌, length, take, drop, get_or, sym}
+use Rattle.std.{proofs.Common.{ap, ◌∙◌, append_assoc, add-one, arith}, specs.Prelude.{slice_range}}
+use Rattle.std.proofs.lemmas.List.{Sums.{sum_by_more}, drop-drop}
 use Rattle.array_maps.specs.MapList.{base_of}
-use Rattle.bpfspec_output.specs.ReportText.{numbered_lines}
-use Rattle.bpfspec_output.specs.ReportText.{values_of}
+use Rattle.bpfspec_output.specs.ReportText.{numbered_lines, values_of}
 
 front_suc : {X : Type 0} (xs : List X) (i : ℕ) (x : X) → i < length xs → x ≡ get_or xs i x → drop i xs ≡ x
     ∷ drop (suc i) xs

@@ -1,16 +1,13 @@
 -- The line that says why an input has no result.
-use Rattle.std.specs.Prelude.{ℕ, List, ◌++◌, codes}
-use Rattle.std.specs.Fmt.{decimal}
+use Rattle.std.specs.{Prelude.{ℕ, List, ◌++◌, codes}, Fmt.{decimal}}
 use Rattle.bpf_insn.specs.FaultNumbers.{codec_fault_number as codec_fault_number}
 use Rattle.bpf_text_lex.specs.FaultNumbers.{text_fault_number as text_fault_number}
 use Rattle.bpf_verify_model.specs.RuleNumbers.{rule_number}
-use Rattle.loop_core_model.specs.declared.faults.SplitFault.{SplitFault}
+use Rattle.loop_core_model.specs.declared.{faults.SplitFault.{SplitFault}, replay_fault.ReplayFault.{ReplayFault}}
 use Rattle.loop_core_model.specs.declared.faults.SplitFault.TheVariants as splits
-use Rattle.loop_core_model.specs.declared.replay_fault.ReplayFault.{ReplayFault}
 use Rattle.loop_core_model.specs.declared.replay_fault.ReplayFault.TheVariants as schedules
-use Rattle.bpfspec_output.specs.declared.refusal.Section.{Section}
+use Rattle.bpfspec_output.specs.declared.refusal.{Section.{Section}, Refusal.{Refusal}}
 use Rattle.bpfspec_output.specs.declared.refusal.Section.TheVariants as sections
-use Rattle.bpfspec_output.specs.declared.refusal.Refusal.{Refusal}
 use Rattle.bpfspec_output.specs.declared.refusal.Refusal.TheVariants as refusals
 
 -- a section's name

@@ -1,11 +1,8 @@
 -- What is printed of an accepted program, of a program that ran, and of a loop that was replayed.
-use Rattle.std.specs.Prelude.{ℕ, ◌+◌, List, [], ◌∷◌, ◌++◌, take, drop, codes}
-use Rattle.std.specs.Fmt.{decimal, signed_decimal}
+use Rattle.std.specs.{Prelude.{ℕ, ◌+◌, List, [], ◌∷◌, ◌++◌, take, drop, codes}, Fmt.{decimal, signed_decimal}}
 use Rattle.bpf_text.specs.MapsText.{maps_spelling}
-use Rattle.loop_core_model.specs.declared.verdict.Verdict.{Verdict}
-use Rattle.loop_core_model.specs.declared.verdict.Verdict.TheVariants.{Parallel, Conflict, Refused, InOrder}
-use Rattle.loop_core_model.specs.declared.verdict.LoopReport.{LoopReport}
-use Rattle.loop_core_model.specs.Report.{Reported}
+use Rattle.loop_core_model.specs.declared.verdict.Verdict.{Verdict, TheVariants.{Parallel, Conflict, Refused, InOrder}}
+use Rattle.loop_core_model.specs.{declared.verdict.LoopReport.{LoopReport}, Report.{Reported}}
 use Rattle.bpfspec_output.specs.declared.accepted.Function.{Function}
 
 -- a line for each item, the first of which has this number
@@ -37,10 +34,10 @@ verdict_text InOrder = codes "in order"
 
 -- the line of a loop call, which has this number
 abbrev pub loop_line : ℕ → LoopReport → List ℕ
-loop_line number told =
-    codes "loop " ++ decimal number ++ codes " at " ++ decimal told.slot ++ codes ": answer "
-    ++ signed_decimal told.answer ++ codes ", "
-    ++ verdict_text told.verdict ++ codes "\n"
+loop_line number line =
+    codes "loop " ++ decimal number ++ codes " at " ++ decimal line.slot ++ codes ": answer "
+    ++ signed_decimal line.answer ++ codes ", "
+    ++ verdict_text line.verdict ++ codes "\n"
 
 -- the line of a return value
 abbrev pub return_line : ℕ → List ℕ
@@ -48,9 +45,9 @@ return_line ret = codes "return " ++ decimal ret ++ codes "\n"
 
 -- the return value, the loop calls, and the maps of these sizes
 abbrev pub report_text : List ℕ → Reported → List ℕ
-report_text sizes told = return_line told.ret ++ numbered_lines loop_line 0 told.loops
-    ++ maps_spelling (values_of sizes told.words)
+report_text sizes report = return_line report.ret ++ numbered_lines loop_line 0 report.loops
+    ++ maps_spelling (values_of sizes report.words)
 
 -- the line of a loop call, which has this number, and the maps of these sizes after it
 abbrev pub replay_text : List ℕ → ℕ → LoopReport → List ℕ → List ℕ
-replay_text sizes number told words = loop_line number told ++ maps_spelling (values_of sizes words)
+replay_text sizes number line words = loop_line number line ++ maps_spelling (values_of sizes words)

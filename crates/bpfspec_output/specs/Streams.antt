@@ -1,6 +1,5 @@
 -- What reads and writes of whole streams do to the bytes that are known of them, and what is counted.
-use Rattle.std.specs.Prelude.{◌≢◌, ℕ, ◌≤◌, List, Option, length, take}
-use Rattle.std.specs.Io.KnownBytes.{Appends, Consumes, IsAtEnd}
+use Rattle.std.specs.{Prelude.{◌≢◌, ℕ, ◌≤◌, List, Option, length, take}, Io.KnownBytes.{Appends, Consumes, IsAtEnd}}
 use Rattle.bpfspec_output.specs.declared.counting.Counted.{Counted}
 
 -- known bytes grow by a beginning of bs

@@ -1,9 +1,7 @@
 //! What is printed of an accepted program.
 
-ghost use Rattle.std.specs.Prelude.{◌≡◌, ◌++◌, IfOk, OnOk};
-ghost use Rattle.std.specs.String.{string_bytes};
-ghost use Rattle.bpfspec_output.specs.ReportText.{function_line, accepted_text};
-ghost use Rattle.bpfspec_output.specs.ReportText.{numbered_lines};
+ghost use Rattle.std.specs.{Prelude.{◌≡◌, ◌++◌, IfOk, OnOk}, String.{string_bytes}};
+ghost use Rattle.bpfspec_output.specs.ReportText.{function_line, accepted_text, numbered_lines};
 
 use std::alloc::{AllocError, Global};
 

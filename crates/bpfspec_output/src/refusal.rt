@@ -1,10 +1,8 @@
 //! Why an input has no result, and the line that says so.
 
-ghost use Rattle.std.specs.Prelude.{◌≡◌, ◌++◌, IfOk, OnOk};
-ghost use Rattle.std.specs.String.{string_bytes};
-ghost use Rattle.bpfspec_output.specs.declared.refusal.Refusal.TheVariants.{Text, Codec};
-ghost use Rattle.bpfspec_output.specs.Refusals.{section_name, split_fault_number, schedule_fault_text};
-ghost use Rattle.bpfspec_output.specs.Refusals.{what_is_refused, refusal_line};
+ghost use Rattle.std.specs.{Prelude.{◌≡◌, ◌++◌, IfOk, OnOk}, String.{string_bytes}};
+ghost use Rattle.bpfspec_output.specs.{declared.refusal.Refusal.TheVariants.{Text, Codec}, Refusals.{refusal_line}};
+ghost use Rattle.bpfspec_output.specs.Refusals.{section_name, split_fault_number, schedule_fault_text, what_is_refused};
 
 use bpf_insn::CodecFault;
 use bpf_text_lex::TextFault;

@@ -1,13 +1,10 @@
 //! What is printed of a program that ran, and of a loop that was replayed.
 
-ghost use Rattle.std.specs.Prelude.{◌≡◌, ◌++◌, IfOk, OnOk, length};
-ghost use Rattle.std.specs.List.{sum};
-ghost use Rattle.std.specs.String.{string_bytes};
+ghost use Rattle.std.specs.{Prelude.{◌≡◌, ◌++◌, IfOk, OnOk, length}, List.{sum}, String.{string_bytes}};
 ghost use Rattle.loop_core_model.specs.declared.verdict.Verdict.TheVariants.{Conflict};
 ghost use Rattle.bpf_text.specs.MapsText.{lists, maps_spelling};
-ghost use Rattle.bpfspec_output.specs.ReportText.{values_of, verdict_text, loop_line, return_line};
-ghost use Rattle.bpfspec_output.specs.ReportText.{report_text, replay_text};
-ghost use Rattle.bpfspec_output.specs.ReportText.{numbered_lines};
+ghost use Rattle.bpfspec_output.specs.ReportText.{values_of, verdict_text, loop_line, return_line, report_text};
+ghost use Rattle.bpfspec_output.specs.ReportText.{replay_text, numbered_lines};
 
 use array_maps::Maps;
 use bpf_text::print_maps;
@@ -27,13 +24,13 @@ fn print_verdict(out: &mut String, verdict: Verdict) -> Result<(), AllocError>
 }
 
 /// Adds the line of a loop call, which has this number.
-fn print_loop(out: &mut String, number: usize, told: &LoopReport) -> Result<(), AllocError>
-    ensures { OnOk result (string_bytes out.new ≡ string_bytes out.old ++ loop_line number told.now) }
+fn print_loop(out: &mut String, number: usize, line: &LoopReport) -> Result<(), AllocError>
+    ensures { OnOk result (string_bytes out.new ≡ string_bytes out.old ++ loop_line number line.now) }
 {
-    let slot = told.slot;
-    let answer = told.answer;
+    let slot = line.slot;
+    let answer = line.answer;
     write!(out, "loop {number} at {slot}: answer {answer}, ")?;
-    print_verdict(out, told.verdict)?;
+    print_verdict(out, line.verdict)?;
     out.push_str("\n")
 }
 
@@ -41,8 +38,8 @@ fn print_loop(out: &mut String, number: usize, told: &LoopReport) -> Result<(), 
 fn print_loops(out: &mut String, loops: &[LoopReport]) -> Result<(), AllocError>
     ensures { OnOk result (string_bytes out.new ≡ string_bytes out.old ++ numbered_lines loop_line 0 loops.now) }
 {
-    for (number, told) in loops.iter().enumerate() {
-        print_loop(out, number, told)?;
+    for (number, line) in loops.iter().enumerate() {
+        print_loop(out, number, line)?;
     }
     Ok(())
 }
@@ -72,13 +69,13 @@ fn print_values(alloc: Global, out: &mut String, maps: &Maps) -> Result<(), Allo
 pub fn print_replay(
     alloc: Global,
     number: usize,
-    told: &LoopReport,
+    line: &LoopReport,
     maps: &Maps,
 ) -> Result<String, AllocError>
-    ensures { IfOk result (λ text. string_bytes text ≡ replay_text maps.now.sizes number told.now maps.now.words) }
+    ensures { IfOk result (λ text. string_bytes text ≡ replay_text maps.now.sizes number line.now maps.now.words) }
 {
     let mut out = String::new(alloc);
-    print_loop(&mut out, number, told)?;
+    print_loop(&mut out, number, line)?;
     print_values(alloc, &mut out, maps)?;
     Ok(out)
 }

@@ -1,7 +1,6 @@
 //! Calls that a signal interrupts are made again, as std's own `read_to_end` and `write_all` do.
 
-ghost use Rattle.std.specs.Io.{ReadsAtMost, WritesAtMost};
-ghost use Rattle.std.specs.Io.KnownBytes.{ReadConsumes, WriteAppends};
+ghost use Rattle.std.specs.Io.{ReadsAtMost, WritesAtMost, KnownBytes.{ReadConsumes, WriteAppends}};
 
 use std::io;
 use std::io::{ErrorKind, Read, Write};

@@ -1,7 +1,6 @@
 //! Writing all of an output.
 
-ghost use Rattle.std.specs.Prelude.{◌≡◌, ◌+◌, ◌-◌, ◌^◌, ◌<◌, OnOk, OnErr};
-ghost use Rattle.std.specs.Io.KnownBytes.{Appends};
+ghost use Rattle.std.specs.{Prelude.{◌≡◌, ◌+◌, ◌-◌, ◌^◌, ◌<◌, OnOk, OnErr}, Io.KnownBytes.{Appends}};
 ghost use Rattle.bpfspec_output.specs.Streams.{AppendsBeginning};
 
 use crate::streams::{DeviceFault, Sink};

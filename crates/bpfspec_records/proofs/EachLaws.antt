@@ -1,13 +1,10 @@
 -- Records that are added one after the other, as loops do.
 use Rattle.std.proofs.Common.{◌≡◌, ℕ, zero, suc, ◌+◌, ◌<◌, List, [], ◌∷◌, ◌++◌, length, drop, get_or, append-nil}
 use Rattle.std.proofs.Common.{append_assoc, add-one, refl, sym, ap, ◌∙◌, arith, Option}
-use Rattle.bpf_insn_types.specs.declared.insn.Insn.{Insn}
-use Rattle.bpf_insn_types.specs.Program.{Program}
-use Rattle.bpf_verify_model.specs.declared.abstract_value.AbstractValue.{AbstractValue}
-use Rattle.bpf_verify_model.specs.declared.state.State.{State}
+use Rattle.bpf_insn_types.specs.{declared.insn.Insn.{Insn}, Program.{Program}}
+use Rattle.bpf_verify_model.specs.declared.{abstract_value.AbstractValue.{AbstractValue}, state.State.{State}}
 use Rattle.bpf_verify_model.specs.States.{known_register}
-use Rattle.bpfspec_records.specs.declared.records.Record.{Record}
-use Rattle.bpfspec_records.specs.declared.records.Record.TheVariants.{Map}
+use Rattle.bpfspec_records.specs.declared.records.Record.{Record, TheVariants.{Map}}
 use Rattle.bpfspec_records.specs.Units.{each_below, map_records, read_record, value_record}
 
 -- of no number there are no records

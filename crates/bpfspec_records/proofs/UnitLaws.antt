@@ -1,22 +1,16 @@
 -- The instructions up to the first fault, and what is known there.
 use Rattle.std.proofs.Common.{◌≡◌, ℕ, zero, suc, ◌+◌, ◌<◌, ◌≤◌, Bool, true, false, not, ◌||◌, List, [], ◌∷◌, ◌++◌}
-use Rattle.std.proofs.Common.{length, drop, get_or, append-nil, append_assoc, refl, sym, ap, ◌∙◌, arith}
-use Rattle.std.proofs.Common.{Option, Some, None, is_some}
-use Rattle.std.specs.Prelude.{IfSome, nat_eq, nat_le, nat_lt, if◌then◌else◌}
+use Rattle.std.proofs.Common.{length, drop, get_or, append-nil, append_assoc, refl, sym, ap, ◌∙◌, arith, Option, Some}
+use Rattle.std.{proofs.Common.{None, is_some}, specs.Prelude.{IfSome, nat_eq, nat_le, nat_lt, if◌then◌else◌}}
 use Rattle.std.proofs.lemmas.Bool.Decides.{nat_tests}
-use Rattle.bpf_insn_types.specs.declared.insn.Insn.{Insn}
-use Rattle.bpf_insn_types.specs.Limits.{sizes_fit}
-use Rattle.bpf_insn_types.specs.Slots.{slots_of}
+use Rattle.bpf_insn_types.specs.{declared.insn.Insn.{Insn}, Limits.{sizes_fit}, Slots.{slots_of}}
 use Rattle.bpf_insn_types.specs.Program.{Program, insn_at, slot_count}
-use Rattle.bpf_verify_model.specs.declared.rule.Rule.TheVariants.{NoSlot, OverLimits}
-use Rattle.bpf_verify_model.specs.declared.state.State.{State}
+use Rattle.bpf_verify_model.specs.declared.{rule.Rule.TheVariants.{NoSlot, OverLimits}, state.State.{State}}
 use Rattle.bpf_verify_model.specs.Accepted.{fault_within, first_fault, is_too_large, WithinLimits}
 use Rattle.bpf_verify_model.specs.Inflow.{state_before}
-use Rattle.bpf_verify_origin.specs.Inspected.{is_up_to, IsPassedTo, IsStateBefore}
-use Rattle.bpf_verify_origin.proofs.FaultLaws.{starts-within}
+use Rattle.bpf_verify_origin.{specs.Inspected.{is_up_to, IsPassedTo, IsStateBefore}, proofs.FaultLaws.{starts-within}}
 use Rattle.bpf_verify_origin.proofs.PassedLaws.{up_to-passed}
-use Rattle.bpfspec_records.specs.declared.records.Record.{Record}
-use Rattle.bpfspec_records.specs.Units.{insn_records, known_before, slot_records}
+use Rattle.bpfspec_records.specs.{declared.records.Record.{Record}, Units.{insn_records, known_before, slot_records}}
 use Rattle.bpfspec_records.proofs.EachLaws.{front}
 
 few_of : (a b : Bool) (count : ℕ) → nat_lt 4096 count ≡ a → (a || b) ≡ false → count ≤ 4096

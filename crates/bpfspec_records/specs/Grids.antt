@@ -1,15 +1,11 @@
 -- The records of grids.
 use Rattle.std.specs.Prelude.{ℕ, Bool, ◌||◌, if◌then◌else◌, is_some, List, [], ◌∷◌, Option, Some, None}
 use Rattle.std.specs.List.{flat_map}
-use Rattle.loop_core_grid.specs.declared.grid.Cell.{Cell}
-use Rattle.loop_core_grid.specs.declared.grid.Grid.{Grid}
-use Rattle.loop_core_grid.specs.declared.grid.Row.{Row}
+use Rattle.loop_core_witness.specs.declared.grid.{Cell.{Cell}, Grid.{Grid}, Row.{Row}}
 use Rattle.loop_core_trace.specs.declared.slots.Slots.{Slots}
-use Rattle.bpfspec_records.specs.declared.loop_facts.CellFact.{CellFact}
-use Rattle.bpfspec_records.specs.declared.loop_facts.GridFact.{GridFact}
+use Rattle.bpfspec_records.specs.{declared.loop_facts.{CellFact.{CellFact}, GridFact.{GridFact}}, Elements.{map_of}}
 use Rattle.bpfspec_records.specs.declared.records.Record.{Record}
 use Rattle.bpfspec_records.specs.declared.records.Record.TheVariants as records
-use Rattle.bpfspec_records.specs.Elements.{map_of}
 
 -- an iteration with these slots accesses the element: it writes it, or has an exposed read of it
 abbrev pub accesses : Slots → Bool

@@ -1,26 +1,22 @@
 -- The records of loops.
 use Rattle.std.specs.Prelude.{ℕ, ◌+◌, List, [], ◌∷◌, ◌++◌, map}
-use Rattle.spec_run_explain.specs.declared.explained.Cause.{Cause}
-use Rattle.spec_run_explain.specs.declared.explained.Explained.{Explained}
-use Rattle.spec_run_explain.specs.declared.explained.LoopExplained.{LoopExplained}
-use Rattle.bpfspec_records.specs.declared.loop_facts.LoopFact.{LoopFact}
-use Rattle.bpfspec_records.specs.declared.loop_facts.PairFact.{PairFact}
-use Rattle.bpfspec_records.specs.declared.records.Record.{Record}
+use Rattle.loop_core_witness.specs.declared.explained.{Cause.{Cause}, Explained.{Explained}}
+use Rattle.loop_core_witness.specs.declared.explained.LoopExplained.{LoopExplained}
+use Rattle.bpfspec_records.specs.{declared.loop_facts.{LoopFact.{LoopFact}, PairFact.{PairFact}}, Elements.{map_of}}
+use Rattle.bpfspec_records.specs.{declared.records.Record.{Record}, Grids.{shown_records}}
 use Rattle.bpfspec_records.specs.declared.records.Record.TheVariants as records
-use Rattle.bpfspec_records.specs.Elements.{map_of}
-use Rattle.bpfspec_records.specs.Grids.{shown_records}
 
 -- a loop call that has this number
 abbrev pub loop_fact : (number : ℕ) → LoopExplained → LoopFact
-loop_fact number told = record {
+loop_fact number explained = record {
   number = number;
-  slot = told.line.slot;
-  iterations = told.iterations;
-  flags = told.flags;
-  answer = told.line.answer;
-  verdict = told.line.verdict;
-  course = told.course;
-  broke = told.broke;
+  slot = explained.line.slot;
+  iterations = explained.iterations;
+  flags = explained.flags;
+  answer = explained.line.answer;
+  verdict = explained.line.verdict;
+  strategy = explained.strategy;
+  broke = explained.broke;
 }
 
 -- why an element, which is one of a map, conflicts
@@ -38,15 +34,15 @@ pair_record sizes number cause = records.Pair (pair_fact sizes number cause)
 
 -- a loop call, then its pairs, then what is shown of it
 abbrev pub call_records : (sizes : List ℕ) → (number : ℕ) → LoopExplained → List Record
-call_records sizes number told =
-    records.Loop (loop_fact number told) ∷ map (pair_record sizes number) told.causes.items
-    ++ shown_records sizes number told.grid
+call_records sizes number explained =
+    records.Loop (loop_fact number explained) ∷ map (pair_record sizes number) explained.causes.items
+    ++ shown_records sizes number explained.grid
 
 -- loop calls from the one on that has this number
 abbrev pub numbered_records : (sizes : List ℕ) → (number : ℕ) → List LoopExplained → List Record
 numbered_records sizes number [] = []
-numbered_records sizes number (told ∷ loops) =
-    call_records sizes number told ++ numbered_records sizes (number + 1) loops
+numbered_records sizes number (explained ∷ loops) =
+    call_records sizes number explained ++ numbered_records sizes (number + 1) loops
 
 -- the loop calls of a program whose maps have these sizes, in order
 abbrev pub loop_records : (sizes : List ℕ) → Explained → List Record

@@ -1,18 +1,13 @@
 -- The records of loops.
 use Rattle.std.specs.Prelude.{ℕ, List, ◌++◌, codes, Option, Some, None}
-use Rattle.loop_core_model.specs.declared.verdict.Verdict.{Verdict}
-use Rattle.loop_core_model.specs.declared.verdict.Verdict.TheVariants.{Parallel, Conflict, Refused, InOrder}
+use Rattle.loop_core_model.specs.declared.verdict.Verdict.{Verdict, TheVariants.{Parallel, Conflict, Refused, InOrder}}
 use Rattle.loop_core_trace.specs.declared.slots.FirstReduce.{FirstReduce}
-use Rattle.loop_core_witness.specs.declared.place.Place.{Place}
-use Rattle.loop_core_witness.specs.declared.witness.Witness.{Witness}
-use Rattle.spec_run_loop.specs.declared.course.Course.{Course}
-use Rattle.spec_run_loop.specs.declared.course.Course.TheVariants as courses
-use Rattle.bpfspec_records.specs.declared.loop_facts.LoopFact.{LoopFact}
-use Rattle.bpfspec_records.specs.declared.loop_facts.PairFact.{PairFact}
-use Rattle.bpfspec_records.specs.declared.loop_facts.GridFact.{GridFact}
-use Rattle.bpfspec_records.specs.declared.loop_facts.CellFact.{CellFact}
+use Rattle.loop_core_witness.specs.declared.{place.Place.{Place}, witness.Witness.{Witness}}
+use Rattle.loop_core_split.specs.declared.strategy.Strategy.{Strategy}
+use Rattle.loop_core_split.specs.declared.strategy.Strategy.TheVariants as strategies
+use Rattle.bpfspec_records.specs.declared.loop_facts.{LoopFact.{LoopFact}, PairFact.{PairFact}, GridFact.{GridFact}}
+use Rattle.bpfspec_records.specs.{declared.loop_facts.CellFact.{CellFact}, Words.{blocks_word, verdict_word}}
 use Rattle.bpfspec_records.specs.Fields.{absent, number, object, optional, signed, wide, word}
-use Rattle.bpfspec_records.specs.Words.{blocks_word, verdict_word}
 
 -- how many elements conflict
 abbrev pub conflict_count : Verdict → Option ℕ
@@ -22,18 +17,18 @@ conflict_count Refused = None
 conflict_count InOrder = None
 
 -- the fields of a way: its word, its blocks, if it goes by blocks, its workers, and why a loop goes so
-unfoldable pub course_fields : (way : List ℕ) → (blocks : Option ℕ) → (workers : ℕ) → (reason : List ℕ) → List ℕ
-course_fields way blocks workers reason = word (codes "way") way ++ optional (codes "blocks") blocks
+unfoldable pub strategy_fields : (way : List ℕ) → (blocks : Option ℕ) → (workers : ℕ) → (reason : List ℕ) → List ℕ
+strategy_fields way blocks workers reason = word (codes "way") way ++ optional (codes "blocks") blocks
     ++ number (codes "workers") workers ++ word (codes "reason") reason
 
 -- which way a loop goes; none that is refused
-unfoldable pub way_fields : Option Course → List ℕ
+unfoldable pub way_fields : Option Strategy → List ℕ
 way_fields None = absent (codes "way") ++ absent (codes "blocks") ++ absent (codes "workers") ++ absent (codes "reason")
-way_fields (Some courses.InOrder) = course_fields (codes "in_order") None 1 (codes "asked")
-way_fields (Some (courses.Sums workers)) = course_fields (codes "sums") None workers (codes "only_reduces")
-way_fields (Some courses.Watched) = course_fields (codes "watched") None 1 (codes "reads_nothing_written")
-way_fields (Some (courses.Blocks blocks workers why)) =
-    course_fields (codes "blocks") (Some blocks) workers (blocks_word why)
+way_fields (Some strategies.InOrder) = strategy_fields (codes "in_order") None 1 (codes "asked")
+way_fields (Some (strategies.Sums workers)) = strategy_fields (codes "sums") None workers (codes "only_reduces")
+way_fields (Some strategies.Watched) = strategy_fields (codes "watched") None 1 (codes "reads_nothing_written")
+way_fields (Some (strategies.Blocks blocks workers why)) =
+    strategy_fields (codes "blocks") (Some blocks) workers (blocks_word why)
 
 -- an iteration and a slot in it
 unfoldable pub place_fields : (index slot : List ℕ) → Place → List ℕ
@@ -62,7 +57,7 @@ unfoldable pub printed_loop : LoopFact → List ℕ
 printed_loop fact = object (codes "loop")
     (call_fields fact
     ++ outcome_fields fact
-    ++ way_fields fact.course
+    ++ way_fields fact.strategy
     ++ optional_place (codes "break_iteration") (codes "break_slot") fact.broke)
 
 -- the two iterations of a pair

@@ -1,17 +1,10 @@
 -- The registers that an instruction reads.
 use Rattle.std.specs.Prelude.{ℕ, ◌==◌, ◌&&◌, ◌||◌, nat_le, Bool, false, Option, Some, None}
-use Rattle.bpf_insn_types.specs.declared.insn.AluOp.{AluOp}
-use Rattle.bpf_insn_types.specs.declared.insn.AluOp.TheVariants.{Mov}
-use Rattle.bpf_insn_types.specs.declared.insn.AtomicOp.{AtomicOp}
-use Rattle.bpf_insn_types.specs.declared.insn.AtomicOp.TheVariants.{Cmpxchg}
-use Rattle.bpf_insn_types.specs.declared.insn.Operand.{Operand}
-use Rattle.bpf_insn_types.specs.declared.insn.Operand.TheVariants.{Imm, Reg}
-use Rattle.bpf_insn_types.specs.declared.insn.Insn.{Insn}
-use Rattle.bpf_insn_types.specs.declared.insn.Insn.TheVariants.{Alu, Neg, Movsx, Endian, Jump, Call, Exit}
-use Rattle.bpf_insn_types.specs.declared.insn.Insn.TheVariants.{Load, LoadSx, StoreImm, Store, Atomic}
-use Rattle.bpf_verify_model.specs.declared.helper.Helper.{Helper}
-use Rattle.bpf_verify_model.specs.declared.helper.Helper.TheVariants.{Lookup, Loop}
-use Rattle.bpf_verify_model.specs.Helpers.{helper_called}
+use Rattle.bpf_insn_types.specs.declared.insn.{AluOp.{AluOp, TheVariants.{Mov}}, AtomicOp.{AtomicOp}, Operand.{Operand}}
+use Rattle.bpf_insn_types.specs.declared.insn.{AtomicOp.TheVariants.{Cmpxchg}, Operand.TheVariants.{Imm, Reg}}
+use Rattle.bpf_insn_types.specs.declared.insn.Insn.{Insn, TheVariants.{StoreImm, Store, Atomic}}
+use Rattle.bpf_insn_types.specs.declared.insn.Insn.TheVariants.{Alu, Neg, Movsx, Endian, Jump, Call, Exit, Load, LoadSx}
+use Rattle.bpf_verify_model.specs.{declared.helper.Helper.{Helper, TheVariants.{Lookup, Loop}}, Helpers.{helper_called}}
 
 -- whether an operand is a register of this number
 abbrev pub is_operand : Operand → (reg : ℕ) → Bool

@@ -3,13 +3,11 @@ use Rattle.std.specs.Prelude.{ℕ, ℤ, Bool, List, ◌++◌, codes}
 use Rattle.bpf_text_lex.specs.PrintedLines.{insn_spelling}
 use Rattle.bpf_verify_origin.specs.declared.source.Source.{Source}
 use Rattle.bpf_verify_origin.specs.declared.source.Source.TheVariants as sources
-use Rattle.bpfspec_records.specs.declared.records.Record.{Record}
-use Rattle.bpfspec_records.specs.declared.records.Record.TheVariants as records
+use Rattle.bpfspec_records.specs.{declared.records.Record.{Record}, Words.{form_word, frame_word, test_word}}
 use Rattle.bpfspec_records.specs.Fields.{absent, flag, number, object, optional, signed, wide, word}
-use Rattle.bpfspec_records.specs.Words.{form_word, frame_word, test_word}
-use Rattle.bpfspec_records.specs.Refusals.{printed_refusal}
-use Rattle.bpfspec_records.specs.Values.{value_fields}
+use Rattle.bpfspec_records.specs.{Refusals.{printed_refusal}, Values.{value_fields}}
 use Rattle.bpfspec_records.specs.LoopsPrinted.{printed_cell, printed_grid, printed_loop, printed_pair}
+use Rattle.bpfspec_records.specs.declared.records.Record.TheVariants as records
 
 -- where a value comes from, and the slot of it
 unfoldable pub source_fields : Source → List ℕ

@@ -1,14 +1,11 @@
 -- The record of a refusal.
-use Rattle.std.specs.Prelude.{ℕ, List, ◌++◌, codes, Option, Some, None}
-use Rattle.std.specs.Fmt.{decimal}
+use Rattle.std.specs.{Prelude.{ℕ, List, ◌++◌, codes, Option, Some, None}, Fmt.{decimal}}
 use Rattle.bpf_insn.specs.FaultNumbers.{codec_fault_number as codec_fault_number}
 use Rattle.bpf_text_lex.specs.FaultNumbers.{text_fault_number as text_fault_number}
 use Rattle.bpf_verify_model.specs.RuleNumbers.{rule_number}
 use Rattle.loop_core_model.specs.declared.replay_fault.ReplayFault.TheVariants as schedules
-use Rattle.bpfspec_output.specs.Refusals.{section_name}
-use Rattle.bpfspec_output.specs.declared.refusal.Section.{Section}
+use Rattle.bpfspec_output.specs.{Refusals.{section_name}, declared.refusal.{Section.{Section}, Refusal.{Refusal}}}
 use Rattle.bpfspec_output.specs.declared.refusal.Section.TheVariants as sections
-use Rattle.bpfspec_output.specs.declared.refusal.Refusal.{Refusal}
 use Rattle.bpfspec_output.specs.declared.refusal.Refusal.TheVariants as refusals
 use Rattle.bpfspec_records.specs.Fields.{object, optional, word}
 use Rattle.bpfspec_records.specs.Words.{codec_fault_name, rule_name, schedule_fault_code, schedule_fault_name}

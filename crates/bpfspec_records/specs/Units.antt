@@ -1,39 +1,21 @@
 -- The records of a unit: its maps, and its instructions up to the first fault.
 use Rattle.std.specs.Prelude.{ℕ, zero, suc, ℤ, pos, negsuc, ◌+◌, ◌+ℤ◌, ◌-ℤ◌, ◌==◌, ◌||◌, ◌&&◌, nat_le, Bool, true}
-use Rattle.std.specs.Prelude.{false}
-use Rattle.std.specs.Prelude.{if◌then◌else◌, List, [], ◌∷◌, ◌++◌, Option, Some, None, is_some}
-use Rattle.bpf_insn_types.specs.declared.insn.Insn.{Insn}
-use Rattle.bpf_insn_types.specs.declared.insn.Insn.TheVariants.{Load, LoadSx, Atomic, Call}
-use Rattle.bpf_insn_types.specs.Sizes.{bytes_of, atomic_bytes}
-use Rattle.bpf_insn_types.specs.Slots.{slots_of}
-use Rattle.bpf_insn_types.specs.Program.{Program, insn_at}
-use Rattle.bpf_verify_model.specs.Written.{all_written, none_written}
-use Rattle.bpf_verify_model.specs.declared.abstract_value.AbstractValue.{AbstractValue}
-use Rattle.bpf_verify_model.specs.declared.abstract_value.AbstractValue.TheVariants.{Frame, Ctx}
-use Rattle.bpf_verify_model.specs.declared.helper.Helper.{Helper}
-use Rattle.bpf_verify_model.specs.declared.helper.Helper.TheVariants.{Lookup}
-use Rattle.bpf_verify_model.specs.declared.rule.Rule.{Rule}
-use Rattle.bpf_verify_model.specs.declared.rule.Rule.TheVariants.{UnwrittenByte}
-use Rattle.bpf_verify_model.specs.declared.state.State.{State}
-use Rattle.bpf_verify_model.specs.declared.outflow.Edge.{Edge}
-use Rattle.bpf_verify_model.specs.declared.outflow.Outflow.{Outflow}
-use Rattle.bpf_verify_model.specs.Accepted.{BrokenRule, first_fault, is_too_large}
-use Rattle.bpf_verify_model.specs.Helpers.{helper_called}
-use Rattle.bpf_verify_model.specs.Inflow.{received_all, state_before}
+use Rattle.std.specs.Prelude.{false, if◌then◌else◌, List, [], ◌∷◌, ◌++◌, Option, Some, None, is_some}
+use Rattle.bpf_insn_types.specs.{declared.insn.Insn.{Insn, TheVariants.{Load, LoadSx, Atomic, Call}}, Slots.{slots_of}}
+use Rattle.bpf_insn_types.specs.{Sizes.{bytes_of, atomic_bytes}, Program.{Program, insn_at}}
+use Rattle.bpf_verify_model.specs.{Written.{all_written, none_written}, declared.helper.Helper.{Helper}}
+use Rattle.bpf_verify_model.specs.declared.abstract_value.AbstractValue.{AbstractValue, TheVariants.{Frame, Ctx}}
+use Rattle.bpf_verify_model.specs.declared.{helper.Helper.TheVariants.{Lookup}, rule.Rule.{Rule}, state.State.{State}}
+use Rattle.bpf_verify_model.specs.declared.{rule.Rule.TheVariants.{UnwrittenByte}, outflow.Edge.{Edge}}
+use Rattle.bpf_verify_model.specs.{declared.outflow.Outflow.{Outflow}, Accepted.{BrokenRule, first_fault, is_too_large}}
+use Rattle.bpf_verify_model.specs.{Helpers.{helper_called}, Inflow.{received_all, state_before}, Values.{is_unwritten}}
 use Rattle.bpf_verify_model.specs.States.{known_register}
-use Rattle.bpf_verify_model.specs.Values.{is_unwritten}
-use Rattle.bpf_verify_origin.specs.declared.inflow.Inflow.{Inflow}
-use Rattle.bpf_verify_origin.specs.declared.inflow.Inflow.TheVariants.{Nowhere, One, Several}
-use Rattle.bpf_verify_origin.specs.Edges.{flow_passed, inflow}
-use Rattle.bpf_verify_origin.specs.Inspected.{is_up_to}
-use Rattle.bpf_verify_origin.specs.Sources.{source_before}
-use Rattle.bpfspec_records.specs.declared.records.FrameOf.{FrameOf}
-use Rattle.bpfspec_records.specs.declared.records.FrameOf.TheVariants.{Own, Main}
-use Rattle.bpfspec_records.specs.declared.unwritten.MemoryRead.{MemoryRead}
-use Rattle.bpfspec_records.specs.declared.records.Record.{Record}
+use Rattle.bpf_verify_origin.specs.declared.inflow.Inflow.{Inflow, TheVariants.{Nowhere, One, Several}}
+use Rattle.bpf_verify_origin.specs.{Edges.{flow_passed, inflow}, Inspected.{is_up_to}, Sources.{source_before}}
+use Rattle.bpfspec_records.specs.declared.records.{FrameOf.{FrameOf, TheVariants.{Own, Main}}, Record.{Record}}
+use Rattle.bpfspec_records.specs.{declared.unwritten.MemoryRead.{MemoryRead}, Operands.{reads_register}}
 use Rattle.bpfspec_records.specs.declared.records.Record.TheVariants.{Map, Insn as InsnRecord, Value, Read}
 use Rattle.bpfspec_records.specs.declared.records.Record.TheVariants.{Edge as EdgeRecord, Unwritten}
-use Rattle.bpfspec_records.specs.Operands.{reads_register}
 
 -- maps, the first of which has this number
 abbrev pub map_records : ℕ → List ℕ → List Record

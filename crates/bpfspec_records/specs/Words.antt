@@ -6,18 +6,16 @@ use Rattle.bpf_text_lex.specs.declared.text_error.TextFault.{TextFault}
 use Rattle.bpf_text_lex.specs.declared.text_error.TextFault.TheVariants as texts
 use Rattle.bpf_insn.specs.declared.codec_error.CodecFault.{CodecFault}
 use Rattle.bpf_insn.specs.declared.codec_error.CodecFault.TheVariants as bytes
-use Rattle.loop_core_model.specs.declared.faults.SplitFault.{SplitFault}
+use Rattle.loop_core_model.specs.declared.{faults.SplitFault.{SplitFault}, replay_fault.ReplayFault.{ReplayFault}}
+use Rattle.loop_core_model.specs.declared.{loop_test.Test.{Test}, verdict.Verdict.{Verdict}}
 use Rattle.loop_core_model.specs.declared.faults.SplitFault.TheVariants as splits
-use Rattle.loop_core_model.specs.declared.replay_fault.ReplayFault.{ReplayFault}
 use Rattle.loop_core_model.specs.declared.replay_fault.ReplayFault.TheVariants as schedules
-use Rattle.loop_core_model.specs.declared.loop_test.Test.{Test}
 use Rattle.loop_core_model.specs.declared.loop_test.Test.TheVariants as tests
+use Rattle.loop_core_model.specs.declared.verdict.Verdict.TheVariants as verdicts
 use Rattle.bpfspec_records.specs.declared.records.FrameOf.{FrameOf}
 use Rattle.bpfspec_records.specs.declared.records.FrameOf.TheVariants as frames
-use Rattle.loop_core_model.specs.declared.verdict.Verdict.{Verdict}
-use Rattle.loop_core_model.specs.declared.verdict.Verdict.TheVariants as verdicts
-use Rattle.spec_run_loop.specs.declared.course.BlocksReason.{BlocksReason}
-use Rattle.spec_run_loop.specs.declared.course.BlocksReason.TheVariants as reasons
+use Rattle.loop_core_split.specs.declared.strategy.BlocksReason.{BlocksReason}
+use Rattle.loop_core_split.specs.declared.strategy.BlocksReason.TheVariants as reasons
 
 -- the name of a rule of the verifier
 abbrev pub rule_name : Rule → List ℕ

@@ -1,10 +1,9 @@
 //! The fields of records, and the object of JSON that a record is.
 
-ghost use Rattle.std.specs.Prelude.{◌≡◌, ◌++◌, OnOk, IfOk};
-ghost use Rattle.std.specs.String.{string_bytes};
+ghost use Rattle.std.specs.{Prelude.{◌≡◌, ◌++◌, OnOk, IfOk}, String.{string_bytes}};
 ghost use Rattle.bpf_text_lex.specs.PrintedLines.{insn_spelling};
-ghost use Rattle.bpfspec_records.specs.Fields.{absent, flag, number, object_end, object_start};
-ghost use Rattle.bpfspec_records.specs.Fields.{optional, signed, wide, word};
+ghost use Rattle.bpfspec_records.specs.Fields.{absent, flag, number, object_end, object_start, optional, signed, wide};
+ghost use Rattle.bpfspec_records.specs.Fields.{word};
 
 use bpf_insn_types::Insn;
 use bpf_text_lex::print_insn;

@@ -1,16 +1,14 @@
 //! The records of a grid: the iterations that it shows, and what each does at each element.
 
-ghost use Rattle.std.specs.Prelude.{◌≡◌, ◌||◌, ◌++◌, is_some, OnOk};
-ghost use Rattle.std.specs.List.{flat_map};
-ghost use Rattle.bpfspec_records.specs.Grids.{accesses, cell_fact, cell_records, grid_fact, row_records};
-ghost use Rattle.bpfspec_records.specs.Grids.{shown_records};
+ghost use Rattle.std.specs.{Prelude.{◌≡◌, ◌||◌, ◌++◌, is_some, OnOk}, List.{flat_map}};
+ghost use Rattle.bpfspec_records.specs.Grids.{accesses, cell_fact, cell_records, grid_fact, row_records, shown_records};
 
 use crate::adding::add;
 use crate::elements::map_of;
 use crate::loop_facts::{CellFact, GridFact};
 use crate::records::Record;
-use loop_core_grid::{Cell, Grid, Row};
 use loop_core_trace::Slots;
+use loop_core_witness::{Cell, Grid, Row};
 use std::alloc::AllocError;
 
 /// Whether an iteration with these slots accesses the element: its first access writes it or is an exposed read.

@@ -1,7 +1,6 @@
 //! What is known of registers at a slot: their values, and where the values come from that are read.
 
-ghost use Rattle.std.specs.Prelude.{◌≡◌, ◌++◌, OnOk};
-ghost use Rattle.std.specs.Option.{option_map};
+ghost use Rattle.std.specs.{Prelude.{◌≡◌, ◌++◌, OnOk}, Option.{option_map}};
 ghost use Rattle.bpf_verify_origin.specs.Inspected.{broken_rule, is_up_to};
 ghost use Rattle.bpfspec_records.specs.Units.{edge_records, edges_records, is_join, is_several, other_target};
 ghost use Rattle.bpfspec_records.specs.Units.{read_record, read_records, register_record, target_of, value_record};

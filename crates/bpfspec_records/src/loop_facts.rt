@@ -2,9 +2,9 @@
 //! elements.
 
 use loop_core_model::Verdict;
+use loop_core_split::Strategy;
 use loop_core_trace::Slots;
 use loop_core_witness::{Place, Witness};
-use spec_run_loop::Course;
 
 /// A call of a loop.
 #[derive(Clone, Copy)]
@@ -22,7 +22,7 @@ pub struct LoopFact {
     /// How it comes out.
     pub verdict: Verdict,
     /// Which way `run` takes it; `None` of a call that is refused.
-    pub course: Option<Course>,
+    pub strategy: Option<Strategy>,
     /// The iteration that breaks it, and the slot of its exit.
     pub broke: Option<Place>,
 }

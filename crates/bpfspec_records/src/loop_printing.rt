@@ -1,11 +1,10 @@
 //! The records of loops.
 
-ghost use Rattle.std.specs.Prelude.{◌≡◌, ◌++◌, None, OnOk};
-ghost use Rattle.std.specs.String.{string_bytes};
+ghost use Rattle.std.specs.{Prelude.{◌≡◌, ◌++◌, None, OnOk}, String.{string_bytes}};
+ghost use Rattle.bpfspec_records.specs.LoopsPrinted.{call_fields, conflict_count, strategy_fields, optional_place};
+ghost use Rattle.bpfspec_records.specs.LoopsPrinted.{outcome_fields, place_fields, reduce_slot, way_fields};
+ghost use Rattle.bpfspec_records.specs.{LoopsPrinted.{witness_fields}, Printed.{printed}};
 ghost use Rattle.bpfspec_records.specs.declared.records.Record.TheVariants as records;
-ghost use Rattle.bpfspec_records.specs.LoopsPrinted.{call_fields, conflict_count, course_fields, optional_place};
-ghost use Rattle.bpfspec_records.specs.LoopsPrinted.{outcome_fields, place_fields, reduce_slot, way_fields, witness_fields};
-ghost use Rattle.bpfspec_records.specs.Printed.{printed};
 
 use crate::fields::{
     add_absent, add_number, add_optional, add_signed, add_wide, add_word, begin, end,
@@ -14,9 +13,9 @@ use crate::loop_facts::{CellFact, GridFact, LoopFact, PairFact};
 use crate::optional::widened;
 use crate::words::{blocks_word, verdict_word};
 use loop_core_model::Verdict;
+use loop_core_split::Strategy;
 use loop_core_trace::FirstReduce;
 use loop_core_witness::{Place, Witness};
-use spec_run_loop::Course;
 use std::alloc::AllocError;
 
 /// How many elements conflict; none of a call that is refused.
@@ -31,8 +30,8 @@ fn conflict_count(verdict: Verdict) -> Option<u64>
 }
 
 /// Adds the fields of a way: its word, how many blocks and workers it has, and why a loop goes so.
-#[tactic(auto, unfolding(crate::specs::LoopsPrinted::course_fields))]
-fn add_course(
+#[tactic(auto, unfolding(crate::specs::LoopsPrinted::strategy_fields))]
+fn add_strategy(
     out: &mut String,
     way: &str,
     blocks: Option<u32>,
@@ -40,7 +39,7 @@ fn add_course(
     reason: &str,
 ) -> Result<(), AllocError>
     ensures { OnOk result (string_bytes out.new
-        ≡ string_bytes out.old ++ course_fields way.now blocks workers reason.now) }
+        ≡ string_bytes out.old ++ strategy_fields way.now blocks workers reason.now) }
 {
     add_word(out, "way", way)?;
     add_optional(out, "blocks", widened(blocks))?;
@@ -50,7 +49,7 @@ fn add_course(
 
 /// Adds that no way is gone.
 #[tactic(auto, unfolding(crate::specs::LoopsPrinted::way_fields))]
-fn add_no_course(out: &mut String) -> Result<(), AllocError>
+fn add_no_strategy(out: &mut String) -> Result<(), AllocError>
     ensures { OnOk result (string_bytes out.new ≡ string_bytes out.old ++ way_fields None) }
 {
     add_absent(out, "way")?;
@@ -61,21 +60,27 @@ fn add_no_course(out: &mut String) -> Result<(), AllocError>
 
 /// Adds which way a loop goes.
 #[tactic(auto, unfolding(crate::specs::LoopsPrinted::way_fields))]
-fn add_way(out: &mut String, course: Option<Course>) -> Result<(), AllocError>
-    ensures { OnOk result (string_bytes out.new ≡ string_bytes out.old ++ way_fields course) }
+fn add_way(out: &mut String, strategy: Option<Strategy>) -> Result<(), AllocError>
+    ensures { OnOk result (string_bytes out.new ≡ string_bytes out.old ++ way_fields strategy) }
 {
-    match course {
-        None => add_no_course(out),
-        Some(Course::InOrder) => add_course(out, "in_order", None, 1, "asked"),
-        Some(Course::Sums { workers }) => add_course(out, "sums", None, workers, "only_reduces"),
-        Some(Course::Watched) => add_course(out, "watched", None, 1, "reads_nothing_written"),
+    match strategy {
+        None => add_no_strategy(out),
+        Some(Strategy::InOrder) => add_strategy(out, "in_order", None, 1, "asked"),
+        Some(Strategy::Sums { workers }) => add_strategy(
+            out,
+            "sums",
+            None,
+            workers,
+            "only_reduces",
+        ),
+        Some(Strategy::Watched) => add_strategy(out, "watched", None, 1, "reads_nothing_written"),
         Some(
-            Course::Blocks {
+            Strategy::Blocks {
                 blocks,
                 workers,
                 why,
             },
-        ) => add_course(out, "blocks", Some(blocks), workers, blocks_word(why)),
+        ) => add_strategy(out, "blocks", Some(blocks), workers, blocks_word(why)),
     }
 }
 
@@ -136,7 +141,7 @@ pub(crate) fn add_loop(out: &mut String, fact: &LoopFact) -> Result<(), AllocErr
     begin(out, "loop")?;
     add_call(out, fact)?;
     add_outcome(out, fact)?;
-    add_way(out, fact.course)?;
+    add_way(out, fact.strategy)?;
     add_optional_place(out, "break_iteration", "break_slot", fact.broke)?;
     end(out)
 }

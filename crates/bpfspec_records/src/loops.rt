@@ -1,30 +1,30 @@
 //! The records of a program's loop calls.
 
 ghost use Rattle.std.specs.Prelude.{◌≡◌, ◌++◌, map, IfOk, OnOk};
-ghost use Rattle.bpfspec_records.specs.Loops.{call_records, loop_fact, loop_records, numbered_records};
-ghost use Rattle.bpfspec_records.specs.Loops.{pair_fact, pair_record};
+ghost use Rattle.bpfspec_records.specs.Loops.{call_records, loop_fact, loop_records, numbered_records, pair_fact};
+ghost use Rattle.bpfspec_records.specs.Loops.{pair_record};
 
 use crate::adding::add;
 use crate::elements::map_of;
 use crate::grids::add_shown;
 use crate::loop_facts::{LoopFact, PairFact};
 use crate::records::Record;
-use spec_run_explain::{Cause, Explained, LoopExplained};
+use loop_core_witness::{Cause, Explained, LoopExplained};
 use std::alloc::{AllocError, Global};
 
 /// A loop call that has this number.
-fn loop_fact(number: usize, told: &LoopExplained) -> LoopFact
-    ensures { result ≡ loop_fact number told.now }
+fn loop_fact(number: usize, explained: &LoopExplained) -> LoopFact
+    ensures { result ≡ loop_fact number explained.now }
 {
     LoopFact {
         number,
-        slot: told.line.slot,
-        iterations: told.iterations,
-        flags: told.flags,
-        answer: told.line.answer,
-        verdict: told.line.verdict,
-        course: told.course,
-        broke: told.broke,
+        slot: explained.line.slot,
+        iterations: explained.iterations,
+        flags: explained.flags,
+        answer: explained.line.answer,
+        verdict: explained.line.verdict,
+        strategy: explained.strategy,
+        broke: explained.broke,
     }
 }
 
@@ -63,14 +63,14 @@ fn add_call(
     records: &mut Vec<Record>,
     sizes: &[u32],
     number: usize,
-    told: &LoopExplained,
+    explained: &LoopExplained,
 ) -> Result<(), AllocError>
     ensures { OnOk result (records.new.items ≡ records.old.items
-        ++ call_records sizes.now number told.now) }
+        ++ call_records sizes.now number explained.now) }
 {
-    add(records, Record::Loop(loop_fact(number, told)))?;
-    add_pairs(records, sizes, number, told.causes.as_slice())?;
-    add_shown(records, sizes, number, &told.grid)
+    add(records, Record::Loop(loop_fact(number, explained)))?;
+    add_pairs(records, sizes, number, explained.causes.as_slice())?;
+    add_shown(records, sizes, number, &explained.grid)
 }
 
 /// Adds the records of loop calls.
@@ -82,8 +82,8 @@ fn add_calls(
     ensures { OnOk result (records.new.items ≡ records.old.items
         ++ numbered_records sizes.now 0 loops.now) }
 {
-    for (number, told) in loops.iter().enumerate() {
-        add_call(records, sizes, number, told)?;
+    for (number, explained) in loops.iter().enumerate() {
+        add_call(records, sizes, number, explained)?;
     }
     Ok(())
 }

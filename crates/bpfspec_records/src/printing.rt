@@ -1,10 +1,8 @@
 //! The lines of records.
 
-ghost use Rattle.std.specs.Prelude.{◌≡◌, ◌++◌, OnOk, IfOk};
-ghost use Rattle.std.specs.List.{flat_map};
-ghost use Rattle.std.specs.String.{string_bytes};
-ghost use Rattle.bpfspec_records.specs.declared.records.Record.TheVariants as records;
+ghost use Rattle.std.specs.{Prelude.{◌≡◌, ◌++◌, OnOk, IfOk}, List.{flat_map}, String.{string_bytes}};
 ghost use Rattle.bpfspec_records.specs.Printed.{printed, source_fields};
+ghost use Rattle.bpfspec_records.specs.declared.records.Record.TheVariants as records;
 
 use crate::fields::{
     add_absent, add_flag, add_insn, add_number, add_optional, add_signed, add_wide, add_word,

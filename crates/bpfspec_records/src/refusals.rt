@@ -1,12 +1,10 @@
 //! The records of refusals.
 
-ghost use Rattle.std.specs.Prelude.{◌≡◌, ◌++◌, codes, OnOk};
-ghost use Rattle.std.specs.String.{string_bytes};
-ghost use Rattle.bpfspec_records.specs.declared.records.Record.TheVariants as records;
-ghost use Rattle.bpfspec_records.specs.Fields.{word};
-ghost use Rattle.bpfspec_records.specs.Printed.{printed};
+ghost use Rattle.std.specs.{Prelude.{◌≡◌, ◌++◌, codes, OnOk}, String.{string_bytes}};
+ghost use Rattle.bpfspec_records.specs.{Fields.{word}, Printed.{printed}};
 ghost use Rattle.bpfspec_records.specs.Refusals.{cause_fields, refusal_code, refusal_name, refused_event};
 ghost use Rattle.bpfspec_records.specs.Refusals.{refused_fields, refused_line, refused_section, refused_slot};
+ghost use Rattle.bpfspec_records.specs.declared.records.Record.TheVariants as records;
 
 use crate::fields::{add_optional, add_word, begin, end};
 use crate::words::{

@@ -1,7 +1,6 @@
 //! Abstract values in records.
 
-ghost use Rattle.std.specs.Prelude.{◌≡◌, ◌++◌, OnOk};
-ghost use Rattle.std.specs.String.{string_bytes};
+ghost use Rattle.std.specs.{Prelude.{◌≡◌, ◌++◌, OnOk}, String.{string_bytes}};
 ghost use Rattle.bpfspec_records.specs.Values.{area_fields, kind_word, position_field, range_fields, value_fields};
 
 use crate::fields::{add_number, add_signed, add_wide, add_word};

@@ -12,7 +12,7 @@ use bpf_text_lex::TextFault;
 use bpf_verify_model::Rule;
 use bpfspec_output::Section;
 use loop_core_model::{ReplayFault, SplitFault, Test, Verdict};
-use spec_run_loop::BlocksReason;
+use loop_core_split::BlocksReason;
 
 /// The name of a rule of the verifier.
 pub(crate) fn rule_name(rule: Rule) -> &'static str

@@ -1,36 +1,28 @@
 -- The facts of an input, of their parts.
 use Rattle.std.proofs.Common.{◌≡◌, ℕ, ◌+◌, ◌==◌, true, false, List, [], ◌∷◌, ◌++◌, length, map, Option, None, Some}
-use Rattle.std.proofs.Common.{Result, Ok, Err, refl, sym, ap, ◌∙◌, subst}
-use Rattle.std.proofs.Common.{append-nil, append_assoc, arith, eqb-true}
-use Rattle.std.specs.List.{range_with_len}
-use Rattle.std.proofs.lemmas.List.FromFn.{map-range_with_len_more}
+use Rattle.std.proofs.Common.{Result, Ok, Err, refl, sym, ap, ◌∙◌, subst, append-nil, append_assoc, arith, eqb-true}
+use Rattle.std.{specs.List.{range_with_len}, proofs.lemmas.List.FromFn.{map-range_with_len_more}}
 use Rattle.array_maps.specs.MapList.{MapList}
 use Rattle.bpf_insn_types.specs.Program.{Program}
 use Rattle.bpf_text.specs.EventsText.{events_text}
 use Rattle.loop_core_model.specs.declared.event.Event.{Event}
 use Rattle.spec_run_replay.specs.ProgramReplay.{LoopReplay}
-use Rattle.spec_run_explain.specs.declared.explained.Explained.{Explained}
+use Rattle.loop_core_witness.specs.declared.explained.Explained.{Explained}
 use Rattle.spec_run_explain.specs.Programs.{IsProgramExplained}
 use Rattle.bpf_verify_model.specs.Accepted.{BrokenRule, first_fault}
-use Rattle.bpfspec_command_line.specs.declared.job.Ask.{Ask}
-use Rattle.bpfspec_command_line.specs.declared.job.UnitForm.{UnitForm}
+use Rattle.bpfspec_command_line.specs.declared.job.{Ask.{Ask}, UnitForm.{UnitForm}}
 use Rattle.bpfspec_output.specs.declared.refusal.Section.TheVariants as sections
-use Rattle.bpfspec_records.specs.declared.records.Record.{Record}
+use Rattle.bpfspec_records.specs.{declared.records.Record.{Record}, Units.{unit_records}, Loops.{loop_records}}
 use Rattle.bpfspec_records.specs.declared.records.Record.TheVariants as records
-use Rattle.bpfspec_records.specs.Units.{unit_records}
-use Rattle.bpfspec_records.specs.Loops.{loop_records}
-use Rattle.bpfspec_serve.specs.declared.answer_error.AnswerError.{AnswerError}
-use Rattle.bpfspec_serve.specs.declared.program_end.ProgramEnd.TheVariants as ends
-use Rattle.bpfspec_serve.specs.declared.serving.Served.{Served}
-use Rattle.bpfspec_serve.specs.declared.serving.Served.TheVariants.{Done}
-use Rattle.bpfspec_serve.specs.ExitStatus.{exit_status}
+use Rattle.bpfspec_serve.specs.declared.{answer_error.AnswerError.{AnswerError}, serving.Served.{Served}}
+use Rattle.bpfspec_serve.specs.{declared.serving.Served.TheVariants.{Done}, ExitStatus.{exit_status}}
 use Rattle.bpfspec_serve.specs.Facts.{Adds, AddsRefusal, AreFacts, AreInputFacts, AreReplayFacts, AreRunFacts}
 use Rattle.bpfspec_serve.specs.Facts.{AreSectionFacts, AreUnitFacts, IsTried, error_records_of, function_records}
-use Rattle.bpfspec_serve.specs.Facts.{header, most_pairs, verify_served}
+use Rattle.bpfspec_serve.specs.{Facts.{header, most_pairs, verify_served}, Output.{unless_rule_broken, verified}}
 use Rattle.bpfspec_serve.specs.Output.{IsReplayed, SatisfiesUnlessMemory, TextOutcome, accepted, in_section, judged}
 use Rattle.bpfspec_serve.specs.Output.{maps_start_words, readable, refused, text_answer, unit_program}
-use Rattle.bpfspec_serve.specs.Output.{unless_rule_broken, verified}
 use Rattle.bpfspec_serve.specs.Sections.{events_section, maps_section, unit_section}
+use Rattle.bpfspec_serve.specs.declared.program_end.ProgramEnd.TheVariants as ends
 
 -- one more of what is numbered is added
 pub one_more : (f : ℕ → Record) (n : ℕ) (old before after : List Record)

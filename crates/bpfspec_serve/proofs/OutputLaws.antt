@@ -1,49 +1,32 @@
 -- What inputs can be read.
-use Rattle.std.proofs.Common.{◌≡◌, ℕ, ◌≤◌, ◌<◌, Bool, false, true, List, length, if◌then◌else◌, Result, Ok, Err}
-use Rattle.std.proofs.Common.{refl, take, Option, Some, None, IfSome, sym, ap, ap₂, ◌∙◌, subst, nat_eq, arith}
-use Rattle.std.specs.Prelude.{◌++◌, IfOk, codes}
-use Rattle.std.proofs.lemmas.Fmt.{decimal_digit}
-use Rattle.std.specs.declared.alloc.AllocError.{AllocError}
-use Rattle.std.specs.Cmp.Lexicographic.{pointwise, same_text}
-use Rattle.std.specs.List.{concat, flat_map}
+use Rattle.std.proofs.Common.{◌≡◌, ℕ, ◌≤◌, ◌<◌, Bool, false, true, List, length, if◌then◌else◌, Result, Ok, Err, refl}
+use Rattle.std.proofs.Common.{take, Option, Some, None, IfSome, sym, ap, ap₂, ◌∙◌, subst, nat_eq, arith}
+use Rattle.std.{specs.Prelude.{◌++◌, IfOk, codes, nat_lt, nat_le}, proofs.lemmas.Fmt.{decimal_digit}}
+use Rattle.std.specs.{declared.alloc.AllocError.{AllocError}, Cmp.Lexicographic.{pointwise, same_text}}
+use Rattle.std.{specs.{List.{concat, flat_map}, Str.{IsUtf8, is_utf8}}, proofs.lemmas.Bool.Decides.{nat_tests}}
+use Rattle.std.proofs.lemmas.{Str.{IsUtf8-from_is_utf8, is_utf8-from_IsUtf8}, List.{take_all, length-take}}
 use Rattle.array_maps.specs.MapList.{lengths}
-use Rattle.bpf_insn_types.specs.Limits.{AreSizes, sizes_fit}
-use Rattle.bpf_insn_types.specs.Program.{Program}
+use Rattle.bpf_insn_types.specs.{Limits.{AreSizes, sizes_fit}, Program.{Program}}
 use Rattle.bpf_step_model.specs.Run.{BoundedResult, Ended}
-use Rattle.bpf_verify_model.specs.Accepted.{first_fault}
-use Rattle.bpf_verify_model.specs.declared.rule.Rule.{Rule}
-use Rattle.loop_core_model.specs.Report.{Reported}
-use Rattle.bpfspec_output.specs.ReportText.{replay_text, report_text}
-use Rattle.loop_core_model.specs.declared.event.Event.{Event}
-use Rattle.loop_core_model.specs.declared.loop_test.Test.{Test}
-use Rattle.spec_run_replay.specs.declared.replaying.Replayed.{Replayed}
-use Rattle.spec_run_replay.specs.ProgramReplay.{LoopReplay}
-use Rattle.std.specs.Prelude.{nat_lt, nat_le}
-use Rattle.std.specs.Str.{IsUtf8, is_utf8}
-use Rattle.std.proofs.lemmas.Bool.Decides.{nat_tests}
-use Rattle.std.proofs.lemmas.Str.{IsUtf8-from_is_utf8, is_utf8-from_IsUtf8}
-use Rattle.bpf_text_lex.specs.declared.text_error.TextFault.TheVariants as text_faults
+use Rattle.bpf_verify_model.specs.{Accepted.{first_fault}, declared.rule.Rule.{Rule}}
+use Rattle.loop_core_model.specs.{Report.{Reported}, declared.{event.Event.{Event}, loop_test.Test.{Test}}}
+use Rattle.bpfspec_output.specs.{ReportText.{replay_text, report_text}, Streams.{ReadsToEnd}}
 use Rattle.bpfspec_output.specs.declared.refusal.Section.TheVariants as sections
 use Rattle.bpfspec_output.specs.declared.refusal.Refusal.TheVariants as refusals
-use Rattle.bpfspec_output.specs.Streams.{ReadsToEnd}
+use Rattle.spec_run_replay.specs.{declared.replaying.Replayed.{Replayed}, ProgramReplay.{LoopReplay}}
+use Rattle.bpf_text_lex.specs.declared.text_error.TextFault.TheVariants as text_faults
 use Rattle.bpfspec_serve.specs.HowServed.{AnswersReader, HowWritten, HowServed, Answered, Out_of_memory, Read_failed}
-use Rattle.bpfspec_serve.specs.declared.answer_error.AnswerError.{AnswerError}
-use Rattle.bpfspec_serve.specs.declared.answer_error.AnswerError.TheVariants as errors
-use Rattle.bpfspec_serve.specs.declared.serving.Served.{Served}
-use Rattle.bpfspec_serve.specs.declared.serving.Answer.{Answer as AnswerGiven}
-use Rattle.bpfspec_command_line.specs.declared.job.Ask.{Ask}
-use Rattle.bpfspec_command_line.specs.declared.job.Job.{Job}
-use Rattle.bpfspec_command_line.specs.declared.job.Job.TheVariants.{Facts, Run, Serve}
-use Rattle.bpfspec_records.specs.declared.records.Record.{Record}
-use Rattle.bpfspec_records.specs.declared.records.Record.TheVariants as records
-use Rattle.bpfspec_records.specs.Fields.{key, number, object, object_end, object_start}
-use Rattle.bpfspec_records.specs.Printed.{printed}
+use Rattle.bpfspec_serve.specs.declared.{answer_error.AnswerError.{AnswerError}, serving.Served.{Served}}
+use Rattle.bpfspec_serve.specs.{declared.serving.Answer.{Answer as AnswerGiven}, Facts.{AreFacts, verify_served}}
 use Rattle.bpfspec_serve.specs.Answering.{Answers, AreLines, Gives, IsText, answer_of}
-use Rattle.bpfspec_serve.specs.Facts.{AreFacts, verify_served}
-use Rattle.std.proofs.lemmas.List.{take_all, length-take}
 use Rattle.bpfspec_serve.specs.Output.{refused, readable, fitting, ByPlan, InMode, OfReadable, OfInput, Answer}
-use Rattle.bpfspec_serve.specs.Output.{IsReplayed, ReplaysTo, judged, loop_replay, unless_rule_broken}
-use Rattle.bpfspec_serve.specs.Output.{IsPrinted, SatisfiesUnlessMemory, AnswerTells, TextOutcome}
+use Rattle.bpfspec_serve.specs.Output.{IsReplayed, ReplaysTo, judged, loop_replay, unless_rule_broken, IsPrinted}
+use Rattle.bpfspec_serve.specs.Output.{SatisfiesUnlessMemory, AnswerGives, TextOutcome}
+use Rattle.bpfspec_serve.specs.declared.answer_error.AnswerError.TheVariants as errors
+use Rattle.bpfspec_command_line.specs.declared.job.{Ask.{Ask}, Job.{Job, TheVariants.{Facts, Run, Serve}}}
+use Rattle.bpfspec_records.specs.{declared.records.Record.{Record}, Printed.{printed}}
+use Rattle.bpfspec_records.specs.Fields.{key, number, object, object_end, object_start}
+use Rattle.bpfspec_records.specs.declared.records.Record.TheVariants as records
 
 -- an input that isn't too long
 short : (input : List ℕ) → length input ≤ 3145728 → readable input
@@ -94,12 +77,12 @@ pub replay_printed : (test : Test) (program : Program) (argument : ℕ) (words :
     (schedule : List ℕ × List Event) (replayed : Replayed) (text : List ℕ)
     → IsReplayed test program argument words schedule (Ok (loop_replay replayed))
     → replayed.maps.sizes ≡ program.sizes
-    → text ≡ replay_text replayed.maps.sizes replayed.number replayed.told replayed.maps.words
+    → text ≡ replay_text replayed.maps.sizes replayed.number replayed.report replayed.maps.words
     → ReplaysTo program argument test (Ok words) (Ok schedule) (Ok text)
 replay_printed test program argument words schedule replayed text is fits same = (
   Ok (loop_replay replayed),
   is,
-  ap Ok (same ∙ ap (λ (sizes : List ℕ). replay_text sizes replayed.number replayed.told replayed.maps.words) fits),
+  ap Ok (same ∙ ap (λ (sizes : List ℕ). replay_text sizes replayed.number replayed.report replayed.maps.words) fits),
 )
 
 pub replay_refused : {X Y : Type 0} (view : X → LoopReplay) (text : Y → List ℕ) (test : Test) (program : Program)
@@ -133,11 +116,11 @@ reads_enough : (n : ℕ) (input : List ℕ) → 3145728 < n → readable (take n
 reads_enough n input behind = enough n input behind (nat_le (length input) n) refl
 
 -- what is reported of a program, on maps of its sizes, is printed
-pub report_printed : (program : Program) (reported : BoundedResult Reported) (told : Reported) (sizes text : List ℕ)
-    → reported ≡ Ended told → sizes ≡ program.sizes
-    → text ≡ report_text sizes told → IsPrinted program reported (Ok text)
-report_printed program reported told sizes text same fits is =
-    (told, same, ap Ok (is ∙ ap (λ (s : List ℕ). report_text s told) fits))
+pub report_printed : (program : Program) (reported : BoundedResult Reported) (report : Reported) (sizes text : List ℕ)
+    → reported ≡ Ended report → sizes ≡ program.sizes
+    → text ≡ report_text sizes report → IsPrinted program reported (Ok text)
+report_printed program reported report sizes text same fits is =
+    (report, same, ap Ok (is ∙ ap (λ (s : List ℕ). report_text s report) fits))
 
 -- what comes of bytes comes of others that are read alike
 text_alike : (Comes : List ℕ → TextOutcome → Type 0) (read input : List ℕ) (answer : Answer)
@@ -145,7 +128,7 @@ text_alike : (Comes : List ℕ → TextOutcome → Type 0) (read input : List �
 text_alike Comes read input answer same text = record {
   outcome = text.outcome;
   comes = subst (λ (r : TextOutcome). OfReadable Comes r text.outcome) same text.comes;
-  told = text.told;
+  answer_is = text.answer_is;
 }
 
 lines_alike : (ask : Ask) (read input : List ℕ) (answer : Answer) → readable read ≡ readable input
@@ -153,7 +136,7 @@ lines_alike : (ask : Ask) (read input : List ℕ) (answer : Answer) → readable
 lines_alike ask read input answer same lines = record {
   facts = lines.facts;
   are = subst (λ (r : TextOutcome). AreFacts ask r lines.facts) same lines.are;
-  told = lines.told ∙ ap (λ (r : TextOutcome). record {
+  answer_is = lines.answer_is ∙ ap (λ (r : TextOutcome). record {
     served = verify_served ask.form r;
     text = flat_map printed lines.facts;
   }) same;
@@ -186,15 +169,15 @@ answers_reader job (Some bytes) new read answer same to_end answers = record {
 }
 
 -- an answer that says what comes of an input answers it
-pub told_answers : {X : Type 0} (view : X → List ℕ) (Comes : List ℕ → TextOutcome → Type 0) (input : List ℕ)
+pub text_answers : {X : Type 0} (view : X → List ℕ) (Comes : List ℕ → TextOutcome → Type 0) (input : List ℕ)
     (outcome : Result X AnswerError) (answer : Answer)
-    → SatisfiesUnlessMemory view (OfInput Comes input) outcome → AnswerTells view outcome answer
+    → SatisfiesUnlessMemory view (OfInput Comes input) outcome → AnswerGives view outcome answer
     → IsText Comes input answer
-told_answers view Comes input (Ok x) answer comes told =
-    record { outcome = Ok (view x); comes = comes; told = told }
-told_answers view Comes input (Err (errors.Refused refusal)) answer comes told =
-    record { outcome = refused refusal; comes = comes; told = told }
-told_answers view Comes input (Err errors.Memory) answer comes told = absurd told
+text_answers view Comes input (Ok x) answer comes given =
+    record { outcome = Ok (view x); comes = comes; answer_is = given }
+text_answers view Comes input (Err (errors.Refused refusal)) answer comes given =
+    record { outcome = refused refusal; comes = comes; answer_is = given }
+text_answers view Comes input (Err errors.Memory) answer comes given = absurd given
 
 -- the lines of facts answer the input whose facts they are
 pub lines_answer : (ask : Ask) (input : List ℕ) (facts : List Record) (served : Served) (text : List ℕ)
@@ -203,7 +186,7 @@ pub lines_answer : (ask : Ask) (input : List ℕ) (facts : List Record) (served 
 lines_answer ask input facts served text are as_verify lines = record {
   facts = facts;
   are = are;
-  told = ap₂ (λ (s : Served) (t : List ℕ). record { served = s; text = t }) as_verify lines;
+  answer_is = ap₂ (λ (s : Served) (t : List ℕ). record { served = s; text = t }) as_verify lines;
 }
 
 -- the record where memory ran out

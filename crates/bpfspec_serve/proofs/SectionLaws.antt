@@ -1,17 +1,11 @@
 -- What the first line of a text is.
-use Rattle.std.proofs.Common.{◌≡◌, ℕ, suc, ◌+◌, ◌-◌, ◌<◌, ◌≤◌, Bool, true, false, cond, if◌then◌else◌}
-use Rattle.std.proofs.Common.{not, ◌==◌, List, [], ◌∷◌, ◌++◌, length, take, drop, Some, None, refl, sym}
-use Rattle.std.proofs.Common.{ap, ◌∙◌, subst, append_assoc, append-nil, get_or, eqb-true, arith}
-use Rattle.std.specs.Str.{IsUtf8, IsCharBoundary}
-use Rattle.std.proofs.lemmas.List.{length-drop, drop-drop, get_or-drop}
-use Rattle.std.proofs.lemmas.List.Quantifiers.{position-Some}
-use Rattle.std.proofs.lemmas.Str.{IsCharBoundary-after_ascii}
-use Rattle.std.proofs.Math.ListN.{drop_of_length-le}
-use Rattle.std.proofs.Math.Seq.{take-add, take-length}
-use Rattle.std.specs.Prelude.{position}
-use Rattle.std.specs.List.{concat, position_or_len}
-use Rattle.bpf_text_lex.specs.Lines.{with_front}
-use Rattle.bpf_text_lex.proofs.LineLaws.{position_found, position_missing}
+use Rattle.std.proofs.Common.{◌≡◌, ℕ, suc, ◌+◌, ◌-◌, ◌<◌, ◌≤◌, Bool, true, false, cond, if◌then◌else◌, not, ◌==◌, List}
+use Rattle.std.proofs.Common.{[], ◌∷◌, ◌++◌, length, take, drop, Some, None, refl, sym, ap, ◌∙◌, subst, append_assoc}
+use Rattle.std.{proofs.Common.{append-nil, get_or, eqb-true, arith}, specs.Str.{IsUtf8, IsCharBoundary}}
+use Rattle.std.proofs.lemmas.List.{length-drop, drop-drop, get_or-drop, Quantifiers.{position-Some}}
+use Rattle.std.proofs.{lemmas.Str.{IsCharBoundary-after_ascii}, Math.ListN.{drop_of_length-le}}
+use Rattle.std.{proofs.Math.Seq.{take-add, take-length}, specs.{Prelude.{position}, List.{concat, position_or_len}}}
+use Rattle.bpf_text_lex.{specs.Lines.{with_front}, proofs.LineLaws.{position_found, position_missing}}
 use Rattle.bpfspec_serve.specs.Sections.{whole_lines, is_mark, before_mark, behind_mark}
 
 next_of : (k : ℕ) → 1 + k ≡ suc k

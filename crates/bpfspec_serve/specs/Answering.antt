@@ -1,30 +1,24 @@
 -- The answer to an input.
-use Rattle.std.specs.Prelude.{◌≡◌, ℕ, List, Result, Ok, Err}
-use Rattle.std.specs.List.{flat_map}
-use Rattle.std.specs.String.{string_bytes}
+use Rattle.std.specs.{Prelude.{◌≡◌, ℕ, List, Result, Ok, Err}, List.{flat_map}, String.{string_bytes}}
 use Rattle.std.specs.declared.alloc.AllocError.{AllocError}
-use Rattle.bpfspec_command_line.specs.declared.job.Ask.{Ask}
-use Rattle.bpfspec_command_line.specs.declared.job.Job.{Job}
-use Rattle.bpfspec_command_line.specs.declared.job.Job.TheVariants.{Serve, Run, Facts}
+use Rattle.bpfspec_command_line.specs.declared.job.{Ask.{Ask}, Job.{Job, TheVariants.{Serve, Run, Facts}}}
 use Rattle.bpfspec_output.specs.Refusals.{memory_line}
-use Rattle.bpfspec_records.specs.declared.records.Record.{Record}
+use Rattle.bpfspec_records.specs.{declared.records.Record.{Record}, Printed.{printed}}
 use Rattle.bpfspec_records.specs.declared.records.Record.TheVariants as records
-use Rattle.bpfspec_records.specs.Printed.{printed}
-use Rattle.bpfspec_serve.specs.declared.serving.Answer.{Answer as AnswerGiven}
+use Rattle.bpfspec_serve.specs.{declared.serving.Answer.{Answer as AnswerGiven}, Facts.{AreFacts, verify_served}}
 use Rattle.bpfspec_serve.specs.Output.{Answer, InMode, ByPlan, OfInput, TextOutcome, readable, text_answer}
-use Rattle.bpfspec_serve.specs.Facts.{AreFacts, verify_served}
 
 -- the text of what comes of an input
 pub record IsText (Comes : List ℕ → TextOutcome → Type 0) (input : List ℕ) (answer : Answer) : Type 0 where
   pub outcome : TextOutcome
   pub comes : OfInput Comes input outcome
-  pub told : answer ≡ text_answer outcome
+  pub answer_is : answer ≡ text_answer outcome
 
 -- the lines of an input's facts, served as `verify` serves the input
 pub record AreLines (ask : Ask) (input : List ℕ) (answer : Answer) : Type 0 where
   pub facts : List Record
   pub are : AreFacts ask (readable input) facts
-  pub told : answer ≡ record { served = verify_served ask.form (readable input); text = flat_map printed facts }
+  pub answer_is : answer ≡ record { served = verify_served ask.form (readable input); text = flat_map printed facts }
 
 -- the answer to an input, as a job asks
 abbrev pub Answers : Job → (input : List ℕ) → Answer → Type 0

@@ -1,7 +1,6 @@
 -- The program's exit status.
 use Rattle.std.specs.Prelude.{ℕ}
-use Rattle.bpfspec_serve.specs.declared.program_end.ProgramEnd.{ProgramEnd}
-use Rattle.bpfspec_serve.specs.declared.program_end.ProgramEnd.TheVariants.{Served, Usage}
+use Rattle.bpfspec_serve.specs.declared.program_end.ProgramEnd.{ProgramEnd, TheVariants.{Served, Usage}}
 use Rattle.bpfspec_serve.specs.declared.serving.Served.TheVariants.{Done, Refused, Text, Memory, Device}
 
 -- 0 where it is done, and for help and the version; 1 for a refusal, 2 for one of a text; 3 where the command line asks

@@ -1,32 +1,24 @@
 -- The facts of an input: the list of records that `facts` prints of it.
-use Rattle.std.specs.Prelude.{◌≡◌, ℕ, ◌+◌, Bool, true, false, if◌then◌else◌, List, [], ◌∷◌, ◌++◌, length, map}
-use Rattle.std.specs.Prelude.{Result, Ok, Err}
-use Rattle.std.specs.List.{range_with_len}
+use Rattle.std.specs.Prelude.{◌≡◌, ℕ, ◌+◌, Bool, true, false, if◌then◌else◌, List, [], ◌∷◌, ◌++◌, length, map, Result}
+use Rattle.std.specs.{Prelude.{Ok, Err}, List.{range_with_len}}
 use Rattle.array_maps.specs.MapList.{MapList}
-use Rattle.bpf_insn_types.specs.declared.insn.Insn.{Insn}
-use Rattle.bpf_insn_types.specs.Program.{Program, callback_starts}
+use Rattle.bpf_insn_types.specs.{declared.insn.Insn.{Insn}, Program.{Program, callback_starts}}
 use Rattle.bpf_text.specs.EventsText.{events_text}
 use Rattle.loop_core_model.specs.declared.event.Event.{Event}
 use Rattle.spec_run_replay.specs.ProgramReplay.{LoopReplay}
-use Rattle.spec_run_explain.specs.declared.explained.Explained.{Explained}
+use Rattle.loop_core_witness.specs.declared.explained.Explained.{Explained}
 use Rattle.spec_run_explain.specs.Programs.{IsProgramExplained}
-use Rattle.bpfspec_command_line.specs.declared.job.Ask.{Ask}
-use Rattle.bpfspec_command_line.specs.declared.job.UnitForm.{UnitForm}
-use Rattle.bpfspec_command_line.specs.declared.job.UnitForm.TheVariants.{Assembler, Hex}
+use Rattle.bpfspec_command_line.specs.declared.job.{Ask.{Ask}, UnitForm.{UnitForm, TheVariants.{Assembler, Hex}}}
 use Rattle.bpfspec_output.specs.declared.refusal.Refusal.{Refusal}
 use Rattle.bpfspec_output.specs.declared.refusal.Section.TheVariants as sections
-use Rattle.bpfspec_records.specs.declared.records.Record.{Record}
+use Rattle.bpfspec_records.specs.{declared.records.Record.{Record}, Units.{unit_records}, Loops.{loop_records}}
 use Rattle.bpfspec_records.specs.declared.records.Record.TheVariants as records
-use Rattle.bpfspec_records.specs.Units.{unit_records}
-use Rattle.bpfspec_records.specs.Loops.{loop_records}
-use Rattle.bpfspec_serve.specs.declared.answer_error.AnswerError.{AnswerError}
+use Rattle.bpfspec_serve.specs.declared.{answer_error.AnswerError.{AnswerError}, serving.Served.{Served}}
+use Rattle.bpfspec_serve.specs.{ExitStatus.{exit_status}, Sections.{unit_section, maps_section, events_section}}
+use Rattle.bpfspec_serve.specs.Output.{IsReplayed, TextOutcome, accepted, function_numbered, in_section, judged}
+use Rattle.bpfspec_serve.specs.Output.{maps_start_words, refused_as, text_answer, unit_program, verified}
 use Rattle.bpfspec_serve.specs.declared.answer_error.AnswerError.TheVariants as errors
 use Rattle.bpfspec_serve.specs.declared.program_end.ProgramEnd.TheVariants as ends
-use Rattle.bpfspec_serve.specs.declared.serving.Served.{Served}
-use Rattle.bpfspec_serve.specs.ExitStatus.{exit_status}
-use Rattle.bpfspec_serve.specs.Output.{IsReplayed, TextOutcome, accepted, function_numbered, in_section}
-use Rattle.bpfspec_serve.specs.Output.{judged, maps_start_words, refused_as, text_answer, unit_program, verified}
-use Rattle.bpfspec_serve.specs.Sections.{unit_section, maps_section, events_section}
 
 -- whether a unit is in hex form
 abbrev pub is_hex : UnitForm → Bool

@@ -1,16 +1,11 @@
 -- How the program came out.
 use Rattle.std.specs.Prelude.{◌≡◌, ℕ, List, Option}
-use Rattle.bpfspec_command_line.specs.CommandLine.{WordsAskFor, bpfspec_app}
-use Rattle.bpfspec_command_line.specs.Faults.{AsksForHelp}
-use Rattle.bpfspec_command_line.specs.declared.job.Job.{Job}
-use Rattle.bpfspec_command_line.specs.declared.job.Request.{Request}
-use Rattle.bpfspec_serve.specs.declared.program_end.ProgramEnd.{ProgramEnd}
+use Rattle.bpfspec_command_line.specs.{CommandLine.{WordsAskFor, bpfspec_app}, Faults.{AsksForHelp}}
+use Rattle.bpfspec_command_line.specs.declared.job.{Job.{Job}, Request.{Request}}
+use Rattle.bpfspec_serve.specs.declared.{program_end.ProgramEnd.{ProgramEnd}, serving.Served.{Served}}
+use Rattle.bpfspec_serve.specs.{Answering.{memory_text}, HowServed.{HowServed, HowWritten}, Output.{Answer}}
 use Rattle.bpfspec_serve.specs.declared.program_end.ProgramEnd.TheVariants as ends
-use Rattle.bpfspec_serve.specs.declared.serving.Served.{Served}
 use Rattle.bpfspec_serve.specs.declared.serving.Served.TheVariants as served
-use Rattle.bpfspec_serve.specs.Answering.{memory_text}
-use Rattle.bpfspec_serve.specs.HowServed.{HowServed, HowWritten}
-use Rattle.bpfspec_serve.specs.Output.{Answer}
 use Rattle.bpfspec_output.specs.Refusals.{memory_line}
 
 -- the words of a command line ask for a job, by which an input is served; or for help or the version, whose text is

@@ -1,11 +1,8 @@
 -- How a call that serves an input came out.
-use Rattle.std.specs.Prelude.{◌≡◌, ℕ, List, [], Option, IfSome}
-use Rattle.std.specs.Io.KnownBytes.{Appends}
+use Rattle.std.specs.{Prelude.{◌≡◌, ℕ, List, [], Option, IfSome}, Io.KnownBytes.{Appends}}
 use Rattle.bpfspec_command_line.specs.declared.job.Job.{Job}
-use Rattle.bpfspec_serve.specs.declared.serving.Served.{Served}
+use Rattle.bpfspec_serve.specs.{declared.serving.Served.{Served}, Answering.{Answers}, Output.{Answer}}
 use Rattle.bpfspec_serve.specs.declared.serving.Served.TheVariants as served
-use Rattle.bpfspec_serve.specs.Answering.{Answers}
-use Rattle.bpfspec_serve.specs.Output.{Answer}
 use Rattle.bpfspec_output.specs.Streams.{AppendsBeginning, ReadsToEnd}
 
 -- the answer to what a reader had left, where that is known, and else to some input; of which no more than one byte

@@ -1,52 +1,35 @@
 -- What is answered to an input.
-use Rattle.std.specs.Prelude.{◌≡◌, ℕ, ◌+◌, nat_lt, nat_eq, if◌then◌else◌, List, [], ◌∷◌, length}
-use Rattle.std.specs.Prelude.{map, replicate, Option, Some, None, Result, Ok, Err}
-use Rattle.std.specs.Cmp.Lexicographic.{pointwise}
+use Rattle.std.specs.Prelude.{◌≡◌, ℕ, ◌+◌, nat_lt, nat_eq, if◌then◌else◌, List, [], ◌∷◌, length, map, replicate, Option}
+use Rattle.std.specs.{Prelude.{Some, None, Result, Ok, Err}, Cmp.Lexicographic.{pointwise}, Str.{is_utf8}}
 use Rattle.std.specs.List.{concat, range_with_len, sum}
-use Rattle.std.specs.Str.{is_utf8}
-use Rattle.bpf_insn_types.specs.declared.insn.Insn.{Insn}
-use Rattle.bpf_insn.specs.declared.codec_error.CodecError.{CodecError}
+use Rattle.bpf_insn_types.specs.{declared.insn.Insn.{Insn}, Program.{Program, callback_starts}}
+use Rattle.bpf_insn.specs.{declared.codec_error.CodecError.{CodecError}, Reading.{reading}}
 use Rattle.bpf_insn.specs.declared.codec_error.CodecError.TheVariants as codec
-use Rattle.bpf_insn.specs.Reading.{reading}
-use Rattle.bpf_text_lex.specs.declared.text_error.TextFault.TheVariants as text_faults
 use Rattle.bpf_text_lex.specs.declared.text_error.TextError.{TextError}
+use Rattle.bpf_text_lex.specs.declared.text_error.TextFault.TheVariants as text_faults
 use Rattle.bpf_text_lex.specs.declared.text_error.TextError.TheVariants as text
-use Rattle.bpf_text.specs.HexText.{SizesAndBytes, hex_text}
-use Rattle.bpf_text.specs.PrintedUnits.{hex_form, assembler_form}
-use Rattle.bpf_text.specs.AssemblerText.{assembler_text}
-use Rattle.bpf_text.specs.MapsText.{maps_text}
-use Rattle.bpf_text.specs.EventsText.{events_text}
-use Rattle.bpf_insn_types.specs.Program.{Program, callback_starts}
+use Rattle.bpf_text.specs.{HexText.{SizesAndBytes, hex_text}, PrintedUnits.{hex_form, assembler_form}}
+use Rattle.bpf_text.specs.{AssemblerText.{assembler_text}, MapsText.{maps_text}, EventsText.{events_text}}
 use Rattle.array_maps.specs.MapList.{lengths}
 use Rattle.bpf_step_model.specs.Run.{BoundedResult, Ended}
-use Rattle.loop_core_model.specs.declared.loop_test.Test.{Test}
-use Rattle.loop_core_model.specs.Report.{Reported, report, report_in_order}
+use Rattle.loop_core_model.specs.{declared.loop_test.Test.{Test}, Report.{Reported, report, report_in_order}}
 use Rattle.loop_core_model.specs.declared.event.Event.{Event}
-use Rattle.spec_run_replay.specs.declared.replaying.Replayed.{Replayed}
-use Rattle.spec_run_replay.specs.declared.replaying.ReplayRefusal.{ReplayRefusal}
-use Rattle.spec_run_replay.specs.declared.replaying.ReplayRefusal.TheVariants as replays
+use Rattle.spec_run_replay.specs.declared.replaying.{Replayed.{Replayed}, ReplayRefusal.{ReplayRefusal}}
 use Rattle.spec_run_replay.specs.ProgramReplay.{LoopReplay, ReplaysFrom}
-use Rattle.loop_core_split.specs.declared.plan.Plan.{Plan}
-use Rattle.loop_core_split.specs.Plans.{IsPlan}
-use Rattle.bpfspec_command_line.specs.declared.job.Mode.{Mode}
-use Rattle.bpfspec_command_line.specs.declared.job.Mode.TheVariants.{Verify, Order, Replay, Asm, Disasm}
-use Rattle.bpfspec_command_line.specs.declared.job.UnitForm.{UnitForm}
-use Rattle.bpfspec_command_line.specs.declared.job.UnitForm.TheVariants.{Assembler, Hex}
-use Rattle.bpfspec_output.specs.declared.accepted.Function.{Function}
-use Rattle.bpfspec_output.specs.declared.refusal.Section.{Section}
-use Rattle.bpfspec_output.specs.declared.refusal.Section.TheVariants as sections
-use Rattle.bpfspec_output.specs.declared.refusal.Refusal.{Refusal}
-use Rattle.bpfspec_output.specs.declared.refusal.Refusal.TheVariants as refusals
-use Rattle.bpfspec_output.specs.ReportText.{accepted_text}
+use Rattle.spec_run_replay.specs.declared.replaying.ReplayRefusal.TheVariants as replays
+use Rattle.loop_core_split.specs.{declared.plan.Plan.{Plan}, Plans.{IsPlan}}
+use Rattle.bpfspec_command_line.specs.declared.job.Mode.{Mode, TheVariants.{Verify, Order, Replay, Asm, Disasm}}
+use Rattle.bpfspec_command_line.specs.declared.job.UnitForm.{UnitForm, TheVariants.{Assembler, Hex}}
+use Rattle.bpfspec_output.specs.declared.{accepted.Function.{Function}, refusal.{Section.{Section}, Refusal.{Refusal}}}
+use Rattle.bpfspec_output.specs.ReportText.{accepted_text, report_text, replay_text}
 use Rattle.bpfspec_output.specs.Refusals.{refusal_line, memory_line}
-use Rattle.bpfspec_output.specs.ReportText.{report_text, replay_text}
-use Rattle.bpfspec_serve.specs.declared.answer_error.AnswerError.{AnswerError}
-use Rattle.bpfspec_serve.specs.declared.answer_error.AnswerError.TheVariants as errors
-use Rattle.bpfspec_serve.specs.declared.serving.Served.{Served}
-use Rattle.bpfspec_serve.specs.declared.serving.Served.TheVariants as served
-use Rattle.bpf_verify_model.specs.Accepted.{BrokenRule, first_fault}
-use Rattle.bpf_verify_model.specs.Count.{function_start, count_of}
+use Rattle.bpfspec_output.specs.declared.refusal.Section.TheVariants as sections
+use Rattle.bpfspec_output.specs.declared.refusal.Refusal.TheVariants as refusals
+use Rattle.bpfspec_serve.specs.declared.{answer_error.AnswerError.{AnswerError}, serving.Served.{Served}}
 use Rattle.bpfspec_serve.specs.Sections.{unit_section, maps_section, events_section}
+use Rattle.bpfspec_serve.specs.declared.answer_error.AnswerError.TheVariants as errors
+use Rattle.bpfspec_serve.specs.declared.serving.Served.TheVariants as served
+use Rattle.bpf_verify_model.specs.{Accepted.{BrokenRule, first_fault}, Count.{function_start, count_of}}
 
 -- what comes of an input: a text, or an error
 abbrev pub TextOutcome : Type 0
@@ -137,8 +120,8 @@ maps_start_words sizes (b ∷ bs) = fitting sizes (in_section sections.Maps (map
 
 -- what is reported of a program is printed
 abbrev pub IsPrinted : Program → BoundedResult Reported → TextOutcome → Type 0
-IsPrinted program reported outcome = (told : Reported) × (reported ≡ Ended told)
-    × (outcome ≡ Ok (report_text program.sizes told))
+IsPrinted program reported outcome = (report : Reported) × (reported ≡ Ended report)
+    × (outcome ≡ Ok (report_text program.sizes report))
 
 -- a program runs in order from its start words, at most 4,096 instructions up to each turn of main and in each
 -- iteration
@@ -180,7 +163,7 @@ or_refusal (Err refusal) = refused (replay_refusal refusal)
 
 -- a loop that was replayed, as what comes of it
 abbrev pub loop_replay : Replayed → LoopReplay
-loop_replay r = record { number = r.number; told = r.told; words = r.maps.words }
+loop_replay r = record { number = r.number; report = r.report; words = r.maps.words }
 
 -- a program runs in order from its start words up to its first valid loop call, which is replayed with bounds and
 -- events
@@ -192,7 +175,7 @@ IsReplayed test program argument words schedule replayed =
 
 -- the line of the loop that was replayed and the maps of these sizes after it, or the replay's refusal
 abbrev pub replay_outcome : List ℕ → Result LoopReplay AnswerError → TextOutcome
-replay_outcome sizes (Ok loop) = Ok (replay_text sizes loop.number loop.told loop.words)
+replay_outcome sizes (Ok loop) = Ok (replay_text sizes loop.number loop.report loop.words)
 replay_outcome sizes (Err error) = Err error
 
 -- what comes of that is printed
@@ -265,8 +248,8 @@ SatisfiesUnlessMemory view wanted (Ok x) = wanted (Ok (view x))
 SatisfiesUnlessMemory view wanted (Err (errors.Refused refusal)) = wanted (refused refusal)
 SatisfiesUnlessMemory view wanted (Err errors.Memory) = Unit {0}
 
--- an answer that says what a function returned, seen by view; none says that memory ran out
-abbrev pub AnswerTells : {X : Type 0} → (X → List ℕ) → Result X AnswerError → Answer → Type 0
-AnswerTells view (Ok x) answer = answer ≡ text_answer (Ok (view x))
-AnswerTells view (Err (errors.Refused refusal)) answer = answer ≡ text_answer (refused refusal)
-AnswerTells view (Err errors.Memory) answer = ⊥
+-- an answer gives what a function returned, seen by view; there is none if memory ran out
+abbrev pub AnswerGives : {X : Type 0} → (X → List ℕ) → Result X AnswerError → Answer → Type 0
+AnswerGives view (Ok x) answer = answer ≡ text_answer (Ok (view x))
+AnswerGives view (Err (errors.Refused refusal)) answer = answer ≡ text_answer (refused refusal)
+AnswerGives view (Err errors.Memory) answer = ⊥

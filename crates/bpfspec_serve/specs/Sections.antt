@@ -1,6 +1,5 @@
 -- The sections of an input: lines that are exactly `%%` part them. A text is its bytes: 10 is a newline.
-use Rattle.std.specs.Prelude.{ℕ, ◌==◌, ◌||◌, Bool, if◌then◌else◌, List, [], ◌∷◌, ◌++◌, codes}
-use Rattle.std.specs.List.{concat}
+use Rattle.std.specs.{Prelude.{ℕ, ◌==◌, ◌||◌, Bool, if◌then◌else◌, List, [], ◌∷◌, ◌++◌, codes}, List.{concat}}
 use Rattle.std.specs.Str.{bytes_eq}
 use Rattle.bpf_text_lex.specs.Lines.{with_front}
 

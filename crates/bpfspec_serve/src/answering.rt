@@ -1,14 +1,12 @@
 //! What comes of an input.
 
-ghost use Rattle.std.specs.Prelude.{◌≡◌, ◌<◌, ◌≤◌, IfOk, Ok, length};
+ghost use Rattle.std.specs.{Prelude.{◌≡◌, ◌<◌, ◌≤◌, IfOk, Ok, length}, String.{string_bytes}};
 ghost use Rattle.bpf_insn_types.specs.Program.{callback_starts};
-ghost use Rattle.std.specs.String.{string_bytes};
 ghost use Rattle.bpfspec_command_line.specs.declared.job.Mode.TheVariants.{Order, Replay};
-ghost use Rattle.bpfspec_serve.specs.Output.{unit_program, function_numbered, functions_of, loop_replay};
-ghost use Rattle.bpfspec_serve.specs.Output.{IsReplayed, replay_refusal};
-ghost use Rattle.bpfspec_serve.specs.Output.{PrintsReportInOrder, PrintsReportByPlan, ReplaysTo, InMode, ByPlan};
-ghost use Rattle.bpfspec_serve.specs.Output.{OfInput, SatisfiesUnlessMemory, written, accepted, verified};
-ghost use Rattle.bpfspec_serve.specs.Sections.{unit_section};
+ghost use Rattle.bpfspec_serve.specs.Output.{unit_program, function_numbered, functions_of, loop_replay, IsReplayed};
+ghost use Rattle.bpfspec_serve.specs.Output.{replay_refusal, PrintsReportInOrder, PrintsReportByPlan, ReplaysTo};
+ghost use Rattle.bpfspec_serve.specs.Output.{InMode, ByPlan, OfInput, SatisfiesUnlessMemory, written, accepted};
+ghost use Rattle.bpfspec_serve.specs.{Output.{verified}, Sections.{unit_section}};
 
 use crate::answer_error::AnswerError;
 use crate::reading::{accept, codec_error, read_events, read_unit, readable, start_maps};
@@ -149,7 +147,7 @@ fn replay_on(
         (Ok (schedule.0.items, schedule.1.items))) result }
 {
     match replay_with(alloc, program, maps, argument, schedule, test) {
-        Ok(replayed) => Ok(print_replay(alloc, replayed.number, &replayed.told, &replayed.maps)?),
+        Ok(replayed) => Ok(print_replay(alloc, replayed.number, &replayed.report, &replayed.maps)?),
         Err(error) => Err(error),
     }
 }

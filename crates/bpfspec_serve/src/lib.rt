@@ -18,6 +18,7 @@ mod reading;
 mod sections;
 mod serving;
 mod stats_text;
+mod way_text;
 
 pub use bpfspec_command_line::{
     Ask, Job, LineFault, Mode, Plan, Request, Test, UnitForm, read_command_line, read_words,

@@ -1,9 +1,7 @@
 //! The program, from the words of its command line to its exit status.
 
 ghost use Rattle.std.specs.Prelude.{◌≡◌, ◌+◌, ◌-◌, ◌^◌, ◌<◌};
-ghost use Rattle.bpfspec_serve.specs.Answering.{memory_text};
-ghost use Rattle.bpfspec_serve.specs.ExitStatus.{exit_status};
-ghost use Rattle.bpfspec_serve.specs.HowRan.{HowRan};
+ghost use Rattle.bpfspec_serve.specs.{Answering.{memory_text}, ExitStatus.{exit_status}, HowRan.{HowRan}};
 ghost use Rattle.bpfspec_serve.specs.HowServed.{AnswersReader, HowServed};
 
 use crate::program_end::{ProgramEnd, exit_status};
@@ -19,7 +17,7 @@ use std::thread::Threads;
 use std::time::Clock;
 
 /// Writes to `messages` how the loops of a run went. Where there is no memory for it, nothing is written.
-fn tell_stats<C: Clock, M: Sink>(alloc: Global, stats: &Stats<'_, C>, messages: &mut M)
+fn report_stats<C: Clock, M: Sink>(alloc: Global, stats: &Stats<'_, C>, messages: &mut M)
     requires { M.failed messages.old < 2 ^ 64 - 1 }
 {
     if let Ok(text) = print_stats(alloc, stats) {
@@ -38,7 +36,7 @@ fn serve_request<R: AllocGlobal + Threads + Sync + Clock, S: Source, W: Sink, M:
 ) -> Served
     requires reads { S.failed input.old < 2 ^ 64 - 1 }
     requires writes { W.failed output.old < 2 ^ 64 - 1 }
-    requires tells { M.failed messages.old < 2 ^ 64 - 1 }
+    requires reports { M.failed messages.old < 2 ^ 64 - 1 }
     ensures { HowServed (AnswersReader request.now.job (S.left input.old) (S.left input.new))
         (memory_text request.now.job) result
         (λ n. S.failed input.new ≡ S.failed input.old + n) (λ n. W.failed output.new ≡ W.failed output.old + n)
@@ -59,7 +57,7 @@ fn serve_request<R: AllocGlobal + Threads + Sync + Clock, S: Source, W: Sink, M:
     let mut stats = Stats::new(alloc, rt);
     let served = serve(rt, alloc, &request.job, &NoGate, &mut stats, input, output);
     if served == Served::Done {
-        tell_stats(alloc, &stats, messages);
+        report_stats(alloc, &stats, messages);
     }
     served
 }
@@ -74,7 +72,7 @@ fn carry_out<R: Env + AllocGlobal + Threads + Sync + Clock, S: Source, W: Sink, 
 ) -> ProgramEnd
     requires reads { S.failed input.old < 2 ^ 64 - 1 }
     requires writes { W.failed output.old < 2 ^ 64 - 1 }
-    requires tells { M.failed messages.old < 2 ^ 64 - 1 }
+    requires reports { M.failed messages.old < 2 ^ 64 - 1 }
     ensures { HowRan (λ job. AnswersReader job (S.left input.old) (S.left input.new)) result
         (λ n. S.failed input.new ≡ S.failed input.old + n) (λ n. W.failed output.new ≡ W.failed output.old + n)
         (W.taken output.old) (W.taken output.new) }
@@ -104,7 +102,7 @@ pub fn run<R: Env + AllocGlobal + Threads + Sync + Clock, S: Source, W: Sink, M:
 ) -> u8
     requires reads { S.failed input.old < 2 ^ 64 - 1 }
     requires writes { W.failed output.old < 2 ^ 64 - 1 }
-    requires tells { M.failed messages.old < 2 ^ 64 - 1 }
+    requires reports { M.failed messages.old < 2 ^ 64 - 1 }
     ensures { (end : ProgramEnd) × (result ≡ exit_status end)
         × HowRan (λ job. AnswersReader job (S.left input.old) (S.left input.new)) end
         (λ n. S.failed input.new ≡ S.failed input.old + n) (λ n. W.failed output.new ≡ W.failed output.old + n)

@@ -1,7 +1,6 @@
 //! The sections of an input.
 
-ghost use Rattle.std.specs.Prelude.{◌≡◌, ◌+◌, ◌-◌, ◌<◌, ◌≤◌, length, slice_index, take, drop, ◌∷◌};
-ghost use Rattle.std.specs.List.{concat};
+ghost use Rattle.std.specs.{Prelude.{◌≡◌, ◌+◌, ◌-◌, ◌<◌, ◌≤◌, length, slice_index, take, drop, ◌∷◌}, List.{concat}};
 ghost use Rattle.std.specs.Str.{IsCharBoundary};
 ghost use Rattle.bpfspec_serve.specs.Sections.{whole_lines, is_mark, before_mark, behind_mark};
 

@@ -1,11 +1,10 @@
 //! Serving: an input is read whole, answered, and the answer is written.
 
-ghost use Rattle.std.specs.Prelude.{◌≡◌, ◌+◌, ◌-◌, ◌^◌, ◌<◌, IfOk};
-ghost use Rattle.std.specs.String.{string_bytes};
+ghost use Rattle.std.specs.{Prelude.{◌≡◌, ◌+◌, ◌-◌, ◌^◌, ◌<◌, IfOk}, String.{string_bytes}};
 ghost use Rattle.bpfspec_command_line.specs.declared.job.Job.TheVariants.{Serve, Facts as AsksForFacts};
 ghost use Rattle.bpfspec_serve.specs.Answering.{Answers, answer_of, memory_text, Gives};
 ghost use Rattle.bpfspec_serve.specs.HowServed.{AnswersReader, HowWritten, HowServed};
-ghost use Rattle.bpfspec_serve.specs.Output.{refused_as, AnswerTells};
+ghost use Rattle.bpfspec_serve.specs.Output.{refused_as, AnswerGives};
 ghost use Rattle.bpfspec_output.specs.Streams.{ConsumesAtMost};
 
 use crate::answer_error::AnswerError;
@@ -58,7 +57,7 @@ pub(crate) fn refused_as(refusal: Refusal) -> Served
 
 /// The answer that says what came of an input.
 fn answer_to(alloc: Global, outcome: Result<String, AnswerError>) -> Result<Answer, AllocError>
-    ensures { IfOk result (λ answer. AnswerTells string_bytes outcome (answer_of answer)) }
+    ensures { IfOk result (λ answer. AnswerGives string_bytes outcome (answer_of answer)) }
 {
     match outcome {
         Ok(text) => Ok(Answer {

@@ -1,6 +1,6 @@
 //! What is printed of a run besides its answer: the strategy and time of each loop, and the time of the program.
 
-use bpfspec_ways::{reason_of, write_count, write_way};
+use crate::way_text::{reason_of, write_count, write_way};
 use spec_run::{LoopStats, Stats};
 use std::alloc::{AllocError, Global};
 use std::time::{Clock, Duration};
@@ -16,23 +16,23 @@ fn print_time(out: &mut String, time: Option<Duration>) -> Result<(), AllocError
 }
 
 /// Adds how many iterations a loop was called for, and before that how many there were if one broke it.
-fn print_iterations(out: &mut String, told: &LoopStats) -> Result<(), AllocError> {
-    if told.answer < told.called_for {
-        write!(out, "{} of ", told.answer)?;
+fn print_iterations(out: &mut String, call: &LoopStats) -> Result<(), AllocError> {
+    if call.answer < call.called_for {
+        write!(out, "{} of ", call.answer)?;
     }
-    write_count(out, told.called_for as usize, "iteration")
+    write_count(out, call.called_for as usize, "iteration")
 }
 
 /// Adds the line of a loop.
-fn print_loop(out: &mut String, told: &LoopStats) -> Result<(), AllocError> {
-    write!(out, "loop {} at {}: ", told.number, told.slot)?;
-    print_iterations(out, told)?;
+fn print_loop(out: &mut String, call: &LoopStats) -> Result<(), AllocError> {
+    write!(out, "loop {} at {}: ", call.number, call.slot)?;
+    print_iterations(out, call)?;
     out.push_str(", ")?;
-    write_way(out, told.course, told.verdict)?;
-    out.push_str(if told.has_list { ", list, " } else { ", " })?;
-    print_time(out, told.time)?;
+    write_way(out, call.strategy, call.verdict)?;
+    out.push_str(if call.has_list { ", list, " } else { ", " })?;
+    print_time(out, call.time)?;
     out.push_str(": ")?;
-    out.push_str(reason_of(told.course))?;
+    out.push_str(reason_of(call.strategy))?;
     out.push_str("\n")
 }
 
@@ -42,8 +42,8 @@ pub(crate) fn print_stats<C: Clock>(
     stats: &Stats<'_, C>,
 ) -> Result<String, AllocError> {
     let mut out = String::new(alloc);
-    for told in stats.loops() {
-        print_loop(&mut out, told)?;
+    for call in stats.loops() {
+        print_loop(&mut out, call)?;
     }
     out.push_str("program: ")?;
     write_count(&mut out, stats.loops().len(), "loop")?;

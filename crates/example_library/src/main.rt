@@ -81,10 +81,10 @@ fn main(rt: HostRuntime) -> io::Result<()> {
         Err(failure) => println!(rt; "{failure}"),
         Ok(ran) => {
             println!(rt; "returned {}", ran.report.ret)?;
-            for told in ran.report.loops.iter() {
+            for line in ran.report.loops.iter() {
                 println!(rt;
                     "loop at {} answered {}: {:?}",
-                    told.slot, told.answer, told.verdict
+                    line.slot, line.answer, line.verdict
                 )?;
             }
             print!(rt; "{}", ran.maps)

@@ -1,17 +1,11 @@
 -- Bits of words.
-use Rattle.std.proofs.Common.{◌≡◌, ℕ, ◌+◌, ◌-◌, ◌*◌, ◌%◌, ◌^◌, ◌<◌, ◌≤◌, Bool, true, false, cond, ltb, List}
-use Rattle.std.proofs.Common.{map, length, get_or, refl, sym, ◌∙◌, ap, subst, w32, ⊎_elim, arith}
-use Rattle.std.specs.Prelude.{◌==◌}
-use Rattle.std.specs.Int.{bit_at}
-use Rattle.std.specs.Int.RustNames.{bit_or}
-use Rattle.std.specs.Simd.Lanes.{zip2, top, mask_l}
-use Rattle.std.proofs.lemmas.Bool.{cases_lt}
-use Rattle.std.proofs.Math.Pow.{pow_mono}
-use Rattle.std.proofs.lemmas.Nat.{or_shifted, or_comm, or_lt, shl_below, shl_whole}
+use Rattle.std.proofs.Common.{◌≡◌, ℕ, ◌+◌, ◌-◌, ◌*◌, ◌%◌, ◌^◌, ◌<◌, ◌≤◌, Bool, true, false, cond, ltb, List, map}
+use Rattle.std.{proofs.Common.{length, get_or, refl, sym, ◌∙◌, ap, subst, w32, ⊎_elim, arith}, specs.Prelude.{◌==◌}}
+use Rattle.std.{specs.{Int.{bit_at, RustNames.{bit_or}}, Simd.Lanes.{zip2, top, mask_l}}, proofs.lemmas.Bool.{cases_lt}}
+use Rattle.std.proofs.{Math.Pow.{pow_mono}, lemmas.Nat.{or_shifted, or_comm, or_lt, shl_below, shl_whole}}
 use Rattle.std.proofs.lemmas.Nat.Bits.{bit_at_cat_low, bit_at_cat_high}
 use Rattle.std.proofs.lemmas.Simd.{length-zip2, get_or-zip2, tops_compared, mask_l-lt, mask_l-mod, bit_mask_l}
-use Rattle.lane_planes.specs.Words.{HasBits}
-use Rattle.lane_planes.specs.Writes.{HasLanes}
+use Rattle.lane_planes.specs.{Words.{HasBits}, Writes.{HasLanes}}
 
 one_of : (b : Bool) → (cond b 1 0 == 1) ≡ b
 one_of true = refl

@@ -1,7 +1,6 @@
 -- What a bit of a word is, by the operators that made it.
 use Rattle.std.proofs.Common.{◌≡◌, ℕ, zero, suc, ◌-◌, ◌^◌, ◌<◌, min, max, Bool, refl, ◌∙◌, ap, w64, arith}
-use Rattle.std.specs.Prelude.{◌==◌, ◌&&◌, ◌||◌, not, bit_and, bit_or}
-use Rattle.std.specs.Int.{bit_at, bit_not}
+use Rattle.std.specs.{Prelude.{◌==◌, ◌&&◌, ◌||◌, not, bit_and, bit_or}, Int.{bit_at, bit_not}}
 use Rattle.std.proofs.lemmas.Nat.Bits.{bit_at_and, bit_at_or, bit_at_not, bit_at-lt}
 
 -- bit k of a word

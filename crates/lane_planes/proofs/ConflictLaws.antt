@@ -1,27 +1,17 @@
 -- A plane of conflicts says what the marks tell.
-use Rattle.std.proofs.Common.{◌≡◌, ℕ, zero, suc, ◌+◌, ◌-◌, ◌*◌, ◌/◌, ◌%◌, ◌^◌, ◌<◌, ◌≤◌, min, false}
-use Rattle.std.proofs.Common.{List, [], ◌∷◌, length, refl, sym, ◌∙◌, ap, subst, ⊎_elim, arith}
-use Rattle.std.specs.Prelude.{◌==◌, ◌&&◌, ◌||◌, not, nat_lt, slice_index, bit_and}
-use Rattle.std.specs.List.{filter, range_with_len}
-use Rattle.std.proofs.Math.Bool.{and_comm}
-use Rattle.std.proofs.lemmas.Bool.{cases_lt}
-use Rattle.std.proofs.lemmas.List.{get_or_past}
-use Rattle.std.proofs.lemmas.Nat.Bits.{bit_at-zero, bit_at_above}
+use Rattle.std.proofs.Common.{◌≡◌, ℕ, zero, suc, ◌+◌, ◌-◌, ◌*◌, ◌/◌, ◌%◌, ◌^◌, ◌<◌, ◌≤◌, min, false, List, [], ◌∷◌}
+use Rattle.std.{proofs.Common.{length, refl, sym, ◌∙◌, ap, subst, ⊎_elim, arith}, specs.List.{filter, range_with_len}}
+use Rattle.std.{specs.Prelude.{◌==◌, ◌&&◌, ◌||◌, not, nat_lt, slice_index, bit_and}, proofs.Math.Bool.{and_comm}}
+use Rattle.std.proofs.lemmas.{Bool.{cases_lt}, List.{get_or_past}, Nat.Bits.{bit_at-zero, bit_at_above}}
 use Rattle.array_maps.specs.declared.access.Op.TheVariants.{Add, Or, And, Xor, AddH}
-use Rattle.loop_core_model.specs.Marks.{Visit, Marks, marks_of, first_number, marked_reduction}
-use Rattle.loop_core_model.specs.Marks.{marked_fails, marked_conflict}
-use Rattle.loop_core_model.specs.Planes.{bit_of, elements_in_plane}
-use Rattle.loop_core_model.proofs.MarkLaws.{first_is_number}
-use Rattle.loop_core_model.proofs.PlaneLaws.{plane_has_elements}
-use Rattle.shadow_marks.specs.declared.planes.Tested.{Tested}
-use Rattle.shadow_marks.specs.declared.planes.Tested.TheVariants.{Lrpd, Flow}
-use Rattle.shadow_marks.specs.declared.planes.Planes.{Planes}
+use Rattle.loop_core_model.specs.Marks.{Visit, Marks, marks_of, first_number, marked_reduction, marked_fails}
+use Rattle.loop_core_model.specs.{Marks.{marked_conflict}, Planes.{bit_of, elements_in_plane}}
+use Rattle.loop_core_model.proofs.{MarkLaws.{first_is_number}, PlaneLaws.{plane_has_elements}}
+use Rattle.shadow_marks.specs.declared.planes.{Tested.{Tested, TheVariants.{Lrpd, Flow}}, Planes.{Planes}}
 use Rattle.shadow_marks.specs.Standing.{ArePlanes, AreTested, StandAt, StandFor, TestedStandAt, test_of, words_for}
-use Rattle.lane_planes.specs.Words.{stands_at, in_some, without_reductions}
-use Rattle.lane_planes.specs.Writes.{Writes}
+use Rattle.lane_planes.specs.{Words.{stands_at, in_some, without_reductions}, Writes.{Writes}}
 use Rattle.lane_planes.specs.Conflicts.{FailingWords, LastsFit, OperatorWordsFit, ConflictWords, IsConflictPlane}
-use Rattle.lane_planes.proofs.BitMeaning.{bit, bit-and, bit-or}
-use Rattle.lane_planes.proofs.MergeLaws.{word_within}
+use Rattle.lane_planes.proofs.{BitMeaning.{bit, bit-and, bit-or}, MergeLaws.{word_within}}
 use Rattle.lane_planes.proofs.ReductionLaws.{marked_bit, clear_bit}
 
 -- a number isn't below one less than zero

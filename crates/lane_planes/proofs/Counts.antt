@@ -1,13 +1,9 @@
 -- Bits counted and found in runs of words.
-use Rattle.std.proofs.Common.{◌≡◌, ℕ, zero, suc, ◌+◌, ◌*◌, ◌/◌, ◌%◌, ◌^◌, ◌≤◌, ◌<◌, List, [], ◌∷◌, ◌++◌}
-use Rattle.std.proofs.Common.{map, length, take, drop, get_or, ◌∙◌, sym, ap, subst, Fits, w64, arith}
-use Rattle.std.specs.Prelude.{count_ones, bit_or}
-use Rattle.std.specs.Simd.{first_chunks}
-use Rattle.std.specs.Simd.Lanes.{Each1, fold_l, chunk}
-use Rattle.std.proofs.Math.Nat.{mod-eq_of_lt, div-mul-le_self, mul-le-mul_right}
-use Rattle.std.proofs.Math.Seq.{drop-cons}
+use Rattle.std.proofs.Common.{◌≡◌, ℕ, zero, suc, ◌+◌, ◌*◌, ◌/◌, ◌%◌, ◌^◌, ◌≤◌, ◌<◌, List, [], ◌∷◌, ◌++◌, map, length}
+use Rattle.std.{proofs.Common.{take, drop, get_or, ◌∙◌, sym, ap, subst, Fits, w64, arith}, specs.Simd.{first_chunks}}
+use Rattle.std.{specs.{Prelude.{count_ones, bit_or}, Simd.Lanes.{Each1, fold_l, chunk}}, proofs.Math.Seq.{drop-cons}}
+use Rattle.std.proofs.{Math.Nat.{mod-eq_of_lt, div-mul-le_self, mul-le-mul_right}, lemmas.List.{drop-drop, drop_more}}
 use Rattle.std.proofs.lemmas.Nat.{ones-le, le_or_l, le_or_r}
-use Rattle.std.proofs.lemmas.List.{drop-drop, drop_more}
 use Rattle.std.proofs.lemmas.Simd.{chunk-drop, chunk-fits, get_or-chunk, Each1-from_get_or}
 use Rattle.loop_core_model.specs.Planes.{set_bits, least_bit}
 

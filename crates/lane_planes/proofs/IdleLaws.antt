@@ -1,25 +1,15 @@
 -- Where no access is marked, nothing is marked.
-use Rattle.std.proofs.Common.{◌≡◌, ℕ, zero, suc, ◌+◌, ◌-◌, ◌*◌, ◌/◌, ◌%◌, ◌^◌, ◌<◌, ◌≤◌, min, Bool, true}
-use Rattle.std.proofs.Common.{false, List, length, None, refl, sym, ◌∙◌, ap, subst, ⊎_elim, arith}
-use Rattle.std.specs.Prelude.{◌==◌, nat_lt, slice_index, slice_set}
-use Rattle.std.specs.Int.{bit_at}
-use Rattle.std.proofs.lemmas.Bool.{cases_lt}
+use Rattle.std.proofs.Common.{◌≡◌, ℕ, zero, suc, ◌+◌, ◌-◌, ◌*◌, ◌/◌, ◌%◌, ◌^◌, ◌<◌, ◌≤◌, min, Bool, true, false, List}
+use Rattle.std.{proofs.Common.{length, None, refl, sym, ◌∙◌, ap, subst, ⊎_elim, arith}, specs.Int.{bit_at}}
+use Rattle.std.{specs.Prelude.{◌==◌, nat_lt, slice_index, slice_set}, proofs.lemmas.{Bool.{cases_lt}, Nat.{pow_pos}}}
 use Rattle.std.proofs.lemmas.List.{get_or-set_same, get_or-set_other}
-use Rattle.std.proofs.lemmas.Nat.{pow_pos}
 use Rattle.std.proofs.lemmas.Nat.Bits.{bit_at-zero, bit_at-lt, same_from_bits_below}
-use Rattle.array_maps.specs.declared.access.Op.{Op}
-use Rattle.array_maps.specs.declared.access.Op.TheVariants.{Add, Or, And, Xor, AddH}
-use Rattle.loop_core_model.specs.Marks.{Visit, Marks, marks_of, first_number}
-use Rattle.loop_core_model.specs.Planes.{bit_of}
-use Rattle.shadow_marks.specs.declared.planes.FlowPlanes.{FlowPlanes}
-use Rattle.shadow_marks.specs.declared.planes.Tested.{Tested}
-use Rattle.shadow_marks.specs.declared.planes.Tested.TheVariants.{Lrpd, Flow}
-use Rattle.shadow_marks.specs.declared.planes.Planes.{Planes}
+use Rattle.array_maps.specs.declared.access.Op.{Op, TheVariants.{Add, Or, And, Xor, AddH}}
+use Rattle.loop_core_model.specs.{Marks.{Visit, Marks, marks_of, first_number}, Planes.{bit_of}}
+use Rattle.shadow_marks.specs.declared.planes.{FlowPlanes.{FlowPlanes}, Tested.{Tested, TheVariants.{Lrpd, Flow}}}
+use Rattle.shadow_marks.{specs.declared.planes.Planes.{Planes}, proofs.ClearLaws.{zero_bits, never, no_visit}}
 use Rattle.shadow_marks.specs.Standing.{IsBitPlane, AreTested, TestedStandAt, IsUnmarkedPage, plane_by}
-use Rattle.shadow_marks.proofs.ClearLaws.{zero_bits, never, no_visit}
-use Rattle.lane_planes.specs.Words.{HasBits, stands_at}
-use Rattle.lane_planes.specs.Merged.{StandForSome, WordsFit}
-use Rattle.lane_planes.proofs.BitMeaning.{bit}
+use Rattle.lane_planes.{specs.{Words.{HasBits, stands_at}, Merged.{StandForSome, WordsFit}}, proofs.BitMeaning.{bit}}
 use Rattle.lane_planes.proofs.PageLaws.{FlowIdle, TestedIdle, IsIdle}
 
 -- nothing is marked

@@ -1,12 +1,10 @@
 -- What the lanes of a vector are, each by its number.
-use Rattle.std.proofs.Common.{◌≡◌, ℕ, ◌+◌, ◌-◌, ◌%◌, ◌^◌, ◌<◌, ◌≤◌, min, max, Bool, false, cond, ltb, List}
-use Rattle.std.proofs.Common.{map, length, get_or, replicate, sym, ◌∙◌, ap, subst, w32, arith}
-use Rattle.std.specs.Simd.Lanes.{zip2, chunk, sel_l, top}
-use Rattle.std.proofs.Math.Nat.{add-mod_right, mod-eq_of_lt}
+use Rattle.std.proofs.Common.{◌≡◌, ℕ, ◌+◌, ◌-◌, ◌%◌, ◌^◌, ◌<◌, ◌≤◌, min, max, Bool, false, cond, ltb, List, map, length}
+use Rattle.std.proofs.Common.{get_or, replicate, sym, ◌∙◌, ap, subst, w32, arith}
+use Rattle.std.{specs.Simd.Lanes.{zip2, chunk, sel_l, top}, proofs.Math.Nat.{add-mod_right, mod-eq_of_lt}}
+use Rattle.std.proofs.lemmas.{List.{length-map, get_or-map}, Simd.{get_or-sel_l, length-replicate, get_or-replicate}}
+use Rattle.std.proofs.lemmas.Simd.{length-zip2, length-chunk, get_or-chunk, get_or-zip2, tops_compared, length-sel_l}
 use Rattle.lane_planes.specs.Writes.{HasLanes}
-use Rattle.std.proofs.lemmas.List.{length-map, get_or-map}
-use Rattle.std.proofs.lemmas.Simd.{length-zip2, length-chunk, get_or-chunk, get_or-zip2, tops_compared}
-use Rattle.std.proofs.lemmas.Simd.{length-sel_l, get_or-sel_l, length-replicate, get_or-replicate}
 
 pub loaded : (at n : ℕ) (xs : List ℕ) → at + n ≤ length xs → HasLanes n (λ k. get_or xs (at + k) 0) (chunk at n xs)
 loaded at n xs room = record { count = length-chunk at n xs room; each = λ k small. get_or-chunk at n xs k 0 small }

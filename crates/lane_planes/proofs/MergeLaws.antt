@@ -1,15 +1,10 @@
 -- Merged planes have merged marks.
-use Rattle.std.proofs.Common.{◌≡◌, ℕ, ◌*◌, ◌/◌, ◌%◌, ◌<◌, ◌≤◌, min, max, Bool, List}
-use Rattle.std.proofs.Common.{length, refl, sym, ◌∙◌, ap, subst, arith}
-use Rattle.std.specs.Prelude.{◌&&◌, ◌||◌, slice_index, bit_and, bit_or}
-use Rattle.array_maps.specs.declared.access.Op.{Op}
-use Rattle.array_maps.specs.declared.access.Op.TheVariants.{Add, Or, And, Xor, AddH}
-use Rattle.loop_core_model.specs.Marks.{Visit, Marks, marks_of, merged, first_number}
-use Rattle.loop_core_model.specs.Planes.{bit_of}
+use Rattle.std.proofs.Common.{◌≡◌, ℕ, ◌*◌, ◌/◌, ◌%◌, ◌<◌, ◌≤◌, min, max, Bool, List, length, refl, sym, ◌∙◌, ap, subst}
+use Rattle.std.{proofs.Common.{arith}, specs.Prelude.{◌&&◌, ◌||◌, slice_index, bit_and, bit_or}}
+use Rattle.array_maps.specs.declared.access.Op.{Op, TheVariants.{Add, Or, And, Xor, AddH}}
+use Rattle.loop_core_model.specs.{Marks.{Visit, Marks, marks_of, merged, first_number}, Planes.{bit_of}}
 use Rattle.loop_core_model.proofs.MarkLaws.{first_is_number, marks_merge}
-use Rattle.shadow_marks.specs.declared.planes.Tested.{Tested}
-use Rattle.shadow_marks.specs.declared.planes.Tested.TheVariants.{Lrpd, Flow}
-use Rattle.shadow_marks.specs.declared.planes.Planes.{Planes}
+use Rattle.shadow_marks.specs.declared.planes.{Tested.{Tested, TheVariants.{Lrpd, Flow}}, Planes.{Planes}}
 use Rattle.shadow_marks.specs.Standing.{ArePlanes, AreTested, StandAt, StandFor, TestedStandAt, plane_by, words_for}
 use Rattle.shadow_marks.specs.Ending.{KeepsShape}
 use Rattle.lane_planes.specs.Merged.{Ored, WrittenByTwo, FirstsFit, MergedPlanes, MergedTested, joined_visits}

@@ -1,17 +1,11 @@
 -- Pages are merged a run at a time, and a page in which nothing is marked is merged as it stands.
 use Rattle.std.proofs.Common.{◌≡◌, ℕ, ◌+◌, ◌*◌, ◌/◌, ◌<◌, ◌≤◌, min, max, List, length, sym, ◌∙◌, ap, subst, arith, refl}
-use Rattle.std.specs.Prelude.{slice_index, bit_and, bit_or}
-use Rattle.std.specs.Int.Bits.{or_zero_r, and_zero_r}
-use Rattle.shadow_marks.specs.declared.planes.LrpdPlanes.{LrpdPlanes}
-use Rattle.shadow_marks.specs.declared.planes.FlowPlanes.{FlowPlanes}
-use Rattle.shadow_marks.specs.declared.planes.Tested.{Tested}
-use Rattle.shadow_marks.specs.declared.planes.Tested.TheVariants.{Lrpd, Flow}
-use Rattle.shadow_marks.specs.declared.planes.OperatorPlanes.{OperatorPlanes}
-use Rattle.shadow_marks.specs.declared.planes.Planes.{Planes}
-use Rattle.shadow_marks.specs.Standing.{ArePlanes, AreTested, test_of}
-use Rattle.lane_planes.specs.Writes.{Writes}
-use Rattle.lane_planes.specs.Merged.{Ored, WrittenByTwo, Lesser, Greater, FirstsFit}
-use Rattle.lane_planes.specs.Merged.{MergedOperators, MergedTested, MergedPages}
+use Rattle.std.specs.{Prelude.{slice_index, bit_and, bit_or}, Int.Bits.{or_zero_r, and_zero_r}}
+use Rattle.shadow_marks.specs.declared.planes.{LrpdPlanes.{LrpdPlanes}, FlowPlanes.{FlowPlanes}, Tested.{Tested}}
+use Rattle.shadow_marks.specs.declared.planes.{Tested.TheVariants.{Lrpd, Flow}, OperatorPlanes.{OperatorPlanes}}
+use Rattle.shadow_marks.specs.{declared.planes.Planes.{Planes}, Standing.{ArePlanes, AreTested, test_of}}
+use Rattle.lane_planes.specs.{Writes.{Writes}, Merged.{MergedPages}}
+use Rattle.lane_planes.specs.Merged.{Ored, WrittenByTwo, Lesser, Greater, FirstsFit, MergedOperators, MergedTested}
 use Rattle.lane_planes.proofs.Writing.{writes_none, writes_same, writes_on}
 
 -- what is written at an index

@@ -1,12 +1,8 @@
 -- A word without reduction-only elements, bit by bit.
 use Rattle.std.proofs.Common.{◌≡◌, ℕ, ◌^◌, ◌<◌, Bool, true, false, List, [], ◌∷◌, map, refl, ◌∙◌, ap, w64}
-use Rattle.std.specs.Prelude.{◌==◌, ◌&&◌, ◌||◌, not, bit_and, bit_or}
-use Rattle.std.specs.Int.{bit_not}
-use Rattle.std.specs.List.{count_by}
+use Rattle.std.specs.{Prelude.{◌==◌, ◌&&◌, ◌||◌, not, bit_and, bit_or}, Int.{bit_not}, List.{count_by}}
 use Rattle.std.proofs.lemmas.Nat.Bits.{bit_at-zero}
-use Rattle.array_maps.specs.declared.access.Op.{Op}
-use Rattle.array_maps.specs.declared.access.Op.TheVariants.{Add, Or, And, Xor, AddH}
-use Rattle.array_maps.specs.Accesses.{operators}
+use Rattle.array_maps.specs.{declared.access.Op.{Op, TheVariants.{Add, Or, And, Xor, AddH}}, Accesses.{operators}}
 use Rattle.loop_core_model.specs.Marks.{Marks, marked_reduction}
 use Rattle.lane_planes.specs.Words.{in_some, in_two, without_reductions}
 use Rattle.lane_planes.proofs.BitMeaning.{bit, bit-and, bit-or, bit-not}

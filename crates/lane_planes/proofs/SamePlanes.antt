@@ -1,9 +1,7 @@
 -- Planes of the same number of elements and test have the same lengths.
 use Rattle.std.proofs.Common.{◌≡◌, ℕ, ◌*◌, ◌≤◌, sym, ◌∙◌, ap, subst}
 use Rattle.array_maps.specs.declared.access.Op.TheVariants.{Add, Or, And, Xor, AddH}
-use Rattle.shadow_marks.specs.declared.planes.Tested.{Tested}
-use Rattle.shadow_marks.specs.declared.planes.Tested.TheVariants.{Lrpd, Flow}
-use Rattle.shadow_marks.specs.declared.planes.Planes.{Planes}
+use Rattle.shadow_marks.specs.declared.planes.{Tested.{Tested, TheVariants.{Lrpd, Flow}}, Planes.{Planes}}
 use Rattle.shadow_marks.specs.Standing.{ArePlanes, AreTested, test_of, words_for}
 use Rattle.lane_planes.specs.Merged.{SameOperators, SameTested, OperatorsReach, TestedReach}
 

@@ -1,18 +1,12 @@
 -- Merged planes are whole, and stand for what both stood for.
 use Rattle.std.proofs.Common.{◌≡◌, ℕ, ◌/◌, ◌%◌, ◌<◌, ◌≤◌, false, List, refl, sym, ◌∙◌, ap, subst, ⊎_elim}
-use Rattle.std.specs.Prelude.{slice_index}
-use Rattle.std.proofs.lemmas.Bool.{cases_lt}
-use Rattle.array_maps.specs.declared.access.Op.{Op}
-use Rattle.array_maps.specs.declared.access.Op.TheVariants.{Add, Or, And, Xor, AddH}
-use Rattle.shadow_marks.specs.declared.planes.OperatorPlanes.{OperatorPlanes}
-use Rattle.shadow_marks.specs.declared.planes.Tested.{Tested}
-use Rattle.shadow_marks.specs.declared.planes.Tested.TheVariants.{Lrpd, Flow}
-use Rattle.shadow_marks.specs.declared.planes.Planes.{Planes}
+use Rattle.std.{specs.Prelude.{slice_index}, proofs.lemmas.Bool.{cases_lt}}
+use Rattle.array_maps.specs.declared.access.Op.{Op, TheVariants.{Add, Or, And, Xor, AddH}}
+use Rattle.shadow_marks.specs.declared.planes.{OperatorPlanes.{OperatorPlanes}, Tested.{Tested}, Planes.{Planes}}
+use Rattle.shadow_marks.specs.{declared.planes.Tested.TheVariants.{Lrpd, Flow}, Ending.{KeepsShape}}
 use Rattle.shadow_marks.specs.Standing.{IsBitPlane, ArePlanes, AreTested, plane_by, test_of, words_for}
-use Rattle.shadow_marks.specs.Ending.{KeepsShape}
-use Rattle.lane_planes.specs.Merged.{Ored, WrittenByTwo, FirstsFit, MergedOperators, MergedPages}
-use Rattle.lane_planes.specs.Merged.{MergedPlanes, MergedTested, IsMerge}
-use Rattle.lane_planes.proofs.BitMeaning.{bit}
+use Rattle.lane_planes.specs.Merged.{Ored, WrittenByTwo, FirstsFit, MergedOperators, MergedPages, MergedPlanes}
+use Rattle.lane_planes.{specs.Merged.{MergedTested, IsMerge}, proofs.BitMeaning.{bit}}
 use Rattle.lane_planes.proofs.MergeLaws.{ored_at, two_at, merged_at, joined_stand}
 
 -- a page comes before some pages, among them, or past them

@@ -1,9 +1,7 @@
 -- A list is written a run at a time, from its beginning on.
 use Rattle.std.proofs.Common.{◌≡◌, ℕ, ◌+◌, ◌-◌, ◌<◌, ◌≤◌, List, length, get_or, refl, ◌∙◌, subst, ⊎_elim, arith}
-use Rattle.std.specs.Simd.Lanes.{put_chunk}
-use Rattle.std.proofs.lemmas.Bool.{cases_lt}
+use Rattle.std.{specs.Simd.Lanes.{put_chunk}, proofs.lemmas.{Bool.{cases_lt}, Simd.{get_or-put_chunk_above}}}
 use Rattle.std.proofs.lemmas.Simd.{length-put_chunk, get_or-put_chunk_below, get_or-put_chunk_at}
-use Rattle.std.proofs.lemmas.Simd.{get_or-put_chunk_above}
 use Rattle.lane_planes.specs.Writes.{HasLanes, Writes}
 
 -- nothing is written yet

@@ -1,13 +1,9 @@
 -- What a plane of conflicts is, word by word.
 use Rattle.std.specs.Prelude.{◌≡◌, ℕ, ◌+◌, ◌/◌, ◌^◌, ◌<◌, ◌≤◌, List, [], ◌∷◌, length, slice_index, bit_and, bit_or}
 use Rattle.std.specs.List.{filter, range_with_len}
-use Rattle.loop_core_model.specs.Marks.{Visit, Marks, marks_of, marked_conflict}
-use Rattle.loop_core_model.specs.Planes.{bit_of, elements_in_plane}
-use Rattle.shadow_marks.specs.declared.planes.LrpdPlanes.{LrpdPlanes}
-use Rattle.shadow_marks.specs.declared.planes.FlowPlanes.{FlowPlanes}
-use Rattle.shadow_marks.specs.declared.planes.Tested.{Tested}
-use Rattle.shadow_marks.specs.declared.planes.Tested.TheVariants.{Lrpd, Flow}
-use Rattle.shadow_marks.specs.declared.planes.Planes.{Planes}
+use Rattle.loop_core_model.specs.{Marks.{Visit, Marks, marks_of, marked_conflict}, Planes.{bit_of, elements_in_plane}}
+use Rattle.shadow_marks.specs.declared.planes.{LrpdPlanes.{LrpdPlanes}, FlowPlanes.{FlowPlanes}, Tested.{Tested}}
+use Rattle.shadow_marks.specs.declared.planes.{Tested.TheVariants.{Lrpd, Flow}, Planes.{Planes}}
 use Rattle.shadow_marks.specs.Standing.{IsBitPlane, StandAt, StandFor, test_of}
 use Rattle.lane_planes.specs.Words.{in_some, without_reductions, FlowWords}
 

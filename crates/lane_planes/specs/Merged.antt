@@ -2,13 +2,9 @@
 -- plane of bits, and up to 64 of the numbers.
 use Rattle.std.specs.Prelude.{◌≡◌, ℕ, ◌*◌, ◌^◌, ◌<◌, ◌≤◌, min, max, List, ◌++◌, length, slice_index, bit_and, bit_or}
 use Rattle.loop_core_model.specs.Marks.{Visit, Marks, merged}
-use Rattle.shadow_marks.specs.declared.planes.LrpdPlanes.{LrpdPlanes}
-use Rattle.shadow_marks.specs.declared.planes.FlowPlanes.{FlowPlanes}
-use Rattle.shadow_marks.specs.declared.planes.Tested.{Tested}
-use Rattle.shadow_marks.specs.declared.planes.Tested.TheVariants.{Lrpd, Flow}
-use Rattle.shadow_marks.specs.declared.planes.OperatorPlanes.{OperatorPlanes}
-use Rattle.shadow_marks.specs.declared.planes.Planes.{Planes}
-use Rattle.shadow_marks.specs.Standing.{StandAt, StandFor, words_for}
+use Rattle.shadow_marks.specs.declared.planes.{LrpdPlanes.{LrpdPlanes}, FlowPlanes.{FlowPlanes}, Tested.{Tested}}
+use Rattle.shadow_marks.specs.declared.planes.{Tested.TheVariants.{Lrpd, Flow}, OperatorPlanes.{OperatorPlanes}}
+use Rattle.shadow_marks.specs.{declared.planes.Planes.{Planes}, Standing.{StandAt, StandFor, words_for}}
 use Rattle.shadow_marks.specs.Ending.{KeepsShape}
 use Rattle.lane_planes.specs.Writes.{Writes}
 

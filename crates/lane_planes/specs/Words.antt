@@ -1,7 +1,6 @@
 -- Words of bits, of which bit k of word i says something of element 64 i + k.
-use Rattle.std.specs.Prelude.{◌≡◌, ℕ, ◌+◌, ◌-◌, ◌*◌, ◌^◌, min, length, ◌<◌, Bool, ◌==◌}
-use Rattle.std.specs.Prelude.{nat_lt, List, [], ◌∷◌, slice_index, bit_and, bit_or}
-use Rattle.std.specs.Int.{bit_at, bit_not, w64}
+use Rattle.std.specs.Prelude.{◌≡◌, ℕ, ◌+◌, ◌-◌, ◌*◌, ◌^◌, min, length, ◌<◌, Bool, ◌==◌, nat_lt, List, [], ◌∷◌}
+use Rattle.std.specs.{Prelude.{slice_index, bit_and, bit_or}, Int.{bit_at, bit_not, w64}}
 
 -- the bits that are set in some of these words
 abbrev pub in_some : List ℕ → ℕ
@@ -17,7 +16,7 @@ in_two (word ∷ rest) = bit_or (in_two rest) (bit_and (in_some rest) word)
 abbrev pub without_reductions : (word plain : ℕ) → (by : List ℕ) → ℕ
 without_reductions word plain by = bit_and word (bit_or (bit_or plain (in_two by)) (bit_not w64 (in_some by)))
 
--- a word of n bits, each of which a test tells by its number
+-- a word of n bits, each of which a test gives by its number
 pub record HasBits (many : ℕ) (test : ℕ → Bool) (word : ℕ) : Type 0 where
   pub below : word < 2 ^ many
   pub each : (k : ℕ) → k < many → (bit_at word k == 1) ≡ test k

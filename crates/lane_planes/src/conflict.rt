@@ -1,8 +1,7 @@
 //! Which elements conflict.
 
 ghost use Rattle.std.specs.Prelude.{◌≡◌, ℕ, ◌+◌, ◌^◌, ◌<◌, ◌≤◌, length, slice_index, [], ◌∷◌};
-ghost use Rattle.lane_planes.specs.Conflicts.{LrpdFit, lrpd_word};
-ghost use Rattle.lane_planes.specs.Words.{in_some, without_reductions};
+ghost use Rattle.lane_planes.specs.{Conflicts.{LrpdFit, lrpd_word}, Words.{in_some, without_reductions}};
 ghost use Rattle.lane_planes.specs.Writes.{Writes};
 
 use crate::loading::words_at;

@@ -1,8 +1,7 @@
 //! First writers and last readers, joined.
 
 ghost use Rattle.std.specs.Prelude.{◌≡◌, ℕ, ◌+◌, ◌*◌, ◌/◌, ◌<◌, ◌≤◌, length, slice_index, min};
-ghost use Rattle.lane_planes.specs.Kept.{kept_of};
-ghost use Rattle.lane_planes.specs.Writes.{Writes};
+ghost use Rattle.lane_planes.specs.{Kept.{kept_of}, Writes.{Writes}};
 
 use crate::kept::Kept;
 use crate::loading::numbers_at;

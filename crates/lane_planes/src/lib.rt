@@ -1,5 +1,5 @@
 //! Kernels over the planes of marks, in vectors of any number of lanes that `std::simd` has, and one
-//! word at a time for what is left: planes merged, conflicts told, counted and the least found.
+//! word at a time for what is left: planes merged, conflicts found, counted and the least found.
 //!
 //! ```text
 //! merge::<8>(&mut planes, &other);            // iteration 0 wrote element 1, and iteration 1 read it

@@ -2,9 +2,9 @@
 
 ghost use Rattle.std.specs.Prelude.{◌≡◌, ◌*◌, ◌<◌, ◌≤◌};
 ghost use Rattle.shadow_marks.specs.Standing.{ArePlanes, test_of, words_for};
-ghost use Rattle.lane_planes.specs.Merged.{IsMerge, MergedOperators, MergedLrpd, MergedFlow, MergedTested};
-ghost use Rattle.lane_planes.specs.Merged.{MergedPages, SameOperators, SameTested, SameLrpd, SameFlow, OperatorsReach};
-ghost use Rattle.lane_planes.specs.Merged.{TestedReach, LrpdReach, FlowReach, FirstsFit};
+ghost use Rattle.lane_planes.specs.Merged.{IsMerge, MergedOperators, MergedLrpd, MergedFlow, MergedTested, MergedPages};
+ghost use Rattle.lane_planes.specs.Merged.{SameOperators, SameTested, SameLrpd, SameFlow, OperatorsReach, TestedReach};
+ghost use Rattle.lane_planes.specs.Merged.{LrpdReach, FlowReach, FirstsFit};
 
 use crate::bits::{or_into, written_by_two_into};
 use crate::indices::keep_into;

@@ -3,8 +3,7 @@
 ghost use Rattle.std.specs.Prelude.{◌≡◌, ◌+◌, ◌-◌, ◌*◌, ◌<◌, ◌≤◌, ℕ, min, length, slice_index};
 ghost use Rattle.shadow_marks.specs.declared.planes.Tested.TheVariants.{Flow};
 ghost use Rattle.shadow_marks.specs.Standing.{ArePlanes, test_of, words_for};
-ghost use Rattle.lane_planes.specs.Words.{FlowWords, HasBits, stands_at};
-ghost use Rattle.lane_planes.specs.Merged.{IsMerge, StandForSome, WordsFit};
+ghost use Rattle.lane_planes.specs.{Words.{FlowWords, HasBits, stands_at}, Merged.{IsMerge, StandForSome, WordsFit}};
 ghost use Rattle.lane_planes.specs.Conflicts.{IsConflictPlane};
 
 use crate::flow::flow_word;

@@ -1,7 +1,6 @@
 //! The plane of elements that conflict, and the verdict on them.
 
-ghost use Rattle.std.specs.Prelude.{◌≡◌, ◌≤◌, ℕ, List, length, IfOk};
-ghost use Rattle.std.specs.List.{filter, range_with_len};
+ghost use Rattle.std.specs.{Prelude.{◌≡◌, ◌≤◌, ℕ, List, length, IfOk}, List.{filter, range_with_len}};
 ghost use Rattle.array_maps.specs.MapList.{AreWords};
 ghost use Rattle.loop_core_model.specs.Marks.{Visit, marks_of, marked_conflict};
 ghost use Rattle.loop_core_model.specs.Planes.{elements_in_plane, plane_verdict};

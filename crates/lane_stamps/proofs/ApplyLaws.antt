@@ -1,24 +1,16 @@
 -- What lanes leave at one site, one lane further.
 use Rattle.std.proofs.Common.{◌≡◌, ℕ, zero, suc, ◌+◌, ◌*◌, ◌%◌, ◌<◌, Bool, true, false, List, length, drop, set}
-use Rattle.std.proofs.Common.{slice_index, slice_index_or}
-use Rattle.std.proofs.Common.{refl, sym, ◌∙◌, ap, subst, arith}
+use Rattle.std.proofs.Common.{slice_index, slice_index_or, refl, sym, ◌∙◌, ap, subst, arith}
 use Rattle.std.specs.Prelude.{◌==◌, Option, Some, None, if◌then◌else◌}
 use Rattle.std.proofs.lemmas.List.{drop_more, get_or-set_same, set-get_or, set-set}
-use Rattle.array_maps.specs.declared.access.Half.{Half}
-use Rattle.array_maps.specs.declared.access.Half.TheVariants.{Low, High}
-use Rattle.array_maps.specs.Accesses.{left_by}
-use Rattle.loop_core_batch.specs.Effects.{Deed, Effect, action_on, words_after_any_effect, words_after_effect}
-use Rattle.loop_core_batch.specs.Effects.{words_after_lane_effects, words_after_site_effects}
-use Rattle.lane_rows.specs.declared.mask.Mask.{Mask}
-use Rattle.lane_rows.specs.declared.places.Places.{Places}
-use Rattle.lane_rows.specs.Rows.{is_in, place_at}
-use Rattle.lane_stamps.specs.declared.kind.Kind.{Kind}
-use Rattle.lane_stamps.specs.declared.kind.Kind.TheVariants.{Load, LoadHalf, Store, Fetch, Replace, FetchHalf}
-use Rattle.lane_stamps.specs.declared.kind.Kind.TheVariants.{AddHalf, Apply}
-use Rattle.lane_stamps.specs.Forms.{HalvesFrom, IsPairAt, IsPlace, RunsFrom}
-use Rattle.lane_stamps.specs.declared.site.Site.{Site}
+use Rattle.array_maps.specs.{declared.access.Half.{Half, TheVariants.{Low, High}}, Accesses.{left_by}}
+use Rattle.loop_core_model.specs.Effects.{Deed, Effect, action_on, words_after_any_effect, words_after_effect}
+use Rattle.loop_core_model.specs.Effects.{words_after_lane_effects, words_after_site_effects}
+use Rattle.lane_rows.specs.{declared.{mask.Mask.{Mask}, places.Places.{Places}}, Rows.{is_in, place_at}}
+use Rattle.lane_stamps.specs.declared.{kind.Kind.{Kind, TheVariants.{Apply}}, site.Site.{Site}}
+use Rattle.lane_stamps.specs.declared.kind.Kind.TheVariants.{Load, LoadHalf, Store, Fetch, Replace, FetchHalf, AddHalf}
+use Rattle.lane_stamps.specs.{Forms.{HalvesFrom, IsPairAt, IsPlace, RunsFrom}, Sites.{is_of_halves, log_of}}
 use Rattle.lane_stamps.specs.Sites.{LaneRows, deed_by, effect_at, effect_by, effect_if, element_named, half_named}
-use Rattle.lane_stamps.specs.Sites.{is_of_halves, log_of}
 
 lane_more : (site : ℕ → Option Effect) (lane : ℕ) (words : List ℕ) → words_after_lane_effects site (lane + 1) words
     ≡ words_after_any_effect (site lane) (words_after_lane_effects site lane words)

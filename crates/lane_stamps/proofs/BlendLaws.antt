@@ -1,12 +1,8 @@
 -- A half of a word that is replaced.
-use Rattle.std.proofs.Common.{◌≡◌, ℕ, zero, suc, ◌+◌, ◌-◌, ◌*◌, ◌/◌, ◌%◌, ◌^◌, ◌<◌, ◌∙◌, ap, arith}
-use Rattle.std.proofs.Common.{bit_and, bit_or}
-use Rattle.std.specs.Prelude.{◌==◌, if◌then◌else◌}
-use Rattle.std.proofs.lemmas.Nat.{and_mask, or_comm, or_shifted}
+use Rattle.std.proofs.Common.{◌≡◌, ℕ, zero, suc, ◌+◌, ◌-◌, ◌*◌, ◌/◌, ◌%◌, ◌^◌, ◌<◌, ◌∙◌, ap, arith, bit_and, bit_or}
+use Rattle.std.{specs.Prelude.{◌==◌, if◌then◌else◌}, proofs.lemmas.Nat.{and_mask, or_comm, or_shifted}}
 use Rattle.std.proofs.lemmas.Nat.Bits.{and_high_mask}
-use Rattle.array_maps.specs.declared.access.Half.TheVariants.{Low, High}
-use Rattle.array_maps.specs.declared.access.Half.{Half}
-use Rattle.array_maps.specs.Halves.{half_of, with_half}
+use Rattle.array_maps.specs.{declared.access.Half.{TheVariants.{Low, High}, Half}, Halves.{half_of, with_half}}
 
 -- of a number that replaces a half its lower half counts
 pub half_counts : (half : Half) (word value : ℕ) → with_half half word (half_of Low value) ≡ with_half half word value

@@ -1,26 +1,18 @@
 -- Places that share no half.
-use Rattle.std.proofs.Common.{◌≡◌, ◌≢◌, ℕ, ◌+◌, ◌*◌, ◌/◌, ◌%◌, ◌^◌, ◌<◌, Bool, true, false, inl, inr}
-use Rattle.std.proofs.Common.{slice_index, refl, sym, ◌∙◌, ap, subst, arith}
-use Rattle.std.specs.Prelude.{◌==◌, if◌then◌else◌}
+use Rattle.std.proofs.Common.{◌≡◌, ◌≢◌, ℕ, ◌+◌, ◌*◌, ◌/◌, ◌%◌, ◌^◌, ◌<◌, Bool, true, false, inl, inr, slice_index, refl}
+use Rattle.std.{proofs.Common.{sym, ◌∙◌, ap, subst, arith}, specs.Prelude.{◌==◌, if◌then◌else◌}}
 use Rattle.std.proofs.lemmas.Bool.{cases_eq, eqb-true, eqb-false}
-use Rattle.array_maps.specs.declared.access.Half.{Half}
-use Rattle.array_maps.specs.declared.access.Half.TheVariants.{Low, High}
-use Rattle.array_maps.specs.declared.access.Op.TheVariants.{AddH}
-use Rattle.array_maps.specs.declared.access.Part.{Part}
-use Rattle.array_maps.specs.declared.access.Part.TheVariants.{Half as Of}
-use Rattle.array_maps.specs.Accesses.{combined, left_by}
+use Rattle.array_maps.specs.declared.access.{Half.{Half, TheVariants.{Low, High}}, Op.TheVariants.{AddH}, Part.{Part}}
+use Rattle.array_maps.specs.{declared.access.Part.TheVariants.{Half as Of}, Accesses.{combined, left_by}}
 use Rattle.array_maps.specs.Halves.{half_of, halves_added, with_half}
-use Rattle.loop_core_model.specs.Kept.{OperatorsAssociate}
-use Rattle.loop_core_batch.specs.Effects.{action_on, deed_part, half_number}
-use Rattle.loop_core_batch.proofs.Swapping.{same_place}
-use Rattle.loop_core_batch.proofs.Sparing.{FitsFor, Kept, Spares, alone_spares, at_place, fits_for, half_spares}
-use Rattle.loop_core_batch.proofs.EffectLaws.{Exchange, apart_exchange, halves_exchange, operators_exchange}
-use Rattle.lane_stamps.proofs.BlendLaws.{half_counts}
-use Rattle.lane_stamps.specs.declared.kind.Kind.{Kind}
+use Rattle.loop_core_model.specs.{Kept.{OperatorsAssociate}, Effects.{action_on, deed_part, half_number}}
+use Rattle.loop_core_model.proofs.Swapping.{same_place}
+use Rattle.loop_core_model.proofs.Sparing.{FitsFor, Kept, Spares, alone_spares, at_place, fits_for, half_spares}
+use Rattle.loop_core_model.proofs.EffectLaws.{Exchange, apart_exchange, halves_exchange, operators_exchange}
+use Rattle.lane_stamps.{proofs.BlendLaws.{half_counts}, specs.declared.{kind.Kind.{Kind}, site.Site.{Site}}}
 use Rattle.lane_stamps.specs.declared.kind.Kind.TheVariants.{LoadHalf, Replace, FetchHalf, AddHalf}
-use Rattle.lane_stamps.specs.declared.site.Site.{Site}
-use Rattle.lane_stamps.specs.Sites.{Covers, deed_by, element_named, half_named, is_of_halves, leaves, loads}
-use Rattle.lane_stamps.specs.Sites.{LaneRows, done_by, place_of, value_of}
+use Rattle.lane_stamps.specs.Sites.{Covers, deed_by, element_named, half_named, is_of_halves, leaves, loads, LaneRows}
+use Rattle.lane_stamps.specs.Sites.{done_by, place_of, value_of}
 
 -- the half that a number names has that number
 named : (place : ℕ) → half_number (place / 2) (half_named place) ≡ place

@@ -1,11 +1,9 @@
 -- What leaves nothing leaves all as it was.
 use Rattle.std.proofs.Common.{◌≡◌, ℕ, zero, suc, Bool, true, false, List, refl, ◌∙◌}
 use Rattle.std.specs.Prelude.{Some, None, if◌then◌else◌}
-use Rattle.loop_core_batch.specs.Kinds.{kind_leaves}
-use Rattle.loop_core_batch.specs.Effects.{Effect, kind_of_deed, words_after_any_effect, words_after_lane_effects}
-use Rattle.loop_core_batch.proofs.Sparing.{keeps}
-use Rattle.lane_stamps.specs.declared.site.Site.{Site}
-use Rattle.lane_stamps.specs.Sites.{LaneRows, done_by, effect_at, has, leaves}
+use Rattle.loop_core_model.{specs.Kinds.{kind_leaves}, proofs.Sparing.{keeps}}
+use Rattle.loop_core_model.specs.Effects.{Effect, kind_of_deed, words_after_any_effect, words_after_lane_effects}
+use Rattle.lane_stamps.specs.{declared.site.Site.{Site}, Sites.{LaneRows, done_by, effect_at, has, leaves}}
 use Rattle.lane_stamps.proofs.StampLaws.{site_leaves}
 
 one_keeps : (effect : Effect) (there : Bool) (words : List ℕ) → kind_leaves (kind_of_deed effect.deed) ≡ false

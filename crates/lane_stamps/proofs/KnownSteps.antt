@@ -1,12 +1,8 @@
 -- Where stamps are from, one site and one lane further.
-use Rattle.std.proofs.Common.{◌≡◌, ℕ, ◌+◌, ◌<◌, ◌≤◌, inl, inr, List, length, slice_index, slice_index_or}
-use Rattle.std.proofs.Common.{refl, sym, subst, arith}
-use Rattle.std.specs.List.{All}
-use Rattle.std.proofs.lemmas.List.{get_or_default}
-use Rattle.lane_stamps.specs.declared.site.Site.{Site}
-use Rattle.lane_stamps.specs.Sites.{LaneRows, Touches}
-use Rattle.lane_stamps.specs.Stamps.{AreKnown, AreStale, IsBefore, IsLeft, IsStopped, LeavesOnly, Meets}
-use Rattle.lane_stamps.specs.Stamps.{allowed, slot_of}
+use Rattle.std.proofs.Common.{◌≡◌, ℕ, ◌+◌, ◌<◌, ◌≤◌, inl, inr, List, length, slice_index, slice_index_or, refl, sym}
+use Rattle.std.{proofs.{Common.{subst, arith}, lemmas.List.{get_or_default}}, specs.List.{All}}
+use Rattle.lane_stamps.specs.{declared.site.Site.{Site}, Sites.{LaneRows, Touches}, Stamps.{slot_of}}
+use Rattle.lane_stamps.specs.Stamps.{AreKnown, AreStale, IsBefore, IsLeft, IsStopped, LeavesOnly, Meets, allowed}
 
 later_site : (earlier by lane at : ℕ) → IsBefore earlier by lane at → IsBefore earlier by lane (at + 1)
 later_site earlier by lane at (inl less) = inl less

@@ -1,11 +1,9 @@
 -- Sites that are watched, by the links from each to the next.
 use Rattle.std.proofs.Common.{◌≡◌, ℕ, ◌-◌, ◌<◌, ◌≤◌, true, false, inl, inr, List, length, set, slice_index}
-use Rattle.std.proofs.Common.{slice_index_or, refl, sym, subst, arith}
-use Rattle.std.proofs.lemmas.Bool.{cases_eq, cases_lt}
+use Rattle.std.proofs.{Common.{slice_index_or, refl, sym, subst, arith}, lemmas.Bool.{cases_eq, cases_lt}}
 use Rattle.std.proofs.lemmas.List.{get_or-set_other, get_or-set_same, get_or_default}
-use Rattle.lane_stamps.specs.declared.site.Site.{Site}
-use Rattle.lane_stamps.specs.Sites.{LaneRows}
 use Rattle.std.specs.Prelude.{Bool, if◌then◌else◌}
+use Rattle.lane_stamps.specs.{declared.site.Site.{Site}, Sites.{LaneRows}}
 use Rattle.lane_stamps.specs.Stamps.{AreKnown, IsBefore, IsLink, WatchedUnmet}
 
 -- what is so of the watched sites below one is so of those below the next that is watched

@@ -1,23 +1,15 @@
 -- Marks of accesses: what they say of lanes that go together.
-use Rattle.std.proofs.Common.{◌≡◌, ℕ, ◌+◌, ◌*◌, ◌<◌, ◌≤◌, inl, inr, List, length, slice_index, slice_index_or}
-use Rattle.std.proofs.Common.{refl, sym, ◌∙◌, ap, subst, arith}
-use Rattle.std.specs.Prelude.{Bool, true, false, if◌then◌else◌}
-use Rattle.std.specs.List.{AllPairs}
-use Rattle.std.proofs.lemmas.Bool.{cases_eq, cases_lt}
-use Rattle.std.proofs.lemmas.List.{get_or_default}
-use Rattle.lane_rows.specs.declared.mask.Mask.{Mask}
-use Rattle.lane_rows.specs.declared.places.Places.{Places}
-use Rattle.lane_stamps.specs.declared.kind.Kind.{Kind}
-use Rattle.lane_stamps.specs.declared.kind.Kind.TheVariants.{Load, LoadHalf, Store, Fetch, Replace, FetchHalf}
-use Rattle.lane_stamps.specs.declared.kind.Kind.TheVariants.{AddHalf, Apply}
-use Rattle.lane_stamps.specs.declared.site.Site.{Site}
+use Rattle.std.proofs.Common.{◌≡◌, ℕ, ◌+◌, ◌*◌, ◌<◌, ◌≤◌, inl, inr, List, length, slice_index, slice_index_or, refl}
+use Rattle.std.{proofs.Common.{sym, ◌∙◌, ap, subst, arith}, specs.Prelude.{Bool, true, false, if◌then◌else◌}}
+use Rattle.std.{specs.List.{AllPairs}, proofs.lemmas.{Bool.{cases_eq, cases_lt}, List.{get_or_default}}}
+use Rattle.lane_rows.specs.declared.{mask.Mask.{Mask}, places.Places.{Places}}
+use Rattle.lane_stamps.specs.{declared.{kind.Kind.{Kind, TheVariants.{Apply}}, site.Site.{Site}}, Stamps.{stamp_at}}
+use Rattle.lane_stamps.specs.declared.kind.Kind.TheVariants.{Load, LoadHalf, Store, Fetch, Replace, FetchHalf, AddHalf}
 use Rattle.lane_stamps.specs.Sites.{LaneRows, Covers, Touches, is_of_halves, leaves, loads, place_of}
-use Rattle.lane_stamps.specs.Stamps.{AreRanked, AreStale, IsBefore, Meets, WatchedOwn, WatchedUnmet}
-use Rattle.lane_stamps.specs.Stamps.{allowed, slot_of, stamp_at}
-use Rattle.lane_stamps.specs.Marks.{AreLoaded, AreMarks, EachBelow, IsLoadedBy, IsMark, IsMarkAt, IsSlotAt}
-use Rattle.lane_stamps.specs.Marks.{LeaveMarks, LoadNoGreater, LoadsGreater, LoadsGreaterAt, MarksAt}
-use Rattle.lane_stamps.specs.Marks.{MarksOne, MarksOnly, half_for, mark_at, top_at}
-use Rattle.lane_stamps.proofs.MarkSteps.{before_mark, mark_above, mark_before}
+use Rattle.lane_stamps.specs.Stamps.{AreRanked, AreStale, IsBefore, Meets, WatchedOwn, WatchedUnmet, allowed, slot_of}
+use Rattle.lane_stamps.specs.Marks.{AreLoaded, AreMarks, EachBelow, IsLoadedBy, IsMark, IsMarkAt, IsSlotAt, LeaveMarks}
+use Rattle.lane_stamps.specs.Marks.{LoadNoGreater, LoadsGreater, LoadsGreaterAt, MarksAt, MarksOne, MarksOnly, half_for}
+use Rattle.lane_stamps.{specs.Marks.{mark_at, top_at}, proofs.MarkSteps.{before_mark, mark_above, mark_before}}
 
 -- one lane further
 pub marks_more : (halves : Bool) (mask : Mask) (places : Places) (lane top sites mark : ℕ) (first old new : List ℕ)

@@ -1,10 +1,7 @@
 -- Marks, one lane and one site further.
-use Rattle.std.proofs.Common.{◌≡◌, ℕ, ◌+◌, ◌*◌, ◌<◌, ◌≤◌, inl, inr}
-use Rattle.std.proofs.Common.{ap, arith}
+use Rattle.std.proofs.{Common.{◌≡◌, ℕ, ◌+◌, ◌*◌, ◌<◌, ◌≤◌, inl, inr, ap, arith}, lemmas.Bool.{cases_eq, cases_lt}}
 use Rattle.std.proofs.Math.Nat.{mul-le-mul_left, mul-add, mul-one}
-use Rattle.std.proofs.lemmas.Bool.{cases_eq, cases_lt}
-use Rattle.lane_stamps.specs.Stamps.{IsBefore}
-use Rattle.lane_stamps.specs.Marks.{mark_at, top_at}
+use Rattle.lane_stamps.specs.{Stamps.{IsBefore}, Marks.{mark_at, top_at}}
 
 -- a number of sites, times a lane that is earlier
 pub product_below : (sites lane count : ℕ) → lane ≤ count → sites * lane ≤ sites * count

@@ -1,17 +1,12 @@
 -- Ranks, one site further.
-use Rattle.std.proofs.Common.{◌≡◌, ℕ, zero, suc, ◌+◌, ◌<◌, ◌≤◌, List, [], ◌∷◌, length, set, slice_index_or}
-use Rattle.std.proofs.Common.{refl, sym, ◌∙◌, ap, subst, arith}
-use Rattle.std.specs.Prelude.{Bool, true, false, if◌then◌else◌}
+use Rattle.std.proofs.Common.{◌≡◌, ℕ, zero, suc, ◌+◌, ◌<◌, ◌≤◌, List, [], ◌∷◌, length, set, slice_index_or, refl, sym}
+use Rattle.std.{proofs.Common.{◌∙◌, ap, subst, arith}, specs.Prelude.{Bool, true, false, if◌then◌else◌}}
 use Rattle.std.proofs.lemmas.List.{get_or-set_other, get_or-set_same, length-set}
-use Rattle.loop_core_model.proofs.OneElement.{same_op}
-use Rattle.lane_stamps.specs.declared.kind.Kind.{Kind}
-use Rattle.loop_core_model.specs.declared.access.Access.{Access}
-use Rattle.loop_core_model.specs.declared.access.Access.TheVariants.{Reduce}
-use Rattle.loop_core_batch.specs.Kinds.{by_one_operator}
-use Rattle.lane_stamps.specs.declared.site.Site.{Site}
+use Rattle.loop_core_model.{proofs.OneElement.{same_op}, specs.declared.access.Access.{Access, TheVariants.{Reduce}}}
+use Rattle.loop_core_model.specs.Kinds.{by_one_operator}
+use Rattle.lane_stamps.{specs.declared.{kind.Kind.{Kind}, site.Site.{Site}}, proofs.StampSteps.{sites_more, pairs_more}}
 use Rattle.lane_stamps.specs.Sites.{LaneRows, effect_at, leaves, log_of, ranked_as, unranked}
 use Rattle.lane_stamps.specs.Stamps.{AreRanked, kind_by, last_kind, reduce_alike}
-use Rattle.lane_stamps.proofs.StampSteps.{sites_more, pairs_more}
 
 -- two that reduce by one operator make accesses of one kind
 same_kind : (a b : Access) → by_one_operator a b ≡ true → a ≡ b

@@ -1,30 +1,20 @@
 -- Lanes that meet no earlier one may go together.
 use Rattle.std.proofs.Common.{◌≡◌, ℕ, ◌<◌, ◌≤◌, Bool, true, false, inl, inr, List, [], ◌∷◌, length, slice_index}
-use Rattle.std.proofs.Common.{slice_index_or, refl, sym, ◌∙◌, ap, arith, suc}
-use Rattle.std.specs.Prelude.{Option, Some, None, IfSome, if◌then◌else◌}
-use Rattle.std.specs.List.{AllByRecursion, AllPairs}
-use Rattle.std.proofs.lemmas.Bool.{cases_eq}
+use Rattle.std.{proofs.Common.{slice_index_or, refl, sym, ◌∙◌, ap, arith, suc}, specs.List.{AllByRecursion, AllPairs}}
+use Rattle.std.{specs.Prelude.{Option, Some, None, IfSome, if◌then◌else◌}, proofs.lemmas.Bool.{cases_eq}}
 use Rattle.std.proofs.lemmas.List.Elements.{recursion_from_All}
-use Rattle.array_maps.specs.MapList.{AreWords}
-use Rattle.array_maps.specs.declared.access.Half.{Half}
-use Rattle.array_maps.specs.declared.access.Half.TheVariants.{Low}
-use Rattle.loop_core_model.specs.Kept.{OperatorsAssociate}
-use Rattle.loop_core_batch.specs.Kinds.{by_one_operator}
-use Rattle.loop_core_batch.specs.Kinds.{kind_leaves}
-use Rattle.loop_core_batch.specs.Effects.{Effect, deed_loads, deed_part, effects_of, kind_of_deed, SameIfLoaded}
-use Rattle.loop_core_batch.specs.Effects.{with_effect}
-use Rattle.loop_core_batch.specs.Effects.{words_after_each_lane}
-use Rattle.loop_core_batch.proofs.Sparing.{Spares, alone_spares, spared_before, fits_for, word_fits, length-before}
-use Rattle.loop_core_batch.proofs.EffectLaws.{Exchange, GoesFirst, EachGoesFirst, site_by_site, operators_exchange}
-use Rattle.loop_core_batch.proofs.EffectLaws.{first_keeps, second_keeps}
-use Rattle.lane_stamps.specs.declared.kind.Kind.{Kind}
-use Rattle.lane_stamps.specs.declared.kind.Kind.TheVariants.{Load, LoadHalf, Store, Fetch, Replace, FetchHalf}
-use Rattle.lane_stamps.specs.declared.kind.Kind.TheVariants.{AddHalf, Apply}
-use Rattle.lane_stamps.specs.declared.site.Site.{Site}
-use Rattle.lane_stamps.specs.Sites.{LaneRows, deed_by, done_by, effect_at, half_named, has, leaves, loads}
-use Rattle.lane_stamps.specs.Sites.{log_of, place_of, value_of}
+use Rattle.array_maps.specs.{MapList.{AreWords}, declared.access.Half.{Half, TheVariants.{Low}}}
+use Rattle.loop_core_model.specs.{Kept.{OperatorsAssociate}, Kinds.{by_one_operator, kind_leaves}}
+use Rattle.loop_core_model.specs.Effects.{Effect, deed_loads, deed_part, effects_of, kind_of_deed, SameIfLoaded}
+use Rattle.loop_core_model.specs.Effects.{with_effect, words_after_each_lane}
+use Rattle.loop_core_model.proofs.Sparing.{Spares, alone_spares, spared_before, fits_for, word_fits, length-before}
+use Rattle.loop_core_model.proofs.EffectLaws.{Exchange, GoesFirst, EachGoesFirst, site_by_site, operators_exchange}
+use Rattle.loop_core_model.proofs.EffectLaws.{first_keeps, second_keeps}
+use Rattle.lane_stamps.specs.declared.{kind.Kind.{Kind, TheVariants.{Apply}}, site.Site.{Site}}
+use Rattle.lane_stamps.specs.declared.kind.Kind.TheVariants.{Load, LoadHalf, Store, Fetch, Replace, FetchHalf, AddHalf}
+use Rattle.lane_stamps.specs.Sites.{LaneRows, deed_by, done_by, effect_at, half_named, has, leaves, loads, log_of}
+use Rattle.lane_stamps.{specs.Sites.{place_of, value_of}, proofs.HalfLaws.{apart_spares, apart_places}}
 use Rattle.lane_stamps.specs.Stamps.{AreRanked, GoTogether, NoneMeets, Unmet, allowed, reduce_alike}
-use Rattle.lane_stamps.proofs.HalfLaws.{apart_spares, apart_places}
 
 -- what a deed does is what its kind says
 deed_load : (kind : Kind) (half : Half) (value : ℕ) → deed_loads (deed_by kind half value) ≡ loads kind

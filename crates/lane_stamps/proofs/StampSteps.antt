@@ -1,16 +1,10 @@
 -- What stamps say, one site and one lane further.
-use Rattle.std.proofs.Common.{◌≡◌, ℕ, ◌+◌, ◌-◌, ◌<◌, ◌≤◌, inl, inr, List, length, slice_index, slice_index_or}
-use Rattle.std.proofs.Common.{refl, sym, ap, subst, arith, bit_and}
-use Rattle.std.specs.Prelude.{Bool, true, false, if◌then◌else◌}
-use Rattle.std.specs.List.{All, AllPairs}
-use Rattle.std.proofs.lemmas.Bool.{cases_eq}
-use Rattle.std.proofs.lemmas.List.{get_or_default}
-use Rattle.lane_stamps.specs.declared.site.Site.{Site}
-use Rattle.lane_stamps.specs.Sites.{LaneRows, leaves, loads}
+use Rattle.std.proofs.Common.{◌≡◌, ℕ, ◌+◌, ◌-◌, ◌<◌, ◌≤◌, inl, inr, List, length, slice_index, slice_index_or, refl}
+use Rattle.std.{proofs.Common.{sym, ap, subst, arith, bit_and}, specs.Prelude.{Bool, true, false, if◌then◌else◌}}
+use Rattle.std.{specs.List.{All, AllPairs}, proofs.lemmas.{Bool.{cases_eq}, List.{get_or_default}}}
+use Rattle.lane_stamps.specs.{declared.site.Site.{Site}, Sites.{LaneRows, leaves, loads}}
 use Rattle.lane_stamps.specs.Stamps.{AreFree, AreStamped, AreKnownApart, LoadsNoOwn, NoneAfterOwn, NoneMeets, Rises}
-use Rattle.lane_stamps.specs.Stamps.{Unmet}
-use Rattle.lane_stamps.specs.Stamps.{WatchedFree, WatchedStamped, WatchedOwn, WatchedUnmet}
-use Rattle.lane_stamps.specs.Stamps.{allowed, stamp_at}
+use Rattle.lane_stamps.specs.Stamps.{Unmet, WatchedFree, WatchedStamped, WatchedOwn, WatchedUnmet, allowed, stamp_at}
 
 -- what is so of the sites below one, and of that one, is so of one more
 pub sites_more : (P : Site → Type 0) (sites : List Site) (n : ℕ) (e : Site) → n < length sites

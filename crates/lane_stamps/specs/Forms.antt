@@ -1,9 +1,7 @@
 -- Forms of places.
 use Rattle.std.specs.Prelude.{◌≡◌, ℕ, ◌+◌, ◌*◌, ◌<◌, ◌≤◌, Bool, true}
-use Rattle.lane_rows.specs.declared.places.Places.{Places}
-use Rattle.lane_rows.specs.Rows.{place_at}
-use Rattle.lane_stamps.specs.declared.forms.Form.{Form}
-use Rattle.lane_stamps.specs.declared.forms.Form.TheVariants.{One, Run, Any}
+use Rattle.lane_rows.specs.{declared.places.Places.{Places}, Rows.{place_at}}
+use Rattle.lane_stamps.specs.declared.forms.Form.{Form, TheVariants.{One, Run, Any}}
 use Rattle.lane_stamps.specs.Sites.{element_named, half_named}
 
 -- the first lanes all have one place

@@ -1,13 +1,9 @@
 -- Marks of lanes at sites: where lanes load at all places at which they leave something, one look says who may go.
-use Rattle.std.specs.Prelude.{◌≡◌, ℕ, ◌+◌, ◌-◌, ◌*◌, ◌<◌, ◌≤◌, Bool, true, List, length, slice_index}
-use Rattle.std.specs.Prelude.{slice_index_or, if◌then◌else◌, ◌⊎◌}
-use Rattle.std.specs.List.{All}
-use Rattle.lane_rows.specs.Rows.{is_in, place_at}
-use Rattle.lane_rows.specs.declared.mask.Mask.{Mask}
-use Rattle.lane_rows.specs.declared.places.Places.{Places}
-use Rattle.lane_stamps.specs.declared.site.Site.{Site}
+use Rattle.std.specs.Prelude.{◌≡◌, ℕ, ◌+◌, ◌-◌, ◌*◌, ◌<◌, ◌≤◌, Bool, true, List, length, slice_index, slice_index_or}
+use Rattle.std.specs.{Prelude.{if◌then◌else◌, ◌⊎◌}, List.{All}}
+use Rattle.lane_rows.specs.{Rows.{is_in, place_at}, declared.{mask.Mask.{Mask}, places.Places.{Places}}}
+use Rattle.lane_stamps.specs.{declared.site.Site.{Site}, Stamps.{slot_of, stamp_at}}
 use Rattle.lane_stamps.specs.Sites.{LaneRows, has, is_of_halves, leaves, loads, mask_of, place_of, places_of}
-use Rattle.lane_stamps.specs.Stamps.{slot_of, stamp_at}
 
 -- the first lanes, where they are in a mask, have the same place in both
 abbrev pub ArePlacedAlike : Mask → (first second : Places) → (count : ℕ) → Type 0

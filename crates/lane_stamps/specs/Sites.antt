@@ -1,22 +1,14 @@
 -- What the lanes of a batch do at its sites.
 use Rattle.std.specs.Prelude.{◌≡◌, ℕ, ◌/◌, ◌%◌, ◌<◌, ◌==◌, Bool, true, false, List, [], map, length, slice_index_or}
 use Rattle.std.specs.Prelude.{Option, Some, None, if◌then◌else◌}
-use Rattle.array_maps.specs.declared.access.Half.{Half}
-use Rattle.array_maps.specs.declared.access.Half.TheVariants.{Low, High}
-use Rattle.array_maps.specs.declared.access.Part.TheVariants.{Whole, Half as Of}
-use Rattle.array_maps.specs.declared.access.Op.TheVariants.{AddH}
-use Rattle.array_maps.specs.Halves.{half_of, with_half}
-use Rattle.loop_core_batch.specs.Effects.{Deed, Load as Loads, Store as Stores, Fetch as Fetches, Replace as Replaces}
-use Rattle.loop_core_batch.specs.Effects.{Apply as Applies, Effect, EffectLog}
-use Rattle.lane_rows.specs.declared.mask.Mask.{Mask}
-use Rattle.lane_rows.specs.declared.places.Places.{Places}
-use Rattle.lane_rows.specs.declared.row.Row.{Row}
+use Rattle.array_maps.specs.declared.access.{Half.{Half, TheVariants.{Low, High}}, Part.TheVariants.{Whole, Half as Of}}
+use Rattle.array_maps.specs.{declared.access.Op.TheVariants.{AddH}, Halves.{half_of, with_half}}
+use Rattle.loop_core_model.specs.Effects.{Deed, Load as Loads, Store as Stores, Fetch as Fetches, Replace as Replaces}
+use Rattle.loop_core_model.specs.Effects.{Apply as Applies, Effect, EffectLog}
+use Rattle.lane_rows.specs.declared.{mask.Mask.{Mask}, places.Places.{Places}, row.Row.{Row}}
 use Rattle.lane_rows.specs.Rows.{is_in, place_at, word_at}
-use Rattle.lane_stamps.specs.declared.kind.Kind.{Kind}
-use Rattle.lane_stamps.specs.declared.kind.Kind.TheVariants.{Load, LoadHalf, Store, Fetch, Replace, FetchHalf}
-use Rattle.lane_stamps.specs.declared.kind.Kind.TheVariants.{AddHalf, Apply}
-use Rattle.lane_stamps.specs.declared.site.Lanes.{Lanes}
-use Rattle.lane_stamps.specs.declared.site.Site.{Site}
+use Rattle.lane_stamps.specs.declared.{kind.Kind.{Kind, TheVariants.{Apply}}, site.{Lanes.{Lanes}, Site.{Site}}}
+use Rattle.lane_stamps.specs.declared.kind.Kind.TheVariants.{Load, LoadHalf, Store, Fetch, Replace, FetchHalf, AddHalf}
 
 -- lanes go on with what they find
 abbrev pub loads : Kind → Bool

@@ -1,15 +1,11 @@
 -- Which lanes may go together, and what stamps say of it.
 use Rattle.std.specs.Prelude.{◌≡◌, ℕ, ◌+◌, ◌-◌, ◌<◌, ◌≤◌, Bool, true, false, List, length, slice_index, slice_index_or}
-use Rattle.std.specs.Prelude.{if◌then◌else◌, bit_and, ◌⊎◌}
-use Rattle.std.specs.List.{All, AllPairs}
-use Rattle.array_maps.specs.MapList.{AreWords}
-use Rattle.array_maps.specs.declared.access.Half.TheVariants.{Low}
-use Rattle.loop_core_model.specs.declared.access.Access.{Access}
-use Rattle.loop_core_batch.specs.Kinds.{by_one_operator}
-use Rattle.loop_core_batch.specs.Effects.{EffectLog, effects_of, kind_of_deed, words_after_site_effects}
-use Rattle.loop_core_batch.specs.Effects.{words_after_each_lane, LoadsSame}
-use Rattle.lane_stamps.specs.declared.kind.Kind.{Kind}
-use Rattle.lane_stamps.specs.declared.site.Site.{Site}
+use Rattle.std.specs.{Prelude.{if◌then◌else◌, bit_and, ◌⊎◌}, List.{All, AllPairs}}
+use Rattle.array_maps.specs.{MapList.{AreWords}, declared.access.Half.TheVariants.{Low}}
+use Rattle.loop_core_model.specs.{declared.access.Access.{Access}, Kinds.{by_one_operator}}
+use Rattle.loop_core_model.specs.Effects.{EffectLog, effects_of, kind_of_deed, words_after_site_effects}
+use Rattle.loop_core_model.specs.Effects.{words_after_each_lane, LoadsSame}
+use Rattle.lane_stamps.specs.declared.{kind.Kind.{Kind}, site.Site.{Site}}
 use Rattle.lane_stamps.specs.Sites.{LaneRows, Covers, Touches, deed_by, leaves, loads}
 
 -- the first lanes may go together: on any words each loads the same after those before it, and site by site they leave

@@ -3,15 +3,13 @@
 ghost use Rattle.std.specs.Prelude.{◌≡◌, ℕ, ◌+◌, ◌<◌, ◌≤◌, true, false, length, slice_index, if◌then◌else◌};
 ghost use Rattle.std.specs.List.{All};
 ghost use Rattle.array_maps.specs.Accesses.{left_by};
-ghost use Rattle.loop_core_batch.specs.Effects.{action_on, words_after_any_effect, words_after_each_lane};
-ghost use Rattle.loop_core_batch.specs.Effects.{words_after_lane_effects};
-ghost use Rattle.lane_rows.specs.Rows.{is_in, line_word};
+ghost use Rattle.loop_core_model.specs.Effects.{action_on, words_after_any_effect, words_after_each_lane};
+ghost use Rattle.loop_core_model.specs.Effects.{words_after_lane_effects};
+ghost use Rattle.lane_rows.specs.{Rows.{is_in, line_word}, declared.places.Places.{Places}};
 ghost use Rattle.lane_stamps.specs.Sites.{HasRows, IsWithin, LiesBelow, deed_by, effect_at, effect_if, element_named};
-ghost use Rattle.lane_stamps.specs.Sites.{half_named, is_of_halves, log_of, shown};
-ghost use Rattle.lane_rows.specs.declared.places.Places.{Places};
+ghost use Rattle.lane_stamps.specs.{Sites.{half_named, is_of_halves, log_of, shown}, Stamps.{GoTogether}};
 ghost use Rattle.lane_stamps.specs.declared.kind.Kind.TheVariants.{Apply};
 ghost use Rattle.lane_stamps.specs.Forms.{HalvesFrom, IsPairAt, IsPlace, RunsFrom};
-ghost use Rattle.lane_stamps.specs.Stamps.{GoTogether};
 
 use crate::blending::replaced;
 use crate::forms::{Form, element_of, form_of, halves_from};

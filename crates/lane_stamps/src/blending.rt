@@ -1,8 +1,7 @@
 //! Halves that are replaced, by one line.
 
 ghost use Rattle.std.specs.Prelude.{◌≡◌};
-ghost use Rattle.array_maps.specs.Halves.{half_of, with_half};
-ghost use Rattle.array_maps.specs.declared.access.Half.TheVariants.{Low};
+ghost use Rattle.array_maps.specs.{Halves.{half_of, with_half}, declared.access.Half.TheVariants.{Low}};
 ghost use Rattle.lane_stamps.specs.Sites.{half_named};
 
 /// The lower half of a word.

@@ -1,7 +1,6 @@
 //! Sites at which lanes load wherever they leave something: then looks where they load are enough.
 
-ghost use Rattle.std.specs.Prelude.{◌≡◌, ℕ, ◌<◌, ◌≤◌, true, slice_index};
-ghost use Rattle.std.specs.List.{All};
+ghost use Rattle.std.specs.{Prelude.{◌≡◌, ℕ, ◌<◌, ◌≤◌, true, slice_index}, List.{All}};
 ghost use Rattle.lane_rows.specs.Rows.{is_in};
 ghost use Rattle.lane_stamps.specs.Sites.{HasRows, leaves, shown};
 ghost use Rattle.lane_stamps.specs.Marks.{AreLoaded, ArePlacedAlike, EachThere, IsLoaded, IsLoadedBy, IsPlain};
@@ -11,6 +10,7 @@ use crate::site::{Lanes, Site};
 use lane_rows::{Mask, Places, is_empty};
 
 /// Whether the first lanes, where they are in a mask, have the same numbers in both arrays.
+// Not inlined: its loop would spill the registers of the caller's.
 #[inline(never)]
 fn are_equal(mask: &Mask, first: &[u32; 256], second: &[u32; 256], count: usize) -> bool
     requires { count ≤ 256 }

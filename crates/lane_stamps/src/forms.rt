@@ -1,8 +1,7 @@
 //! Forms of places.
 
 ghost use Rattle.std.specs.Prelude.{◌≡◌, ◌+◌, ◌≤◌, IfSome};
-ghost use Rattle.lane_stamps.specs.Sites.{element_named};
-ghost use Rattle.lane_stamps.specs.Forms.{HalvesFrom, IsFormOf};
+ghost use Rattle.lane_stamps.specs.{Sites.{element_named}, Forms.{HalvesFrom, IsFormOf}};
 
 use lane_rows::Places;
 

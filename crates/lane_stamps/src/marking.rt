@@ -1,11 +1,9 @@
 //! Marks of what lanes leave, site by site. The earlier the access, the greater its mark, and a half keeps the
 //! greatest: so its stamp alone says to a lane that loads it whether it was left before.
 
-ghost use Rattle.std.specs.Prelude.{◌≡◌, ℕ, ◌+◌, ◌*◌, ◌<◌, ◌≤◌, ◌^◌, true, false, length};
-ghost use Rattle.std.specs.List.{All};
+ghost use Rattle.std.specs.{Prelude.{◌≡◌, ℕ, ◌+◌, ◌*◌, ◌<◌, ◌≤◌, ◌^◌, true, false, length}, List.{All}};
 ghost use Rattle.lane_rows.specs.Rows.{is_in, place_at};
-ghost use Rattle.lane_stamps.specs.Sites.{HasRows, shown};
-ghost use Rattle.lane_stamps.specs.Stamps.{AreStale, Rises, stamp_at};
+ghost use Rattle.lane_stamps.specs.{Sites.{HasRows, shown}, Stamps.{AreStale, Rises, stamp_at}};
 ghost use Rattle.lane_stamps.specs.Marks.{AreMarked, AreMarks, FindNoGreater, FindsGreater, LeaveMarks, LeavesMarks};
 ghost use Rattle.lane_stamps.specs.Marks.{LoadNoGreater, LoadsGreater, LoadsGreaterAt, LoadsNoGreater, MarksAt};
 ghost use Rattle.lane_stamps.specs.Marks.{MarksOne, MarksOnly, half_for, mark_at, top_at};
@@ -69,6 +67,7 @@ fn mark_of(top: u16, sites: usize, lane: usize, count: usize) -> u16
 }
 
 /// Marks the places of all lanes of a mask.
+// Not inlined: its loop would spill the registers of the caller's.
 #[inline(never)]
 fn mark_lanes(
     halves: bool,
@@ -122,6 +121,7 @@ fn finds_greater(
 }
 
 /// How many lanes go before the first of a mask that finds a greater mark than its own at its place.
+// Not inlined: its loop would spill the registers of the caller's.
 #[inline(never)]
 fn look_lanes(
     halves: bool,

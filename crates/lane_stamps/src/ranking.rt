@@ -1,8 +1,7 @@
 //! The ranks of sites.
 
 ghost use Rattle.std.specs.Prelude.{◌≡◌, ◌+◌, ◌<◌, ◌≤◌, ◌^◌, true, length, slice_index_or, slice_set};
-ghost use Rattle.lane_stamps.specs.Sites.{LaneRows, leaves, log_of, ranked_as, unranked};
-ghost use Rattle.lane_stamps.specs.declared.site.Site.{Site};
+ghost use Rattle.lane_stamps.specs.{Sites.{LaneRows, leaves, log_of, ranked_as, unranked}, declared.site.Site.{Site}};
 ghost use Rattle.lane_stamps.specs.Stamps.{AreRanked, last_kind, reduce_alike};
 
 use crate::kind::Kind;

@@ -1,9 +1,7 @@
 //! Stamps from turn to turn.
 
-ghost use Rattle.std.specs.Prelude.{◌≡◌, ℕ, ◌+◌, ◌*◌, ◌<◌, ◌≤◌, ◌^◌, length};
-ghost use Rattle.std.specs.List.{All, AllPairs};
-ghost use Rattle.lane_stamps.specs.Sites.{HasRows, log_of, shown};
-ghost use Rattle.lane_stamps.specs.Marks.{AreLoaded};
+ghost use Rattle.std.specs.{Prelude.{◌≡◌, ℕ, ◌+◌, ◌*◌, ◌<◌, ◌≤◌, ◌^◌, length}, List.{All, AllPairs}};
+ghost use Rattle.lane_stamps.specs.{Sites.{HasRows, log_of, shown}, Marks.{AreLoaded}};
 ghost use Rattle.lane_stamps.specs.Stamps.{AreKnownApart, AreLinks, AreRanked, AreStale, GoTogether, Meets};
 ghost use Rattle.lane_stamps.specs.Stamps.{NoneAfterOwn, NoneMeets, WatchedOwn, WatchedUnmet};
 

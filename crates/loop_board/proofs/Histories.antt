@@ -1,13 +1,11 @@
 -- Lemmas on the histories of all seats: their least post, and who drew which block.
-use Rattle.std.proofs.Common.{◌≡◌, ◌⊎◌, ℕ, zero, suc, ◌<◌, ◌≤◌, ◌||◌, Bool, true, false, IsTrue, List, [], ◌∷◌}
-use Rattle.std.proofs.Common.{length, slice_index_or, inl, inr, ⊎_elim, refl, sym, ap, ◌∙◌, subst, arith}
+use Rattle.std.proofs.Common.{◌≡◌, ◌⊎◌, ℕ, zero, suc, ◌<◌, ◌≤◌, ◌||◌, Bool, true, false, IsTrue, List, [], ◌∷◌, length}
+use Rattle.std.proofs.Common.{slice_index_or, inl, inr, ⊎_elim, refl, sym, ap, ◌∙◌, subst, arith}
 use Rattle.std.proofs.lemmas.Bool.{cases_lt}
-use Rattle.loop_board.specs.Sums.{times}
-use Rattle.loop_board.specs.Draws.{drawn_by, LegalDraws}
-use Rattle.loop_board.specs.History.{History, Legal, IsLeast, nothing_done, no_post, least_index_in}
-use Rattle.loop_board.specs.History.{least_post, times_posted, some_found_none}
-use Rattle.loop_board.proofs.Sums.{times_first, times_more, some_in_total, one_in_total}
-use Rattle.loop_board.proofs.Sums.{two_in_total, below_from_once, once_below-below}
+use Rattle.loop_board.specs.{Sums.{times}, Draws.{drawn_by, LegalDraws}, History.{times_posted, some_found_none}}
+use Rattle.loop_board.specs.History.{History, Legal, IsLeast, nothing_done, no_post, least_index_in, least_post}
+use Rattle.loop_board.proofs.Sums.{times_first, times_more, some_in_total, one_in_total, two_in_total, below_from_once}
+use Rattle.loop_board.proofs.Sums.{once_below-below}
 
 -- the least of a list is at most each index in it
 least_in_below : (x : ℕ) (ps : List ℕ) → 0 < times x ps → least_index_in ps ≤ x

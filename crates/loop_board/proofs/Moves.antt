@@ -1,21 +1,15 @@
 -- Each of the three kinds of step keeps the rule, and says what it is said to tell.
-use Rattle.std.proofs.Common.{Bool, true, false, ◌≡◌, ◌≢◌, ◌⊎◌, ℕ, ◌+◌, ◌%◌, ◌^◌, ◌<◌, ◌≤◌, ◌==◌}
-use Rattle.std.proofs.Common.{if◌then◌else◌, min, List, [], ◌∷◌, ◌++◌, set, slice_index, slice_set}
-use Rattle.std.proofs.Common.{inl, inr, ⊎_elim, refl, sym, ap, subst, arith, All}
-use Rattle.std.proofs.lemmas.Bool.{cases_lt}
-use Rattle.std.proofs.lemmas.Bool.Decides.{nat_tests}
+use Rattle.std.proofs.Common.{Bool, true, false, ◌≡◌, ◌≢◌, ◌⊎◌, ℕ, ◌+◌, ◌%◌, ◌^◌, ◌<◌, ◌≤◌, ◌==◌, if◌then◌else◌, min}
+use Rattle.std.proofs.Common.{List, [], ◌∷◌, ◌++◌, set, slice_index, slice_set, inl, inr, ⊎_elim, refl, sym, ap, subst}
+use Rattle.std.proofs.{Common.{arith, All}, lemmas.Bool.{cases_lt, Decides.{nat_tests}}}
 use mathlib.Core.Option.{some}
 use lib.ListN.{get_elem?}
-use Rattle.atomic_table.specs.Table.{Me, Act, keeps, Valid, stepped, carried_after, Allows}
-use Rattle.atomic_table.proofs.Lists.{at_set}
-use Rattle.loop_board.specs.declared.view.Extent.{Extent}
-use Rattle.loop_board.specs.declared.view.SeatView.{SeatView}
-use Rattle.loop_board.specs.Sums.{times, once_below}
-use Rattle.loop_board.specs.History.{no_post, most_index, IsIndexOrNone, IsLeast}
+use Rattle.atomic_table.{specs.Table.{Me, Act, keeps, Valid, stepped, carried_after, Allows}, proofs.Lists.{at_set}}
+use Rattle.loop_board.specs.{declared.view.{Extent.{Extent}, SeatView.{SeatView}}, Sums.{times, once_below}}
+use Rattle.loop_board.{specs.History.{no_post, most_index, IsIndexOrNone, IsLeast}, proofs.Sums.{below_from_once}}
 use Rattle.loop_board.specs.Rule.{spent_view, ViewFits, Agrees, BoardInvariant, Claims, Looks, Turns, posted_in}
 use Rattle.loop_board.specs.Rule.{seen_in, with_draw, with_none, with_look, with_post, IsWorkers}
-use Rattle.loop_board.proofs.Sums.{total-set, le_total, total_le, times-push, All-times}
-use Rattle.loop_board.proofs.Sums.{once_below-next, below_from_once}
+use Rattle.loop_board.proofs.Sums.{total-set, le_total, total_le, times-push, All-times, once_below-next}
 
 abbrev V : Type 0
 V = SeatView

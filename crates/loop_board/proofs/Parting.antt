@@ -1,18 +1,13 @@
 -- A seat is cut in two, or two are made one: the sums over all views stay as they are, and so does the rule.
-use Rattle.std.proofs.Common.{◌≡◌, ◌≢◌, ◌⊎◌, ℕ, ◌+◌, ◌<◌, List, [], ◌∷◌, ◌++◌, set}
-use Rattle.std.proofs.Common.{inl, inr, ⊎_elim, refl, sym, ◌∙◌, subst, arith}
+use Rattle.std.proofs.Common.{◌≡◌, ◌≢◌, ◌⊎◌, ℕ, ◌+◌, ◌<◌, List, [], ◌∷◌, ◌++◌, set, inl, inr, ⊎_elim, refl, sym, ◌∙◌}
+use Rattle.std.proofs.Common.{subst, arith}
 use mathlib.Core.Option.{some}
 use lib.ListN.{get_elem?}
-use Rattle.atomic_table.specs.Table.{Splits, Joins}
-use Rattle.atomic_table.proofs.Lists.{at_set, at_snoc}
-use Rattle.loop_board.specs.declared.view.Extent.{Extent}
-use Rattle.loop_board.specs.declared.view.SeatView.{SeatView}
-use Rattle.loop_board.specs.Sums.{total, times}
-use Rattle.loop_board.specs.History.{no_post}
-use Rattle.loop_board.specs.Rule.{spent_view, opening_view, ViewFits, Agrees, BoardInvariant, parts_of}
-use Rattle.loop_board.specs.Rule.{nones_of, drawn_in, posted_in, seen_in, less_a_part, together}
-use Rattle.loop_board.proofs.Sums.{total-set, total-push, times-append}
-use Rattle.loop_board.proofs.Moves.{of_board, fits_set, least_as}
+use Rattle.atomic_table.{specs.Table.{Splits, Joins}, proofs.Lists.{at_set, at_snoc}}
+use Rattle.loop_board.specs.{declared.view.{Extent.{Extent}, SeatView.{SeatView}}, Sums.{total, times}}
+use Rattle.loop_board.specs.{History.{no_post}, Rule.{drawn_in, posted_in, seen_in, less_a_part, together}}
+use Rattle.loop_board.specs.Rule.{spent_view, opening_view, ViewFits, Agrees, BoardInvariant, parts_of, nones_of}
+use Rattle.loop_board.proofs.{Sums.{total-set, total-push, times-append}, Moves.{of_board, fits_set, least_as}}
 
 abbrev V : Type 0
 V = SeatView

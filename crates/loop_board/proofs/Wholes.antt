@@ -1,22 +1,16 @@
 -- All seats become one, which then knows the sums over all of them, and what the two words have to do with these.
-use Rattle.std.proofs.Common.{Some, append_assoc, ◌≡◌, ◌⊎◌, ℕ, zero, suc, ◌+◌, ◌<◌, ◌≤◌, min, Bool, true, false}
-use Rattle.std.proofs.Common.{IsTrue, List, [], ◌∷◌, ◌++◌, All, ⊎_elim, refl, sym, ap, ◌∙◌, subst, arith}
+use Rattle.std.proofs.Common.{Some, append_assoc, ◌≡◌, ◌⊎◌, ℕ, zero, suc, ◌+◌, ◌<◌, ◌≤◌, min, Bool, true, false, IsTrue}
+use Rattle.std.proofs.Common.{List, [], ◌∷◌, ◌++◌, All, ⊎_elim, refl, sym, ap, ◌∙◌, subst, arith}
 use mathlib.Core.Option.{some, some-injective, some-ne-none}
 use lib.ListN.{get_elem?}
-use Rattle.atomic_table.specs.Seated.{TableId}
-use Rattle.atomic_table.specs.Table.{Me, Final, Seen}
-use Rattle.loop_board.specs.declared.view.Extent.{Extent}
-use Rattle.loop_board.specs.declared.view.SeatView.{SeatView}
-use Rattle.loop_board.specs.Sums.{total, times}
+use Rattle.atomic_table.specs.{Seated.{TableId}, Table.{Me, Final, Seen}}
+use Rattle.loop_board.specs.{declared.view.{Extent.{Extent}, SeatView.{SeatView}}, Sums.{total, times}}
 use Rattle.loop_board.specs.History.{Legal, no_post, least_post, times_posted, some_found_none}
-use Rattle.loop_board.specs.Seats.{BoardId, SeatRecord, histories}
-use Rattle.loop_board.specs.Rule.{spent_view, ViewFits, Agrees, BoardInvariant, IsWorkers, parts_of}
-use Rattle.loop_board.specs.Rule.{posted_in, together, board_id_of, seat_record}
-use Rattle.loop_board.specs.Whole.{IsWhole, IsTally}
-use Rattle.loop_board.proofs.Sums.{le_total, times-append}
+use Rattle.loop_board.specs.{Seats.{BoardId, SeatRecord, histories}, Rule.{together, board_id_of, seat_record}}
+use Rattle.loop_board.specs.Rule.{spent_view, ViewFits, Agrees, BoardInvariant, IsWorkers, parts_of, posted_in}
+use Rattle.loop_board.{specs.Whole.{IsWhole, IsTally}, proofs.Sums.{le_total, times-append}}
+use Rattle.loop_board.proofs.{Histories.{least_post_is, one_least}, Moves.{least_as, least_index}}
 use Rattle.std.proofs.lemmas.List.Elements.{All-pop}
-use Rattle.loop_board.proofs.Histories.{least_post_is, one_least}
-use Rattle.loop_board.proofs.Moves.{least_as, least_index}
 
 abbrev V : Type 0
 V = SeatView

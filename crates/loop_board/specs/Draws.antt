@@ -1,7 +1,6 @@
 -- Who drew which block.
 use Rattle.std.specs.Prelude.{◌≡◌, ℕ, ◌<◌, true, List, length, slice_index_or}
-use Rattle.loop_board.specs.Sums.{times}
-use Rattle.loop_board.specs.History.{History, Legal, nothing_done}
+use Rattle.loop_board.specs.{Sums.{times}, History.{History, Legal, nothing_done}}
 
 -- how often a seat drew a block
 abbrev pub drawn_by : List History → (seat block : ℕ) → ℕ

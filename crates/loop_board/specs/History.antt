@@ -1,6 +1,5 @@
 -- What the seats of a board drew, posted and saw, and which histories are legal.
-use Rattle.std.specs.Prelude.{◌≡◌, ℕ, ◌<◌, ◌≤◌, ◌⊎◌, min, Bool, false, List, [], ◌∷◌, IsTrue}
-use Rattle.std.specs.List.{list_any}
+use Rattle.std.specs.{Prelude.{◌≡◌, ℕ, ◌<◌, ◌≤◌, ◌⊎◌, min, Bool, false, List, [], ◌∷◌, IsTrue}, List.{list_any}}
 use Rattle.loop_board.specs.Sums.{total, times, once_below}
 
 -- one seat's history: the block numbers that it drew and whether it found none, the indices that it posted, and the

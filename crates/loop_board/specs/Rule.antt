@@ -1,13 +1,10 @@
--- The rule of the two words: how they and the views of all seats hang together, and what each step tells its seat.
+-- The rule of the two words: how they and the views of all seats hang together, and what its seat learns by each step.
 -- Word 0 is the next block, and word 1 the least index posted.
 use Rattle.std.specs.Prelude.{◌≡◌, ℕ, ◌+◌, ◌-◌, ◌<◌, ◌≤◌, ◌⊎◌, min, Bool, List, [], ◌∷◌, ◌++◌, All, if◌then◌else◌}
 use mathlib.Core.Option.{some}
 use lib.ListN.{get_elem?}
-use Rattle.atomic_table.specs.Seated.{TableId}
-use Rattle.atomic_table.specs.Table.{State, Me}
-use Rattle.loop_board.specs.declared.view.Extent.{Extent}
-use Rattle.loop_board.specs.declared.view.SeatView.{SeatView}
-use Rattle.loop_board.specs.Sums.{total, times, once_below}
+use Rattle.atomic_table.specs.{Seated.{TableId}, Table.{State, Me}}
+use Rattle.loop_board.specs.{declared.view.{Extent.{Extent}, SeatView.{SeatView}}, Sums.{total, times, once_below}}
 use Rattle.loop_board.specs.History.{no_post, most_index, IsIndexOrNone, IsLeast}
 use Rattle.loop_board.specs.Seats.{BoardId, SeatRecord, IsWithinLimits}
 

@@ -1,11 +1,8 @@
 -- The seat that took in all others: what it knows of them, and of the two words at the end.
 use Rattle.std.specs.Prelude.{◌≡◌, ℕ, ◌<◌, ◌≤◌, ◌⊎◌, List, length, IsTrue}
-use Rattle.loop_board.specs.declared.view.Extent.{Extent}
-use Rattle.loop_board.specs.declared.view.SeatView.{SeatView}
-use Rattle.loop_board.specs.Sums.{times, once_below}
-use Rattle.loop_board.specs.History.{no_post, IsIndexOrNone, IsLeast, times_drawn}
-use Rattle.loop_board.specs.History.{times_posted, times_seen, some_found_none}
-use Rattle.loop_board.specs.Seats.{SeatRecord, histories}
+use Rattle.loop_board.specs.{declared.view.{Extent.{Extent}, SeatView.{SeatView}}, Sums.{times, once_below}}
+use Rattle.loop_board.specs.History.{no_post, IsIndexOrNone, IsLeast, times_drawn, times_posted, times_seen}
+use Rattle.loop_board.specs.{History.{some_found_none}, Seats.{SeatRecord, histories}}
 
 -- the view has what all of these seats did, and a part for each
 pub record IsWhole (v : SeatView) (seats : List SeatRecord) : Type 0 where

@@ -1,10 +1,9 @@
 //! The board itself: claims, looks, posts, and the tally at the end.
 
-ghost use Rattle.std.specs.Prelude.{◌≡◌, ◌<◌, ◌≤◌, ◌↔◌, [], replicate, vec_len, All, IsTrue};
-ghost use Rattle.std.specs.Prelude.{IsNone, IfSome, IfNone, IfOk, IfErr, OnOk};
-ghost use Rattle.loop_board.specs.History.{IsIndexOrNone, Legal, least_post};
-ghost use Rattle.loop_board.specs.Seats.{IsWithinLimits, new_seat, after_draw, after_none};
-ghost use Rattle.loop_board.specs.Seats.{after_look, after_post, histories};
+ghost use Rattle.std.specs.Prelude.{◌≡◌, ◌<◌, ◌≤◌, ◌↔◌, [], replicate, vec_len, All, IsTrue, IsNone, IfSome, IfNone};
+ghost use Rattle.std.specs.Prelude.{IfOk, IfErr, OnOk};
+ghost use Rattle.loop_board.specs.{History.{IsIndexOrNone, Legal, least_post}, Seats.{histories}};
+ghost use Rattle.loop_board.specs.Seats.{IsWithinLimits, new_seat, after_draw, after_none, after_look, after_post};
 
 use crate::dealing::deal;
 use crate::error::BoardError;
@@ -37,8 +36,7 @@ pub struct Board {
 }
 
 impl Model for Board {
-    ghost use Rattle.loop_board.specs.Seats.{BoardId};
-    ghost use Rattle.loop_board.specs.Rule.{board_id_of, IsBoards};
+    ghost use Rattle.loop_board.specs.{Seats.{BoardId}, Rule.{board_id_of, IsBoards}};
 
     ghost Value = { BoardId };
 
@@ -56,7 +54,7 @@ fn is_within_limits(blocks: u32, workers: u32) -> bool
 
 impl Board {
     /// A board of 1 to 64 blocks, and one seat for each of 1 to 16 workers.
-    /// B1 (`Limits`) where a limit is broken; `Memory` where a growth was refused.
+    /// B1 (`Limits`) where a limit is broken; `Memory` where an allocation was refused.
     pub fn new(
         alloc: Global,
         blocks: u32,

@@ -1,8 +1,7 @@
 //! How a board's first seat is cut into one seat a worker.
 
 ghost use Rattle.std.specs.Prelude.{◌≡◌, ◌<◌, ◌≤◌, [], replicate, vec_len, vec_capacity};
-ghost use Rattle.loop_board.specs.Rule.{opening_view, board_id_of};
-ghost use Rattle.loop_board.specs.Seats.{new_seat};
+ghost use Rattle.loop_board.specs.{Rule.{opening_view, board_id_of}, Seats.{new_seat}};
 
 use crate::rule::{BoardWords, OnePart, TableSeat};
 use crate::seat::BoardSeat;

@@ -11,7 +11,7 @@ pub enum BoardError {
     /// B2: fewer seats came back than the board has workers.
     #[error("B2: fewer seats than workers")]
     Seats,
-    /// A growth was refused: there was no memory.
+    /// An allocation was refused: there was no memory.
     #[error("out of memory")]
     Memory,
 }

@@ -1,8 +1,7 @@
 //! How the seats of a board become one again, which knows the whole, and what the two words tell it at the end.
 
 ghost use Rattle.std.specs.Prelude.{◌≡◌, ◌<◌, ◌≤◌, [], All, vec_len};
-ghost use Rattle.loop_board.specs.Rule.{board_id_of};
-ghost use Rattle.loop_board.specs.Whole.{IsWhole, IsTally};
+ghost use Rattle.loop_board.specs.{Rule.{board_id_of}, Whole.{IsWhole, IsTally}};
 
 use crate::rule::{BoardTable, BoardWords, TableSeat, Whole};
 use crate::seat::BoardSeat;

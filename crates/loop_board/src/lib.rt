@@ -30,7 +30,7 @@ pub use board::{Board, Tally};
 pub use error::BoardError;
 pub use seat::BoardSeat;
 
-/// The law of draws: of legal histories, as those that `Board::gather` tells of, each claimed block was
+/// The law of draws: of legal histories, as those that `Board::gather` gives, each claimed block was
 /// drawn by one seat, once, and by no other; and all blocks were claimed where a seat found none.
 /// Nothing runs here: the contract is the law.
 pub fn law_of_draws()

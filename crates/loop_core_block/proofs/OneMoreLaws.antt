@@ -1,20 +1,14 @@
 -- One iteration more.
 use Rattle.std.proofs.Common.{◌≡◌, ℕ, ◌+◌, ◌==◌, Bool, List, [], ◌∷◌, ◌++◌, length, sym, ◌∙◌, ap, subst, arith}
 use Rattle.std.proofs.lemmas.List.{map-append, length-map, length-append}
-use Rattle.array_maps.specs.Accesses.{Access}
-use Rattle.array_maps.specs.Store.{Effects}
-use Rattle.bpf_step_model.specs.Run.{Ended}
-use Rattle.bpf_step_model.specs.Iteration.{Iterated, iteration}
+use Rattle.array_maps.specs.{Accesses.{Access}, Store.{Effects}}
+use Rattle.bpf_step_model.specs.{Run.{Ended}, Iteration.{Iterated, iteration}}
 use Rattle.loop_core_model.specs.LeastBreak.{accesses_of_each}
-use Rattle.shadow_marks.specs.Standing.{StandFor}
-use Rattle.shadow_marks.specs.Ending.{KeepsShape}
-use Rattle.private_copy.specs.declared.private.Private.{Private}
-use Rattle.private_copy.specs.Copies.{CopyRecords, CopyRecordsWithin}
-use Rattle.private_copy.specs.CopyLaw.{AccessEffect, AccessesFollow}
-use Rattle.private_copy.specs.Shown.{copy_of, IsBegun, IsEnded}
+use Rattle.shadow_marks.specs.{Standing.{StandFor}, Ending.{KeepsShape}}
+use Rattle.private_copy.specs.{declared.private.Private.{Private}, Copies.{CopyRecords, CopyRecordsWithin}}
+use Rattle.private_copy.specs.{CopyLaw.{AccessEffect, AccessesFollow}, Shown.{copy_of, IsBegun, IsEnded}}
 use Rattle.private_copy.specs.Visits.{visits_of}
-use Rattle.loop_core_block.specs.declared.runner.Runner.{Runner}
-use Rattle.loop_core_block.specs.Runs.{start_words, RunnerHasRun, RanOneMore}
+use Rattle.loop_core_block.specs.{declared.runner.Runner.{Runner}, Runs.{start_words, RunnerHasRun, RanOneMore}}
 
 -- accesses don't end the iteration under way
 pub still_under_way : (old new : Private) (more : List Access) → Effects AccessEffect old more new
@@ -32,14 +26,14 @@ module _ (law : AccessesFollow) (old new : Runner) (index need : ℕ) (begun run
     (begins : IsBegun (copy_of old.copy) need (copy_of begun))
     (within : (runs : List (List Access)) → CopyRecords (copy_of old.copy) runs → CopyRecordsWithin (copy_of begun) runs
     [])
-    (told : iteration old.callback.program 4096 old.callback.call index (start_words old) ≡ Ended it)
+    (iterated : iteration old.callback.program 4096 old.callback.call index (start_words old) ≡ Ended it)
     (effects : Effects AccessEffect begun it.accesses run)
     (callback : new.callback ≡ old.callback) (most : new.most ≡ old.most)
     (ended : IsEnded (copy_of run) (copy_of new.copy)) (shape : KeepsShape old.planes new.planes)
     (planes : (first : ℕ) (runs : List (List Access)) (accesses : List Access) → index ≡ first + length runs
     → CopyRecordsWithin (copy_of run) runs accesses →
     StandFor old.planes (visits_of first runs) → StandFor new.planes (visits_of first (runs ++ accesses ∷ [])))
-    (stands : (runs : List (List Access)) (accesses : List Access) → CopyRecordsWithin (copy_of run) runs accesses
+    (records : (runs : List (List Access)) (accesses : List Access) → CopyRecordsWithin (copy_of run) runs accesses
     → CopyRecords (copy_of new.copy) (runs ++ accesses ∷ [])) where
   same_start : start_words new ≡ start_words old
   same_start = ended.start ∙ law.start begun run it.accesses effects ∙ begins.start
@@ -52,7 +46,7 @@ module _ (law : AccessesFollow) (old new : Runner) (index need : ℕ) (begun run
   has_run first before has =
       let runs : List (List Access) = accesses_of_each before in
       let here : CopyRecordsWithin (copy_of run) runs it.accesses =
-      law.stands begun run runs [] it.accesses (within runs has.copy) effects in
+      law.records begun run runs [] it.accesses (within runs has.copy) effects in
       let many = length-map before (λ (i : Iterated). i.accesses) in
       let reached = has.reached in
       let was = has.begun in
@@ -63,7 +57,7 @@ module _ (law : AccessesFollow) (old new : Runner) (index need : ℕ) (begun run
         reached = omega (arith, reached, long);
         begun = omega (arith, was, one, long);
         copy = subst (λ (l : List (List Access)). CopyRecords (copy_of new.copy) l) (sym (accesses_more before it))
-            (stands runs it.accesses here);
+            (records runs it.accesses here);
         elements = shape.elements ∙ has.elements ∙ ap length (sym same_start);
         planes = subst (λ (l : List (List Access)). StandFor new.planes (visits_of first l))
             (sym (accesses_more before it))
@@ -74,7 +68,7 @@ module _ (law : AccessesFollow) (old new : Runner) (index need : ℕ) (begun run
   one_more broke is = record {
     same = record { callback = callback; most = most; start = same_start; test = shape.test };
     iterated = it;
-    told = told;
+    ended = iterated;
     broke_is = is;
     has_run = has_run;
   }

@@ -1,16 +1,12 @@
 -- Iterations one after another, up to a break.
 use Rattle.std.proofs.Common.{◌≡◌, ℕ, suc, ◌+◌, ◌-◌, ◌<◌, ◌≤◌, Bool, true, false, List, [], ◌∷◌, ◌++◌, length, Option}
-use Rattle.std.proofs.Common.{Some, None, refl, sym, ◌∙◌, ap, subst, arith, is_some}
+use Rattle.std.{proofs.Common.{Some, None, refl, sym, ◌∙◌, ap, subst, arith, is_some}, specs.List.{sum}}
 use Rattle.std.specs.Prelude.{if◌then◌else◌, ◌==◌}
-use Rattle.std.specs.List.{sum}
-use Rattle.bpf_step_model.specs.Run.{BoundedResult, Ended, followed, mapped}
-use Rattle.bpf_step_model.specs.Iteration.{Iterated, iteration}
+use Rattle.bpf_step_model.specs.{Run.{BoundedResult, Ended, followed, mapped}, Iteration.{Iterated, iteration}}
 use Rattle.bpf_verify_sound.specs.Soundness.{OverApproximatesCall, most_from}
 use Rattle.bpf_step.specs.Iterations.{CallbackOf}
-use Rattle.loop_core_model.specs.Scan.{up_to_break, scan}
-use Rattle.loop_core_model.specs.Block.{has_break, block_run, break_from, unless_break}
-use Rattle.loop_core_model.proofs.BlockLaws.{scans_follow}
-use Rattle.loop_core_model.proofs.FirstBreak.{break_there}
+use Rattle.loop_core_model.specs.{Scan.{up_to_break, scan}, Block.{has_break, block_run, break_from, unless_break}}
+use Rattle.loop_core_model.proofs.{BlockLaws.{scans_follow}, FirstBreak.{break_there}}
 use Rattle.loop_core_block.specs.declared.runner.Runner.{Runner}
 use Rattle.loop_core_block.specs.Runs.{start_words, IsReady, IsSame, RunnerHasRun, RanOneMore, RanUpTo}
 
@@ -54,7 +50,7 @@ iterate_by r index = iteration r.callback.program 4096 r.callback.call index (st
 pub record RanAll (first index : ℕ) (old new : Runner) : Type 0 where
   pub same : IsSame old new
   pub ran : List Iterated
-  pub told : block_by old first index ≡ Ended ran
+  pub ended : block_by old first index ≡ Ended ran
   pub none : break_from first ran ≡ None
   pub has_run : RunnerHasRun first index ran new
 
@@ -90,7 +86,7 @@ pub ran_none : (r : Runner) (first : ℕ) → RunnerHasRun first first [] r → 
 ran_none r first has = record {
   same = record { callback = refl; most = refl; start = refl; test = refl };
   ran = [];
-  told = let none : first - first ≡ 0 = omega arith in ap (λ (left : ℕ). scan (iterate_by r) left first) none;
+  ended = let none : first - first ≡ 0 = omega arith in ap (λ (left : ℕ). scan (iterate_by r) left first) none;
   none = refl;
   has_run = has;
 }
@@ -100,7 +96,7 @@ pub ran_all : (first past : ℕ) (old new : Runner) → RanAll first past old ne
 ran_all first past old new x = record {
   same = x.same;
   ran = x.ran;
-  told = x.told;
+  ended = x.ended;
   broke_is = sym x.none;
   has_run = subst (λ (i : ℕ). RunnerHasRun first i x.ran new) x.has_run.reached x.has_run;
 }
@@ -112,26 +108,26 @@ either_way false e = refl
 -- one iteration more
 module _ (first index : ℕ) (a b c : Runner) (broke : Bool) (up : first ≤ index) (x : RanAll first index a b)
     (one : RanOneMore index b c broke) where
-  iterated_told : iterate_by a index ≡ Ended one.iterated
-  iterated_told =
+  iterated_ended : iterate_by a index ≡ Ended one.iterated
+  iterated_ended =
       ap (λ (callback : CallbackOf). iteration callback.program 4096 callback.call index (start_words a))
       (sym x.same.callback)
       ∙ ap (λ (words : List ℕ). iteration b.callback.program 4096 b.callback.call index words) (sym x.same.start)
-      ∙ one.told
+      ∙ one.ended
 
   single : block_by a index (index + 1) ≡ Ended (one.iterated ∷ [])
   single =
       let left : index + 1 - index ≡ 1 = omega arith in
       ap (λ (left : ℕ). scan (iterate_by a) left index) left
-      ∙ ap (followed (up_to_break (Ended []))) iterated_told
+      ∙ ap (followed (up_to_break (Ended []))) iterated_ended
       ∙ either_way (one.iterated.ret == 1) (Ended (one.iterated ∷ []))
 
   abbrev more : List Iterated
   more = x.ran ++ one.iterated ∷ []
 
-  more_told : block_by a first (index + 1) ≡ Ended more
-  more_told = parts a first index (index + 1) up (omega arith)
-      ∙ ap (followed (unless_break (block_by a index (index + 1)))) x.told
+  more_ended : block_by a first (index + 1) ≡ Ended more
+  more_ended = parts a first index (index + 1) up (omega arith)
+      ∙ ap (followed (unless_break (block_by a index (index + 1)))) x.ended
       ∙ ap (λ (e : BoundedResult (List Iterated)). unless_break e x.ran) single
       ∙ ap (λ (t : Bool). if t then Ended x.ran else Ended more) (break_there first x.ran ∙ ap is_some x.none)
 
@@ -152,7 +148,7 @@ module _ (first index : ℕ) (a b c : Runner) (broke : Bool) (up : first ≤ ind
   goes_on is = record {
     same = same_more;
     ran = more;
-    told = more_told;
+    ended = more_ended;
     none = breaks_at ∙ ap (λ (t : Bool). if t then Some index else None) is;
     has_run = has_more;
   }
@@ -165,8 +161,8 @@ module _ (first index : ℕ) (a b c : Runner) (broke : Bool) (up : first ≤ ind
       record {
         same = same_more;
         ran = more;
-        told = parts a first (index + 1) past (omega (arith, up)) (omega (arith, below))
-            ∙ ap (followed (unless_break (block_by a (index + 1) past))) more_told
+        ended = parts a first (index + 1) past (omega (arith, up)) (omega (arith, below))
+            ∙ ap (followed (unless_break (block_by a (index + 1) past))) more_ended
             ∙ ap (λ (t : Bool). if t then Ended more
             else mapped (λ others. more ++ others) (block_by a (index + 1) past)) broken;
         broke_is = sym at;

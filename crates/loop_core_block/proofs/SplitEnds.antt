@@ -1,7 +1,6 @@
 -- Where a split ends.
 use Rattle.std.proofs.Common.{◌≡◌, ℕ, List, None, sym, ◌∙◌}
-use Rattle.loop_core_model.specs.Split.{last_bound, split_fault}
-use Rattle.loop_core_model.proofs.SplitLaws.{faultless}
+use Rattle.loop_core_model.{specs.Split.{last_bound, split_fault}, proofs.SplitLaws.{faultless}}
 use Rattle.loop_core_split.proofs.SplitFacts.{last_is, split_is}
 
 pub ends_at : (bounds : List ℕ) (n : ℕ) → split_fault bounds n ≡ None → last_bound 0 bounds ≡ n

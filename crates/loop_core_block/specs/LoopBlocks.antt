@@ -1,9 +1,7 @@
 -- Blocks of a speculative loop.
 use Rattle.std.specs.Prelude.{◌≡◌, ℕ, ◌<◌}
 use Rattle.loop_core_model.specs.Intervals.{blocks_of, start_of, end_of}
-use Rattle.loop_core_block.specs.Blocks.{BlockOf}
-use Rattle.loop_core_block.specs.Ran.{RecordsRun}
-use Rattle.loop_core_block.specs.Loops.{LoopOf}
+use Rattle.loop_core_block.specs.{Blocks.{BlockOf}, Ran.{RecordsRun}, Loops.{LoopOf}}
 
 -- a block was run on the loop's start words
 abbrev pub RecordsRunOf : LoopOf → BlockOf → Type 0

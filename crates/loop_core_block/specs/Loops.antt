@@ -4,8 +4,7 @@ use Rattle.array_maps.specs.MapList.{MapList}
 use Rattle.bpf_insn_types.specs.Program.{Program}
 use Rattle.bpf_step_model.specs.State.{LoopCall}
 use Rattle.bpf_verify_sound.specs.Soundness.{OverApproximatesCall}
-use Rattle.loop_core_model.specs.declared.loop_test.Test.{Test}
-use Rattle.loop_core_model.specs.Split.{split_fault}
+use Rattle.loop_core_model.specs.{declared.loop_test.Test.{Test}, Split.{split_fault}}
 
 -- a program, a loop call, the maps that it starts on, a split's bounds, and a test
 pub record LoopOf : Type 0 where

@@ -1,16 +1,11 @@
 -- What a block remembers of its iterations.
 use Rattle.std.specs.Prelude.{◌≡◌, ℕ, List, [], length}
 use Rattle.bpf_insn_types.specs.Program.{Program}
-use Rattle.bpf_step_model.specs.State.{LoopCall}
-use Rattle.bpf_step_model.specs.Run.{BoundedResult, Ended, Stuck, Unfinished}
-use Rattle.bpf_step_model.specs.Iteration.{Iterated}
-use Rattle.loop_core_model.specs.declared.loop_test.Test.{Test}
-use Rattle.loop_core_model.specs.LeastBreak.{accesses_of_each}
+use Rattle.bpf_step_model.specs.{State.{LoopCall}, Run.{BoundedResult, Ended, Stuck, Unfinished}, Iteration.{Iterated}}
+use Rattle.loop_core_model.specs.{declared.loop_test.Test.{Test}, LeastBreak.{accesses_of_each}, Gather.{Block}}
 use Rattle.loop_core_model.specs.Block.{block_run, break_from}
-use Rattle.loop_core_model.specs.Gather.{Block}
 use Rattle.shadow_marks.specs.Standing.{test_of, StandFor}
-use Rattle.private_copy.specs.Copies.{CopyRecords}
-use Rattle.private_copy.specs.Visits.{visits_of}
+use Rattle.private_copy.specs.{Copies.{CopyRecords}, Visits.{visits_of}}
 use Rattle.loop_core_block.specs.Blocks.{BlockOf}
 
 -- the iterations that ended; none where they didn't
@@ -32,7 +27,7 @@ as_gathered program call words b = record {
 -- its copy represent the iterations that it ran, by rising index
 pub record RecordsRun (test : Test) (program : Program) (call : LoopCall) (words : List ℕ) (b : BlockOf) : Type 0 where
   pub ran : List Iterated
-  pub told : block_run program 4096 call words b.first b.past ≡ Ended ran
+  pub ended : block_run program 4096 call words b.first b.past ≡ Ended ran
   pub broke : b.broke ≡ break_from b.first ran
   pub start : b.copy.start ≡ words
   pub copy : CopyRecords b.copy (accesses_of_each ran)

@@ -1,15 +1,10 @@
 -- What a runner has run.
-use Rattle.std.specs.Prelude.{◌≡◌, ℕ, ◌+◌, ◌≤◌, Bool, ◌==◌, List, [], ◌∷◌, ◌++◌, length, Option}
-use Rattle.std.specs.List.{sum}
-use Rattle.bpf_step_model.specs.Run.{Ended}
-use Rattle.bpf_step_model.specs.Iteration.{Iterated, iteration}
+use Rattle.std.specs.{Prelude.{◌≡◌, ℕ, ◌+◌, ◌≤◌, Bool, ◌==◌, List, [], ◌∷◌, ◌++◌, length, Option}, List.{sum}}
+use Rattle.bpf_step_model.specs.{Run.{Ended}, Iteration.{Iterated, iteration}}
 use Rattle.bpf_verify_sound.specs.Soundness.{OverApproximatesCall, most_from}
-use Rattle.loop_core_model.specs.LeastBreak.{accesses_of_each}
-use Rattle.loop_core_model.specs.Block.{block_run, break_from}
+use Rattle.loop_core_model.specs.{LeastBreak.{accesses_of_each}, Block.{block_run, break_from}}
 use Rattle.shadow_marks.specs.Standing.{test_of, StandFor}
-use Rattle.private_copy.specs.Copies.{CopyRecords}
-use Rattle.private_copy.specs.Shown.{copy_of}
-use Rattle.private_copy.specs.Visits.{visits_of}
+use Rattle.private_copy.specs.{Copies.{CopyRecords}, Shown.{copy_of}, Visits.{visits_of}}
 use Rattle.loop_core_block.specs.declared.runner.Runner.{Runner}
 
 -- the words that each iteration begins with
@@ -43,7 +38,7 @@ pub record RunnerHasRun (first index : ℕ) (ran : List Iterated) (r : Runner) :
 pub record RanOneMore (index : ℕ) (old new : Runner) (broke : Bool) : Type 0 where
   pub same : IsSame old new
   pub iterated : Iterated
-  pub told : iteration old.callback.program 4096 old.callback.call index (start_words old) ≡ Ended iterated
+  pub ended : iteration old.callback.program 4096 old.callback.call index (start_words old) ≡ Ended iterated
   pub broke_is : broke ≡ (iterated.ret == 1)
   pub has_run : (first : ℕ) (ran : List Iterated) → RunnerHasRun first index ran old
       → RunnerHasRun first (index + 1) (ran ++ iterated ∷ []) new
@@ -52,6 +47,6 @@ pub record RanOneMore (index : ℕ) (old new : Runner) (broke : Bool) : Type 0 w
 pub record RanUpTo (first past : ℕ) (old new : Runner) (broke : Option ℕ) : Type 0 where
   pub same : IsSame old new
   pub ran : List Iterated
-  pub told : block_run old.callback.program 4096 old.callback.call (start_words old) first past ≡ Ended ran
+  pub ended : block_run old.callback.program 4096 old.callback.call (start_words old) first past ≡ Ended ran
   pub broke_is : broke ≡ break_from first ran
   pub has_run : RunnerHasRun first (first + length ran) ran new

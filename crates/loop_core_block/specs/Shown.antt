@@ -1,7 +1,6 @@
 -- What a block's private fields show.
 use Rattle.private_copy.specs.Shown.{copy_of}
-use Rattle.loop_core_block.specs.declared.block.Block.{Block}
-use Rattle.loop_core_block.specs.Blocks.{BlockOf}
+use Rattle.loop_core_block.specs.{declared.block.Block.{Block}, Blocks.{BlockOf}}
 
 -- the block
 abbrev pub shown : Block → BlockOf

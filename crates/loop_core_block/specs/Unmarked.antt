@@ -2,8 +2,7 @@
 use Rattle.std.specs.Prelude.{ℕ}
 use denote.Struct.Props.{props}
 use Rattle.loop_core_model.specs.Marks.{Marks}
-use Rattle.shadow_marks.specs.declared.planes.Tested.{Tested}
-use Rattle.shadow_marks.specs.declared.planes.Tested.TheVariants.{Lrpd as ByLrpd, Flow as ByFlow}
+use Rattle.shadow_marks.specs.declared.planes.Tested.{Tested, TheVariants.{Lrpd as ByLrpd, Flow as ByFlow}}
 use Rattle.shadow_marks.specs.declared.planes.Planes.{Planes}
 use Rattle.shadow_marks.specs.Standing.{AreTested, TestedStandAt, StandFor, no_visits}
 

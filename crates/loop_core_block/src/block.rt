@@ -1,8 +1,7 @@
 //! A block that was run.
 
 ghost use Rattle.std.specs.Prelude.{◌≡◌, ◌+◌, ◌*◌, ◌<◌, ◌≤◌, length, slice_get};
-ghost use Rattle.private_copy.specs.Reductions.{combination};
-ghost use Rattle.private_copy.specs.Overwriting.{AreOverwritten};
+ghost use Rattle.private_copy.specs.{Reductions.{combination}, Overwriting.{AreOverwritten}};
 ghost use Rattle.loop_core_block.specs.Blocks.{HasOtherPlanes};
 
 use array_maps::Op;

@@ -2,11 +2,8 @@
 
 ghost use Rattle.std.specs.Prelude.{◌≡◌, ◌<◌, length, None, IfOk};
 ghost use Rattle.bpf_verify_sound.specs.Soundness.{OverApproximatesCall};
-ghost use Rattle.loop_core_model.specs.Split.{split_fault};
-ghost use Rattle.loop_core_model.specs.Intervals.{blocks_of, start_of, end_of};
-ghost use Rattle.loop_core_block.specs.Shown.{shown};
-ghost use Rattle.loop_core_block.specs.Ran.{RecordsRun};
-ghost use Rattle.loop_core_block.specs.LoopBlocks.{IsBlockOf};
+ghost use Rattle.loop_core_model.specs.{Split.{split_fault}, Intervals.{blocks_of, start_of, end_of}};
+ghost use Rattle.loop_core_block.specs.{Shown.{shown}, Ran.{RecordsRun}, LoopBlocks.{IsBlockOf}};
 ghost use Rattle.loop_core_block.specs.Workspaces.{IsWorkspaceFor};
 
 use crate::block::Block;

@@ -35,7 +35,7 @@ pub fn most_instructions(program: &Verified, slot: u32) -> u32
     ensures enough { most_from program.now slot ≤ result }
     ensures few { result ≤ 4096 }
 {
-    // This tells the proof that the program is accepted.
+    // The program is accepted.
     let _unit = program.unit();
     for function in 1..=program.callbacks() {
         if program.start(function) == slot {
@@ -59,7 +59,7 @@ impl<'c, 'a> Runner<'c, 'a> {
         ensures test { test_of result.planes.tested ≡ of.now.test }
         ensures none { (first : ℕ) → RunnerHasRun first first [] result }
     {
-        // This tells the proof how many words the maps have.
+        // The maps have as many words as their sizes say.
         let _sizes = of.start.sizes();
         let BlockWorkspace { copy, planes } = workspace;
         Runner {

@@ -48,8 +48,7 @@ impl<'a> Block<'a> {
     ghost use Rattle.std.specs.Prelude.{ℕ, List, length};
     ghost use Rattle.loop_core_model.specs.Marks.{Visit};
     ghost use Rattle.shadow_marks.specs.Standing.{test_of};
-    ghost use Rattle.loop_core_block.specs.Shown.{shown};
-    ghost use Rattle.loop_core_block.specs.Workspaces.{IsWorkspaceFor};
+    ghost use Rattle.loop_core_block.specs.{Shown.{shown}, Workspaces.{IsWorkspaceFor}};
 
     /// The workspace of a block, for another. These planes, which iterations over as many elements have marked, take
     /// the place of its own. What the block did is forgotten.

@@ -1,10 +1,9 @@
 -- The blocks that count, of blocks that were run.
 use Rattle.std.specs.Prelude.{◌≡◌, ℕ, List, [], ◌∷◌, map, slice_get, Option, Some, None}
-use Rattle.loop_core_model.specs.Block.{break_from}
-use Rattle.loop_core_model.specs.Gather.{Block, least_of, counting, gather_fault}
+use Rattle.loop_core_model.specs.{Block.{break_from}, Gather.{Block, least_of, counting, gather_fault}}
 use Rattle.loop_core_gather.specs.declared.summary.Summary.{Summary}
 
--- what is told of a block
+-- the summary of a block
 abbrev pub summary_of : Block → Summary
 summary_of b = record { number = b.number; first = b.first; past = b.past; broke = break_from b.first b.ran }
 

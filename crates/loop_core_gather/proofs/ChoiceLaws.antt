@@ -1,22 +1,13 @@
 -- The blocks at some places, one place after another.
 use Rattle.std.proofs.Common.{◌≡◌, ℕ, zero, suc, ◌+◌, ◌<◌, ◌≤◌, Bool, arith, true, false, List, [], ◌∷◌, ◌++◌, drop}
 use Rattle.std.proofs.Common.{length, map, get_or, Option, Some, None, refl, sym, ◌∙◌, ap, subst, append_assoc, add-one}
-use Rattle.std.specs.Prelude.{slice_get, ◌==◌, if◌then◌else◌}
-use Rattle.std.specs.Int.{bit_at}
-use Rattle.std.specs.List.{All, AllByRecursion, cons_option}
-use Rattle.std.specs.Option.{option_map, option_or, unwrap_or}
-use Rattle.std.proofs.Math.ListN.{drop_of_length-le}
-use Rattle.std.proofs.Math.Seq.{drop-cons}
-use Rattle.std.proofs.lemmas.Nat.Bits.{bit_at-zero}
+use Rattle.std.specs.{Prelude.{slice_get, ◌==◌, if◌then◌else◌}, Int.{bit_at}, List.{All, AllByRecursion, cons_option}}
+use Rattle.std.{specs.Option.{option_map, option_or, unwrap_or}, proofs.Math.ListN.{drop_of_length-le}}
+use Rattle.std.proofs.{Math.Seq.{drop-cons}, lemmas.{Nat.Bits.{bit_at-zero}, List.Elements.{All-nil, All-cons}}}
 use Rattle.std.proofs.lemmas.Option.{slice_get_within, slice_get_read, slice_get-map, get_or_from_slice_get}
-use Rattle.std.proofs.lemmas.List.Elements.{All-nil, All-cons}
-use Rattle.loop_core_model.specs.Marks.{Visit}
-use Rattle.loop_core_model.specs.Gather.{Block}
-use Rattle.loop_core_model.specs.Kept.{Kept, applied, last_of, committed_of_kept}
-use Rattle.loop_core_block.specs.declared.block.Block.{Block as Held}
-use Rattle.loop_core_block.specs.Blocks.{BlockOf}
-use Rattle.loop_core_block.specs.Shown.{shown}
-use Rattle.loop_core_gather.specs.Held.{chosen, visits_at, kept_at, IsUntouchedElement, TellsUntouched}
+use Rattle.loop_core_model.specs.{Marks.{Visit}, Gather.{Block}, Kept.{Kept, applied, last_of, committed_of_kept}}
+use Rattle.loop_core_block.specs.{declared.block.Block.{Block as Held}, Blocks.{BlockOf}, Shown.{shown}}
+use Rattle.loop_core_gather.specs.Held.{chosen, visits_at, kept_at, IsUntouchedElement, MarksTouched}
 
 -- the block at a place
 pub shown_there : (blocks : List Held) (place : ℕ) (b : Held) → place < length blocks → b ≡ get_or blocks place b
@@ -75,7 +66,7 @@ unchanged false value e b none = ap (λ (o : Option ℕ). unwrap_or o value) non
 
 -- the value after one block more, if the block's bit is set, says what is left after the blocks that follow
 pub kept_next : (reduced : Bool) (word e : ℕ) (blocks : List Held) (places : List ℕ) (i value left : ℕ) (b : Held)
-    (touched : Bool) (next : ℕ) → TellsUntouched word e (map shown blocks) places →
+    (touched : Bool) (next : ℕ) → MarksTouched word e (map shown blocks) places →
     i < length places → get_or places i 0 < length blocks → b ≡ get_or blocks (get_or places i 0) b →
     touched ≡ (bit_at word i == 1) → next ≡ (if touched then left_by reduced value (kept_at e (shown b)) else value) →
     left ≡ committed_of_kept reduced (map (kept_at e) (chosen (drop i places) (map shown blocks))) value →
@@ -91,7 +82,7 @@ kept_next reduced word e blocks places i value left b touched next untouched ins
     ∙ ap (λ v. committed_of_kept reduced later v) (sym (made ∙ by_bit touched value after same))
 
 -- a block whose bit isn't set leaves the value
-module _ (word e : ℕ) (blocks : List BlockOf) (places : List ℕ) (untouched : TellsUntouched word e blocks places) where
+module _ (word e : ℕ) (blocks : List BlockOf) (places : List ℕ) (untouched : MarksTouched word e blocks places) where
   skip : (reduced : Bool) (i value : ℕ) → i < length places → (bit_at word i == 1) ≡ false →
       committed_of_kept reduced (map (kept_at e) (chosen (drop i places) blocks)) value
       ≡ committed_of_kept reduced (map (kept_at e) (chosen (drop (i + 1) places) blocks)) value
@@ -157,22 +148,22 @@ all_chosen P blocks (place ∷ places) all = go (slice_get blocks place) refl (a
     )
 
 -- where each place has its block
-pub record AreAt (f : BlockOf → Block) (blocks : List BlockOf) (places : List ℕ) (told : List Block) : Type 0 where
+pub record AreAt (f : BlockOf → Block) (blocks : List BlockOf) (places : List ℕ) (gathered : List Block) : Type 0 where
   pub within : All (λ place. place < length blocks) places
-  pub same : map f (chosen places blocks) ≡ told
+  pub same : map f (chosen places blocks) ≡ gathered
 
-pub are_at : (f : BlockOf → Block) (blocks : List BlockOf) (places : List ℕ) (told : List Block) →
-    map (λ place. slice_get (map f blocks) place) places ≡ map Some told → AreAt f blocks places told
+pub are_at : (f : BlockOf → Block) (blocks : List BlockOf) (places : List ℕ) (gathered : List Block) →
+    map (λ place. slice_get (map f blocks) place) places ≡ map Some gathered → AreAt f blocks places gathered
 are_at f blocks [] [] h = record { within = All-nil (λ place. place < length blocks); same = refl }
-are_at f blocks [] (c ∷ told) h = absurd (cc)
+are_at f blocks [] (c ∷ gathered) h = absurd (cc)
 are_at f blocks (place ∷ places) [] h = absurd (cc)
-are_at f blocks (place ∷ places) (c ∷ told) h =
+are_at f blocks (place ∷ places) (c ∷ gathered) h =
     let here : slice_get (map f blocks) place ≡ Some c = cc in
-    let later : map (λ p. slice_get (map f blocks) p) places ≡ map Some told = cc in
-    go (slice_get blocks place) refl (sym (slice_get-map f blocks place) ∙ here) (are_at f blocks places told later)
+    let later : map (λ p. slice_get (map f blocks) p) places ≡ map Some gathered = cc in
+    go (slice_get blocks place) refl (sym (slice_get-map f blocks place) ∙ here) (are_at f blocks places gathered later)
   where
     go : (o : Option BlockOf) → slice_get blocks place ≡ o → option_map f (slice_get blocks place) ≡ Some c
-        → AreAt f blocks places told → AreAt f blocks (place ∷ places) (c ∷ told)
+        → AreAt f blocks places gathered → AreAt f blocks (place ∷ places) (c ∷ gathered)
     go None is same rest = let bad : None ≡ Some c = sym (ap (option_map f) is) ∙ same in absurd (cc)
     go (Some b) is same rest =
         let one : Some (f b) ≡ Some c = sym (ap (option_map f) is) ∙ same in

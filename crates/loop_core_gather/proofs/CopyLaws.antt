@@ -1,26 +1,16 @@
 -- Blocks of which only the planes are others.
-use Rattle.std.proofs.Common.{◌≡◌, ℕ, zero, suc, ◌<◌, ◌≤◌, ◌/◌, List, [], ◌∷◌, ◌++◌, take, drop, length}
-use Rattle.std.proofs.Common.{map, get_or, set, Option, Some, None, refl, sym, ◌∙◌, ap, subst, arith}
-use Rattle.std.specs.Prelude.{slice_get, slice_index}
-use Rattle.std.specs.List.{All, cons_option, range_with_len}
-use Rattle.std.specs.Option.{option_map}
-use Rattle.std.proofs.Math.ListN.{drop_of_length-le}
-use Rattle.std.proofs.Math.Seq.{take-append_seam}
+use Rattle.std.proofs.Common.{◌≡◌, ℕ, zero, suc, ◌<◌, ◌≤◌, ◌/◌, List, [], ◌∷◌, ◌++◌, take, drop, length, map, get_or}
+use Rattle.std.{proofs.Common.{set, Option, Some, None, refl, sym, ◌∙◌, ap, subst, arith}, specs.Option.{option_map}}
+use Rattle.std.specs.{Prelude.{slice_get, slice_index}, List.{All, cons_option, range_with_len}}
+use Rattle.std.proofs.{Math.{ListN.{drop_of_length-le}, Seq.{take-append_seam}}, lemmas.Option.{slice_get-map}}
 use Rattle.std.proofs.lemmas.List.{length-map, get_or-map, append-nil}
-use Rattle.std.proofs.lemmas.Option.{slice_get-map}
-use Rattle.loop_core_model.specs.declared.loop_test.Test.{Test}
-use Rattle.loop_core_model.specs.Marks.{Visit}
-use Rattle.loop_core_model.specs.Kept.{Kept, committed_of_kept}
-use Rattle.shadow_marks.specs.declared.planes.Planes.{Planes}
-use Rattle.shadow_marks.specs.Standing.{StandFor, test_of}
-use Rattle.private_copy.specs.Copies.{PrivateCopy}
-use Rattle.private_copy.specs.Reductions.{combination}
+use Rattle.loop_core_model.specs.{declared.loop_test.Test.{Test}, Marks.{Visit}, Kept.{Kept, committed_of_kept}}
+use Rattle.shadow_marks.specs.{declared.planes.Planes.{Planes}, Standing.{StandFor, test_of}}
+use Rattle.private_copy.specs.{Copies.{PrivateCopy}, Reductions.{combination}}
 use Rattle.lane_planes.specs.Merged.{StandForSome}
-use Rattle.loop_core_block.specs.declared.block.Block.{Block as Held}
-use Rattle.loop_core_block.specs.Blocks.{BlockOf}
-use Rattle.loop_core_block.specs.Shown.{shown}
+use Rattle.loop_core_block.specs.{declared.block.Block.{Block as Held}, Blocks.{BlockOf}, Shown.{shown}}
 use Rattle.loop_core_gather.specs.Held.{chosen, visits_at, is_reduction, kept_at, left_at, left_words}
-use Rattle.loop_core_gather.specs.Held.{IsUntouchedElement, TellsUntouched, AreHeld, AreInOne, HavePlanes, HaveCopiesOf}
+use Rattle.loop_core_gather.specs.Held.{IsUntouchedElement, MarksTouched, AreHeld, AreInOne, HavePlanes, HaveCopiesOf}
 use Rattle.loop_core_gather.proofs.ChoiceLaws.{chosen_next, all_at}
 
 abbrev copy_in : BlockOf → PrivateCopy
@@ -65,8 +55,8 @@ module _ (old new : List BlockOf) (same : HaveCopiesOf old new) where
   many_same : length new ≡ length old
   many_same = sym (length-map new copy_in) ∙ ap (λ (cs : List PrivateCopy). length cs) same ∙ length-map old copy_in
 
-  tells_same : (word e : ℕ) (places : List ℕ) → TellsUntouched word e old places → TellsUntouched word e new places
-  tells_same word e places tells i b below at unset = go (slice_get old (slice_index places i)) refl
+  marks_same : (word e : ℕ) (places : List ℕ) → MarksTouched word e old places → MarksTouched word e new places
+  marks_same word e places tells i b below at unset = go (slice_get old (slice_index places i)) refl
     where
       copies : (o : Option BlockOf) → slice_get old (slice_index places i) ≡ o → Some b.copy ≡ option_map copy_in o
       copies o is = sym (ap (option_map copy_in) at) ∙ copies_at (slice_index places i) ∙ ap (option_map copy_in) is
@@ -98,7 +88,7 @@ module _ (old new : List BlockOf) (same : HaveCopiesOf old new) where
     stand = held.stand;
     count = held.count;
     pages = held.pages;
-    untouched = λ e inside. tells_same (slice_index touched (e / 64)) e places (held.untouched e inside);
+    untouched = λ e inside. marks_same (slice_index touched (e / 64)) e places (held.untouched e inside);
   }
 
 -- the copies after one block more has other planes

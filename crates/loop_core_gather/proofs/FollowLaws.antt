@@ -1,24 +1,18 @@
 -- The blocks of a split that count follow one another: each begins where the iterations of those before it end.
-use Rattle.std.proofs.Common.{◌≡◌, ℕ, zero, suc, ◌+◌, ◌-◌, ◌≤◌, ◌<◌, Bool, true, false, not, ◌&&◌, List}
-use Rattle.std.proofs.Common.{[], ◌∷◌, length, Option, Some, None, refl, sym, ◌∙◌, ap, subst, arith}
-use Rattle.std.specs.Prelude.{if◌then◌else◌, ◌==◌, nat_lt, is_none, slice_get}
-use Rattle.std.specs.List.{list_any, AllByRecursion}
+use Rattle.std.proofs.Common.{◌≡◌, ℕ, zero, suc, ◌+◌, ◌-◌, ◌≤◌, ◌<◌, Bool, true, false, not, ◌&&◌, List, [], ◌∷◌}
+use Rattle.std.proofs.Common.{length, Option, Some, None, refl, sym, ◌∙◌, ap, subst, arith}
+use Rattle.std.specs.{Prelude.{if◌then◌else◌, ◌==◌, nat_lt, is_none, slice_get}, List.{list_any, AllByRecursion}}
 use Rattle.std.proofs.lemmas.Bool.{eqb-true, ltb-true}
 use Rattle.bpf_insn_types.specs.Program.{Program}
-use Rattle.bpf_step_model.specs.State.{LoopCall}
-use Rattle.bpf_step_model.specs.Run.{BoundedResult, Ended, Stuck, Unfinished, followed}
-use Rattle.bpf_step_model.specs.Iteration.{Iterated, iteration}
-use Rattle.bpf_step_model.proofs.Endings.{mapped_from}
-use Rattle.loop_core_model.specs.LeastBreak.{in_front_of}
-use Rattle.loop_core_model.specs.Scan.{up_to_break, scan}
-use Rattle.loop_core_model.proofs.OneElement.{or_false_left, or_false_right}
-use Rattle.loop_core_model.specs.Block.{break_from}
+use Rattle.bpf_step_model.specs.{State.{LoopCall}, Run.{BoundedResult, Ended, Stuck, Unfinished, followed}}
+use Rattle.bpf_step_model.{specs.Iteration.{Iterated, iteration}, proofs.Endings.{mapped_from}}
+use Rattle.loop_core_model.specs.{LeastBreak.{in_front_of}, Scan.{up_to_break, scan}, Block.{break_from}}
+use Rattle.loop_core_model.proofs.{OneElement.{or_false_left, or_false_right}, GatherLaws.{some_there}}
 use Rattle.loop_core_model.specs.Split.{falls, ends_amiss, split_fault}
-use Rattle.loop_core_model.specs.Gather.{Block, IsRunOf, least_of, starts_late, block_numbered, lacks_block}
-use Rattle.loop_core_model.specs.Gather.{lacks_some, in_front, counting, twice, stands_in, gather_fault}
+use Rattle.loop_core_model.specs.Gather.{Block, IsRunOf, least_of, starts_late, block_numbered, lacks_block, lacks_some}
+use Rattle.loop_core_model.specs.Gather.{in_front, counting, twice, stands_in, gather_fault}
 use Rattle.loop_core_model.proofs.FirstBreak.{FirstIs, breaking, scan_first}
-use Rattle.loop_core_model.proofs.GatherLaws.{AtMost, Stands, rising, if_none, not_false}
-use Rattle.loop_core_model.proofs.GatherLaws.{found, none_counts, some_there}
+use Rattle.loop_core_model.proofs.GatherLaws.{AtMost, Stands, rising, if_none, not_false, found, none_counts}
 use Rattle.loop_core_gather.proofs.BlocksCount.{counting_of}
 
 -- from an index on, each block begins where the iterations of those before it end

@@ -1,45 +1,30 @@
 -- What is known as blocks are gathered.
-use Rattle.std.proofs.Common.{◌≡◌, ℕ, ◌/◌, ◌<◌, ◌≤◌, Bool, true, false, refl, arith, List}
-use Rattle.std.proofs.Common.{length, map, Option, Some, None, sym, ◌∙◌, ap, subst}
-use Rattle.std.specs.Prelude.{slice_index}
-use Rattle.std.specs.List.{All, filter, range_with_len}
-use Rattle.std.proofs.lemmas.List.{length-map}
+use Rattle.std.proofs.Common.{◌≡◌, ℕ, ◌/◌, ◌<◌, ◌≤◌, Bool, true, false, refl, arith, List, length, map, Option, Some}
+use Rattle.std.{proofs.{Common.{None, sym, ◌∙◌, ap, subst}, lemmas.List.{length-map}}, specs.Prelude.{slice_index}}
+use Rattle.std.{specs.List.{All, filter, range_with_len}, proofs.lemmas.List.Elements.{All-map, All-weaker}}
 use Rattle.std.proofs.lemmas.Option.{get_or_from_slice_get, slice_get_within}
-use Rattle.std.proofs.lemmas.List.Elements.{All-map, All-weaker}
 use Rattle.array_maps.specs.MapList.{AreWords}
 use Rattle.bpf_insn_types.specs.Program.{Program}
 use Rattle.bpf_step_model.specs.State.{LoopCall}
-use Rattle.loop_core_model.specs.declared.loop_test.Test.{Test}
-use Rattle.loop_core_model.specs.declared.verdict.Verdict.{Verdict}
-use Rattle.loop_core_model.specs.LeastBreak.{count_to}
-use Rattle.loop_core_model.specs.Marks.{Visit, marks_of, marked_conflict}
-use Rattle.loop_core_model.specs.Planes.{elements_in_plane, plane_verdict}
-use Rattle.loop_core_model.specs.declared.faults.GatherFault.{GatherFault}
-use Rattle.loop_core_model.specs.Split.{split_fault}
-use Rattle.loop_core_model.specs.Gather.{gather_fault}
-use Rattle.shadow_marks.specs.declared.planes.Planes.{Planes}
-use Rattle.shadow_marks.specs.Standing.{StandFor, words_for, test_of}
+use Rattle.loop_core_model.specs.{declared.{loop_test.Test.{Test}, verdict.Verdict.{Verdict}}, LeastBreak.{count_to}}
+use Rattle.loop_core_model.specs.{Marks.{Visit, marks_of, marked_conflict}, Planes.{elements_in_plane, plane_verdict}}
+use Rattle.loop_core_model.specs.{declared.faults.GatherFault.{GatherFault}, Split.{split_fault}, Gather.{gather_fault}}
+use Rattle.shadow_marks.specs.{declared.planes.Planes.{Planes}, Standing.{StandFor, words_for, test_of}}
 use Rattle.lane_planes.specs.Merged.{StandForSome}
 use Rattle.private_copy.specs.Touched.{has_page}
-use Rattle.loop_core_block.specs.declared.block.Block.{Block as Held}
-use Rattle.loop_core_block.specs.Blocks.{BlockOf}
-use Rattle.loop_core_block.specs.Ran.{RecordsRun}
+use Rattle.loop_core_block.specs.{declared.block.Block.{Block as Held}, Blocks.{BlockOf}, Ran.{RecordsRun}}
 use Rattle.loop_core_block.specs.Shown.{shown}
-use Rattle.loop_core_gather.specs.declared.summary.Summary.{Summary}
-use Rattle.loop_core_gather.specs.Counting.{told_fault, Counts}
-use Rattle.loop_core_gather.specs.Held.{told_of, chosen, visits_at, left_words, IsUntouchedElement}
-use Rattle.loop_core_gather.specs.Held.{TellsUntouched, AreHeld, GatheredOf}
-use Rattle.loop_core_gather.specs.Touched.{is_page_marked, AreMarked}
-use Rattle.loop_core_gather.specs.Gathered.{all_gathered, HasOutcome}
-use Rattle.loop_core_gather.proofs.BlocksCount.{summary_of, BlocksCount}
-use Rattle.loop_core_gather.proofs.FaultLaws.{same_fault, all_count}
-use Rattle.loop_core_gather.proofs.JoiningLaws.{visits_in, stands_in_planes}
+use Rattle.loop_core_gather.specs.{declared.summary.Summary.{Summary}, Counting.{summary_fault, Counts}}
+use Rattle.loop_core_gather.specs.Held.{summary_of_block, chosen, visits_at, left_words, IsUntouchedElement}
+use Rattle.loop_core_gather.specs.{Held.{AreHeld, GatheredOf, MarksTouched}, Touched.{is_page_marked, AreMarked}}
+use Rattle.loop_core_gather.{specs.Gathered.{all_gathered, HasOutcome}, proofs.BlocksCount.{summary_of, BlocksCount}}
+use Rattle.loop_core_gather.proofs.{FaultLaws.{same_fault, all_count}, JoiningLaws.{visits_in, stands_in_planes}}
 use Rattle.loop_core_gather.proofs.UntouchedLaws.{not_both, untouched}
-use Rattle.loop_core_gather.proofs.TellingLaws.{are_told, have_starts, within, answer_within, tells}
+use Rattle.loop_core_gather.proofs.OutcomeLaws.{are_summaries, have_starts, within, answer_within, has_outcome}
 
 module _ (test : Test) (program : Program) (call : LoopCall) (words : List ℕ) (bounds : List ℕ) (held : List Held)
     (summaries : List Summary)
-    (ran : All (λ b. RecordsRun test program call words (shown b)) held) (made : summaries ≡ map told_of
+    (ran : All (λ b. RecordsRun test program call words (shown b)) held) (made : summaries ≡ map summary_of_block
     (map shown held)) where
   abbrev blocks : List BlockOf
   blocks = map shown held
@@ -48,11 +33,12 @@ module _ (test : Test) (program : Program) (call : LoopCall) (words : List ℕ) 
   all_ran = All-map (RecordsRun test program call words) shown held ran
 
   named : map summary_of (all_gathered program call words blocks) ≡ summaries
-  named = are_told test program call words blocks all_ran ∙ sym made
+  named = are_summaries test program call words blocks all_ran ∙ sym made
 
-  pub faulty : (fault : GatherFault) → told_fault bounds summaries ≡ Some fault
+  pub faulty : (fault : GatherFault) → summary_fault bounds summaries ≡ Some fault
       → gather_fault bounds (all_gathered program call words blocks) ≡ Some fault
-  faulty fault h = sym (same_fault bounds (all_gathered program call words blocks)) ∙ ap (told_fault bounds) named ∙ h
+  faulty fault h =
+      sym (same_fault bounds (all_gathered program call words blocks)) ∙ ap (summary_fault bounds) named ∙ h
 
   module _ (least : Option ℕ) (places : List ℕ) (split : split_fault bounds call.n ≡ None)
       (counts : Counts bounds summaries least places) where
@@ -89,10 +75,10 @@ module _ (test : Test) (program : Program) (call : LoopCall) (words : List ℕ) 
     answer_fits = answer_within test program call words bounds blocks least places split all_ran counted
 
     -- of a block nothing is kept at an element of a page that isn't marked by its bit
-    tells_untouched : (touched : List ℕ) → length touched ≡ words_for (length words)
+    marks_touched : (touched : List ℕ) → length touched ≡ words_for (length words)
         → AreMarked blocks places (length places) touched → (e : ℕ) → e < length words →
-        TellsUntouched (slice_index touched (e / 64)) e blocks places
-    tells_untouched touched pages marked e inside i b below at bit =
+        MarksTouched (slice_index touched (e / 64)) e blocks places
+    marks_touched touched pages marked e inside i b below at bit =
         let ran_b : RecordsRun test program call words b =
         subst (RecordsRun test program call words) (get_or_from_slice_get blocks (slice_index places i) b b at)
         (all_ran (slice_index places i) b (slice_get_within blocks (slice_index places i) b at)) in
@@ -119,7 +105,7 @@ module _ (test : Test) (program : Program) (call : LoopCall) (words : List ℕ) 
       pages = pages;
       untouched = λ e inside.
           let long : length start ≡ length words = ap length same in
-          tells_untouched touched (pages ∙ ap words_for long)
+          marks_touched touched (pages ∙ ap words_for long)
           (subst (λ (ps : List ℕ). AreMarked blocks ps (length ps) touched) same_places
           (subst (λ (bs : List Held). AreMarked (map shown bs) at (length at) touched) same_blocks marked))
           e (omega (arith, inside, long));
@@ -158,8 +144,8 @@ module _ (test : Test) (program : Program) (call : LoopCall) (words : List ℕ) 
         ∙ ap (λ (m : ℕ). filter (λ e. marked_conflict test
         (marks_of (visits_at (visits_in program call words) (chosen places blocks) e))) (range_with_len 0 m)) count
         in
-        let first = tells test program call words bounds blocks least places split all_ran counted planes count stands
-        plane fit is in
+        let first = has_outcome test program call words bounds blocks least places split all_ran counted planes count
+        stands plane fit is in
         subst (λ (ws : List ℕ). HasOutcome test program call words (let o : GatheredOf = record {
           verdict = v;
           answer = n;

@@ -1,15 +1,11 @@
 -- What gathered blocks hold, element by element.
 use Rattle.std.proofs.Common.{◌≡◌, ℕ, ◌/◌, ◌<◌, Bool, List, length, map, refl, sym, ◌∙◌, ap, subst, arith}
-use Rattle.std.specs.Prelude.{slice_index}
-use Rattle.std.specs.List.{All}
-use Rattle.std.proofs.lemmas.List.{length-map, get_or-map}
+use Rattle.std.{specs.{Prelude.{slice_index}, List.{All}}, proofs.lemmas.List.{length-map, get_or-map}}
 use Rattle.loop_core_model.specs.Kept.{committed_of_kept}
 use Rattle.shadow_marks.specs.declared.planes.Planes.{Planes}
 use Rattle.private_copy.proofs.AccessLaws.{shown_at, shown_length}
-use Rattle.loop_core_block.specs.declared.block.Block.{Block as Held}
-use Rattle.loop_core_block.specs.Blocks.{BlockOf}
-use Rattle.loop_core_block.specs.Shown.{shown}
-use Rattle.loop_core_gather.specs.Held.{chosen, is_reduction, kept_at, left_at, left_words, TellsUntouched, GatheredOf}
+use Rattle.loop_core_block.specs.{declared.block.Block.{Block as Held}, Blocks.{BlockOf}, Shown.{shown}}
+use Rattle.loop_core_gather.specs.Held.{chosen, is_reduction, kept_at, left_at, left_words, MarksTouched, GatheredOf}
 use Rattle.loop_core_gather.proofs.ChoiceLaws.{left_alone}
 
 pub held_length : (planes : Planes) (blocks : List BlockOf) (start : List ℕ) → length (left_words planes blocks start)
@@ -62,18 +58,18 @@ element_is planes blocks now places at start e reduced o by inside same_blocks s
 -- of the blocks whose bits aren't set nothing is kept
 pub untouched_at : (blocks now : List Held) (places at : List ℕ) (touched : List ℕ) (elements e word : ℕ) → now ≡ blocks
     → at ≡ places → word ≡ slice_index touched (e / 64) → e < elements →
-    ((k : ℕ) → k < elements → TellsUntouched (slice_index touched (k / 64)) k (map shown blocks) places)
-    → TellsUntouched word e (map shown now) at
+    ((k : ℕ) → k < elements → MarksTouched (slice_index touched (k / 64)) k (map shown blocks) places)
+    → MarksTouched word e (map shown now) at
 untouched_at blocks now places at touched elements e word same_blocks same_places is inside tells =
-    subst (λ (bs : List Held). TellsUntouched word e (map shown bs) at) (sym same_blocks)
-    (subst (λ (ps : List ℕ). TellsUntouched word e (map shown blocks) ps) (sym same_places)
-    (subst (λ (w : ℕ). TellsUntouched w e (map shown blocks) places) (sym is) (tells e inside)))
+    subst (λ (bs : List Held). MarksTouched word e (map shown bs) at) (sym same_blocks)
+    (subst (λ (ps : List ℕ). MarksTouched word e (map shown blocks) ps) (sym same_places)
+    (subst (λ (w : ℕ). MarksTouched w e (map shown blocks) places) (sym is) (tells e inside)))
 
 -- and where no bit is set the start word is left
 pub start_is_left : (planes : Planes) (blocks : List Held) (places start touched : List ℕ) (e word : ℕ) (o : GatheredOf)
     → e < length start → left_words planes (chosen places (map shown blocks)) start ≡ o.words →
     word ≡ slice_index touched (e / 64) → word ≡ 0
-    → ((k : ℕ) → k < length start → TellsUntouched (slice_index touched (k / 64)) k (map shown blocks) places) →
+    → ((k : ℕ) → k < length start → MarksTouched (slice_index touched (k / 64)) k (map shown blocks) places) →
     slice_index start e ≡ slice_index o.words e
 start_is_left planes blocks places start touched e word o inside words is none tells =
     sym (left_alone word e (map shown blocks) places (untouched_at blocks blocks places places touched (length start) e

@@ -1,10 +1,10 @@
 pub mod BlocksCount
-pub mod ToldLaws
+pub mod SummaryLaws
 pub mod FaultLaws
 pub mod FollowLaws
 pub mod ChoiceLaws
 pub mod JoiningLaws
-pub mod TellingLaws
+pub mod OutcomeLaws
 pub mod MergingLaws
 pub mod PageLaws
 pub mod SharingLaws

@@ -1,17 +1,12 @@
 -- Planes of blocks, merged one after another.
-use Rattle.std.proofs.Common.{◌≡◌, ℕ, ◌+◌, ◌≤◌, List, ◌∷◌, ◌++◌, length, drop, sym, ◌∙◌, ap, subst}
-use Rattle.std.specs.List.{All}
-use Rattle.std.proofs.Math.ListN.{drop_of_length-le}
-use Rattle.std.proofs.lemmas.List.{append-nil}
-use Rattle.loop_core_model.specs.declared.loop_test.Test.{Test}
-use Rattle.loop_core_model.specs.Marks.{Visit}
-use Rattle.shadow_marks.specs.declared.planes.Planes.{Planes}
-use Rattle.shadow_marks.specs.Standing.{ArePlanes, StandFor, test_of}
+use Rattle.std.{proofs.Common.{◌≡◌, ℕ, ◌+◌, ◌≤◌, List, ◌∷◌, ◌++◌, length, drop, sym, ◌∙◌, ap, subst}, specs.List.{All}}
+use Rattle.std.proofs.{Math.ListN.{drop_of_length-le}, lemmas.List.{append-nil}}
+use Rattle.loop_core_model.specs.{declared.loop_test.Test.{Test}, Marks.{Visit}}
+use Rattle.shadow_marks.specs.{declared.planes.Planes.{Planes}, Standing.{ArePlanes, StandFor, test_of}}
 use Rattle.shadow_marks.specs.Ending.{KeepsShape}
 use Rattle.lane_planes.specs.Merged.{joined_visits, StandForSome}
 use Rattle.loop_core_block.specs.Blocks.{BlockOf}
-use Rattle.loop_core_gather.specs.Held.{chosen, visits_at, AreInOne}
-use Rattle.loop_core_gather.proofs.ChoiceLaws.{visits_next}
+use Rattle.loop_core_gather.{specs.Held.{chosen, visits_at, AreInOne}, proofs.ChoiceLaws.{visits_next}}
 
 -- planes stand for visits, which come before those of the blocks at these places
 pub record StandBefore (each : BlockOf → ℕ → List Visit) (all left : List BlockOf) (planes : Planes) : Type 0 where

@@ -1,27 +1,14 @@
 -- The words of a page: those that are left there, block after block.
 use Rattle.std.proofs.Common.{◌≡◌, ℕ, ◌+◌, ◌*◌, ◌/◌, ◌%◌, ◌<◌, ◌≤◌, Bool, true, false, eqb, List, [], drop, length, map}
 use Rattle.std.proofs.Common.{get_or, set, refl, sym, ◌∙◌, ap, inl, inr, arith, get_or-set_same, get_or-set_other}
-use Rattle.std.specs.Prelude.{slice_index, bit_or, if◌then◌else◌, ◌==◌, ◌&&◌, not}
-use Rattle.std.specs.Int.{bit_at}
-use Rattle.std.specs.List.{count_by}
-use Rattle.std.specs.Option.{unwrap_or}
-use Rattle.std.proofs.Math.ListN.{drop_of_length-le}
-use Rattle.std.proofs.lemmas.Bool.{cases_eq}
-use Rattle.std.proofs.lemmas.List.{get_or_past}
-use Rattle.std.proofs.lemmas.Nat.{le_or_l, le_or_r}
-use Rattle.std.proofs.lemmas.Nat.Bits.{bit_at-zero}
-use Rattle.array_maps.specs.declared.access.Op.{Op}
-use Rattle.array_maps.specs.declared.access.Op.TheVariants.{Add, Or, And, Xor, AddH}
-use Rattle.array_maps.specs.Accesses.{operators}
-use Rattle.loop_core_model.specs.Kept.{committed_of_kept}
-use Rattle.loop_core_model.specs.Planes.{bit_of}
-use Rattle.shadow_marks.specs.declared.planes.OperatorPlanes.{OperatorPlanes}
-use Rattle.shadow_marks.specs.declared.planes.Planes.{Planes}
-use Rattle.shadow_marks.specs.Standing.{plane_by}
-use Rattle.loop_core_block.specs.declared.block.Block.{Block as Held}
-use Rattle.loop_core_block.specs.Shown.{shown}
-use Rattle.loop_core_gather.specs.Held.{chosen, kept_at, is_reduction, TellsUntouched}
-use Rattle.loop_core_gather.specs.Pages.{IsPageOf}
+use Rattle.std.specs.{Prelude.{slice_index, bit_or, if◌then◌else◌, ◌==◌, ◌&&◌, not}, Int.{bit_at}, List.{count_by}}
+use Rattle.std.{specs.Option.{unwrap_or}, proofs.{Math.ListN.{drop_of_length-le}, lemmas.Bool.{cases_eq}}}
+use Rattle.std.proofs.lemmas.{List.{get_or_past}, Nat.{le_or_l, le_or_r, Bits.{bit_at-zero}}}
+use Rattle.array_maps.specs.{declared.access.Op.{Op, TheVariants.{Add, Or, And, Xor, AddH}}, Accesses.{operators}}
+use Rattle.loop_core_model.specs.{Kept.{committed_of_kept}, Planes.{bit_of}}
+use Rattle.shadow_marks.specs.{declared.planes.{OperatorPlanes.{OperatorPlanes}, Planes.{Planes}}, Standing.{plane_by}}
+use Rattle.loop_core_block.specs.{declared.block.Block.{Block as Held}, Shown.{shown}}
+use Rattle.loop_core_gather.specs.{Held.{chosen, kept_at, is_reduction, MarksTouched}, Pages.{IsPageOf}}
 use Rattle.loop_core_gather.proofs.ChoiceLaws.{kept_next}
 
 -- past the last word there is 0
@@ -66,7 +53,7 @@ overwritten_none elements page blocks places old = record { each = λ k below in
 -- by one place more
 pub overwritten_next : (elements page word : ℕ) (blocks : List Held) (places old now new : List ℕ) (n : ℕ) (b : Held)
     (touched : Bool)
-    → ((k : ℕ) → k < 64 → page * 64 + k < elements → TellsUntouched word (page * 64 + k) (map shown blocks) places)
+    → ((k : ℕ) → k < 64 → page * 64 + k < elements → MarksTouched word (page * 64 + k) (map shown blocks) places)
     → n < length places → get_or places n 0 < length blocks → b ≡ get_or blocks (get_or places n 0) b
     → touched ≡ (bit_at word n == 1)
     → ((k : ℕ) → k < 64 → page * 64 + k < elements → slice_index new k ≡
@@ -134,7 +121,7 @@ and_false : (b : Bool) → (b && false) ≡ false
 and_false true = refl
 and_false false = refl
 
--- how many operators pass, where each is told
+-- how many operators pass, if each is one
 abbrev pick : (add or and xor addh : Bool) → Op → Bool
 pick add or and xor addh Add = add
 pick add or and xor addh Or = or

@@ -1,16 +1,10 @@
 -- Loops that pass.
 use Rattle.std.proofs.Common.{◌≡◌, ℕ, List, subst, sym, ◌∙◌, ap}
 use Rattle.bpf_insn_types.specs.Program.{Program}
-use Rattle.bpf_step_model.specs.State.{LoopCall}
-use Rattle.bpf_step_model.specs.Run.{Ended}
-use Rattle.loop_core_model.specs.declared.loop_test.Test.{Test}
-use Rattle.loop_core_model.specs.declared.verdict.Verdict.{Verdict}
-use Rattle.loop_core_model.specs.declared.verdict.Verdict.TheVariants.{Parallel}
-use Rattle.loop_core_gather.specs.declared.storing.LeftPage.{LeftPage}
-use Rattle.loop_core_gather.specs.Decisions.{Passes}
-use Rattle.loop_core_gather.specs.Gathered.{HasOutcome}
-use Rattle.loop_core_gather.specs.Held.{GatheredOf}
-use Rattle.loop_core_gather.specs.Pages.{AreLeft}
+use Rattle.bpf_step_model.specs.{State.{LoopCall}, Run.{Ended}}
+use Rattle.loop_core_model.specs.declared.{loop_test.Test.{Test}, verdict.Verdict.{Verdict, TheVariants.{Parallel}}}
+use Rattle.loop_core_gather.specs.{declared.storing.LeftPage.{LeftPage}, Decisions.{Passes}, Gathered.{HasOutcome}}
+use Rattle.loop_core_gather.specs.{Held.{GatheredOf}, Pages.{AreLeft}}
 
 -- gathered blocks that pass leave these pages
 pub passes_so : (test : Test) (program : Program) (call : LoopCall) (words : List ℕ) (g : GatheredOf) (answer : ℕ)

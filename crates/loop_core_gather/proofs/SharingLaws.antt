@@ -1,15 +1,11 @@
 -- Pages that were touched, and what is left at them.
-use Rattle.std.proofs.Common.{◌≡◌, ◌≢◌, ℕ, ◌+◌, ◌<◌, ◌≤◌, true, false, ◌||◌, eqb, List, [], ◌∷◌, ◌++◌, take}
-use Rattle.std.proofs.Common.{length, get_or, refl, sym, ◌∙◌, ap, subst, inl, inr, arith, eq-eqb}
-use Rattle.std.specs.Prelude.{slice_index}
-use Rattle.std.specs.List.{AllByRecursion, AllZip}
-use Rattle.std.proofs.lemmas.Bool.{cases_eq}
-use Rattle.std.proofs.lemmas.List.{take_more, take_all}
+use Rattle.std.proofs.Common.{◌≡◌, ◌≢◌, ℕ, ◌+◌, ◌<◌, ◌≤◌, true, false, ◌||◌, eqb, List, [], ◌∷◌, ◌++◌, take, length}
+use Rattle.std.{proofs.Common.{get_or, refl, sym, ◌∙◌, ap, subst, inl, inr, arith, eq-eqb}, specs.Prelude.{slice_index}}
+use Rattle.std.{specs.List.{AllByRecursion, AllZip}, proofs.lemmas.{Bool.{cases_eq}, List.{take_more, take_all}}}
 use Rattle.std.proofs.lemmas.List.Folds.{list_any-append}
 use Rattle.private_copy.specs.Touched.{has_page}
-use Rattle.loop_core_gather.specs.declared.storing.LeftPage.{LeftPage}
+use Rattle.loop_core_gather.{specs.declared.storing.LeftPage.{LeftPage}, proofs.UntouchedLaws.{not_both, or_true}}
 use Rattle.loop_core_gather.specs.Pages.{IsPageOf, HaveAllTouched, ChangesWithin, IsLeftAt, numbers_of, AreLeft}
-use Rattle.loop_core_gather.proofs.UntouchedLaws.{not_both, or_true}
 
 -- of the pages below one those that were touched are in a list
 abbrev pub HaveTouchedBelow : (touched : List ℕ) (n : ℕ) (pages : List ℕ) → Type 0

@@ -1,17 +1,13 @@
 -- Pages stored in maps, one after another.
-use Rattle.std.proofs.Common.{◌≡◌, ◌≢◌, ℕ, zero, suc, ◌+◌, ◌*◌, ◌/◌, ◌%◌, ◌<◌, ◌≤◌, Bool, ◌||◌}
-use Rattle.std.proofs.Common.{List, [], ◌∷◌, drop, take, length, get_or, set, refl, sym, ◌∙◌, ap}
-use Rattle.std.proofs.Common.{subst, inl, inr, arith, get_or-set_same, get_or-set_other}
-use Rattle.std.specs.Prelude.{slice_index}
-use Rattle.std.proofs.Math.ListN.{drop_of_length-le}
+use Rattle.std.proofs.Common.{◌≡◌, ◌≢◌, ℕ, zero, suc, ◌+◌, ◌*◌, ◌/◌, ◌%◌, ◌<◌, ◌≤◌, Bool, ◌||◌, List, [], ◌∷◌, drop}
+use Rattle.std.proofs.Common.{take, length, get_or, set, refl, sym, ◌∙◌, ap, subst, inl, inr, arith, get_or-set_same}
+use Rattle.std.{proofs.{Common.{get_or-set_other}, Math.ListN.{drop_of_length-le}}, specs.Prelude.{slice_index}}
 use Rattle.std.proofs.lemmas.Bool.{cases_eq, ne_eqb}
 use Rattle.std.proofs.lemmas.List.{ext_get_or, drop_more, length-set, length-take-le, get_or-take}
-use Rattle.array_maps.specs.Accesses.{Write, words_after_run}
-use Rattle.array_maps.specs.MapList.{MapList}
+use Rattle.array_maps.specs.{Accesses.{Write, words_after_run}, MapList.{MapList}}
 use Rattle.private_copy.specs.Touched.{has_page}
 use Rattle.loop_core_sequential.proofs.MapEffects.{both_parts}
-use Rattle.loop_core_gather.specs.declared.storing.LeftPage.{LeftPage}
-use Rattle.loop_core_gather.specs.Pages.{numbers_of, AreLeft, SetsPage}
+use Rattle.loop_core_gather.specs.{declared.storing.LeftPage.{LeftPage}, Pages.{numbers_of, AreLeft, SetsPage}}
 use Rattle.loop_core_gather.proofs.PageLaws.{at_own}
 
 -- words after values are stored from a first one on

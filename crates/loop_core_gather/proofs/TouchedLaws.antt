@@ -1,9 +1,7 @@
 -- Pages marked by the bits of the blocks that touched them.
-use Rattle.std.proofs.Common.{◌≡◌, ℕ, suc, ◌^◌, ◌<◌, Bool, true, false, ◌||◌, eqb, List, []}
-use Rattle.std.proofs.Common.{◌∷◌, length, get_or, set, Some, refl, sym, ◌∙◌, ap, subst, inl}
-use Rattle.std.proofs.Common.{inr, arith, get_or-set_same, get_or-set_other, eq-eqb}
-use Rattle.std.specs.Prelude.{bit_or, slice_get}
-use Rattle.std.specs.Int.{bit_at}
+use Rattle.std.proofs.Common.{◌≡◌, ℕ, suc, ◌^◌, ◌<◌, Bool, true, false, ◌||◌, eqb, List, [], ◌∷◌, length, get_or, set}
+use Rattle.std.proofs.Common.{Some, refl, sym, ◌∙◌, ap, subst, inl, inr, arith, get_or-set_same, get_or-set_other}
+use Rattle.std.{proofs.Common.{eq-eqb}, specs.{Prelude.{bit_or, slice_get}, Int.{bit_at}}}
 use Rattle.std.proofs.lemmas.Bool.{cases_eq, eqb-true}
 use Rattle.private_copy.specs.Touched.{has_page}
 use Rattle.shadow_marks.proofs.BitLaws.{bit_ored}

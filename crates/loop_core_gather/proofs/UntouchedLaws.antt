@@ -1,24 +1,17 @@
 -- What isn't in the pages that a block touched.
-use Rattle.std.proofs.Common.{◌≡◌, ℕ, ◌<◌, Bool, true, false, ◌||◌, eqb, List, [], ◌∷◌, ◌++◌, length}
-use Rattle.std.proofs.Common.{Some, None, Option, refl, sym, ◌∙◌, ap, arith, eq-eqb}
-use Rattle.std.specs.Prelude.{if◌then◌else◌, slice_index}
-use Rattle.std.specs.Option.{option_or, option_map}
-use Rattle.std.proofs.lemmas.Bool.{eqb-true}
-use Rattle.std.proofs.lemmas.List.Folds.{list_any-append}
+use Rattle.std.proofs.Common.{◌≡◌, ℕ, ◌<◌, Bool, true, false, ◌||◌, eqb, List, [], ◌∷◌, ◌++◌, length, Some, None}
+use Rattle.std.{proofs.Common.{Option, refl, sym, ◌∙◌, ap, arith, eq-eqb}, specs.Prelude.{if◌then◌else◌, slice_index}}
+use Rattle.std.{specs.Option.{option_or, option_map}, proofs.lemmas.{Bool.{eqb-true}, List.Folds.{list_any-append}}}
 use Rattle.array_maps.specs.Accesses.{Access, Action, actions_at, left_by_all}
 use Rattle.bpf_insn_types.specs.Program.{Program}
 use Rattle.bpf_step_model.specs.State.{LoopCall}
-use Rattle.loop_core_model.specs.declared.loop_test.Test.{Test}
-use Rattle.loop_core_model.specs.Actions.{writes, joined}
-use Rattle.loop_core_model.specs.Committed.{last_that}
-use Rattle.loop_core_model.specs.Conflict.{at_element}
-use Rattle.loop_core_model.specs.LeastBreak.{accesses_of_each}
+use Rattle.loop_core_model.specs.{declared.loop_test.Test.{Test}, Actions.{writes, joined}, Committed.{last_that}}
+use Rattle.loop_core_model.specs.{Conflict.{at_element}, LeastBreak.{accesses_of_each}}
 use Rattle.loop_core_model.proofs.Turns.{actions_at-append}
 use Rattle.private_copy.specs.declared.reduction.Reduction.TheVariants.{Untouched}
 use Rattle.private_copy.specs.Reductions.{combination, reduction_from}
 use Rattle.private_copy.specs.Touched.{page_of, has_page, with_page, pages_after}
-use Rattle.loop_core_block.specs.Blocks.{BlockOf}
-use Rattle.loop_core_block.specs.Ran.{RecordsRun}
+use Rattle.loop_core_block.specs.{Blocks.{BlockOf}, Ran.{RecordsRun}}
 use Rattle.loop_core_gather.specs.Held.{IsUntouchedElement}
 
 pub not_both : (b : Bool) → b ≡ true → b ≡ false → ⊥

@@ -2,16 +2,10 @@
 use Rattle.std.specs.Prelude.{◌≡◌, ℕ, List, map, length}
 use Rattle.array_maps.specs.MapList.{MapList}
 use Rattle.bpf_insn_types.specs.Program.{Program}
-use Rattle.bpf_step_model.specs.State.{LoopCall}
-use Rattle.bpf_step_model.specs.Run.{Ended}
-use Rattle.loop_core_model.specs.declared.loop_test.Test.{Test}
-use Rattle.loop_core_model.specs.declared.verdict.Verdict.{Verdict}
-use Rattle.loop_core_model.specs.declared.verdict.Verdict.TheVariants.{Parallel}
-use Rattle.loop_core_model.specs.Report.{verdict}
-use Rattle.loop_core_model.specs.Gather.{Block}
-use Rattle.loop_core_model.specs.Outcome.{Outcome, outcome}
-use Rattle.loop_core_block.specs.Blocks.{BlockOf}
-use Rattle.loop_core_block.specs.Ran.{as_gathered}
+use Rattle.bpf_step_model.specs.{State.{LoopCall}, Run.{Ended}}
+use Rattle.loop_core_model.specs.declared.{loop_test.Test.{Test}, verdict.Verdict.{Verdict, TheVariants.{Parallel}}}
+use Rattle.loop_core_model.specs.{Report.{verdict}, Gather.{Block}, Outcome.{Outcome, outcome}}
+use Rattle.loop_core_block.specs.{Blocks.{BlockOf}, Ran.{as_gathered}}
 use Rattle.loop_core_gather.specs.Held.{GatheredOf}
 
 -- blocks as they are gathered
@@ -26,17 +20,17 @@ outcome_of g = record { verdict = g.verdict; answer = g.answer; words = g.words 
 -- the start words
 pub record HasOutcome (test : Test) (program : Program) (call : LoopCall) (words : List ℕ) (g : GatheredOf) : Type 0
   where
-    pub told : verdict test program 4096 call words ≡ Ended g.verdict
+    pub ended : verdict test program 4096 call words ≡ Ended g.verdict
     pub passes : g.verdict ≡ Parallel → outcome test program 4096 call words ≡ Ended (outcome_of g)
     pub count : length g.words ≡ length words
     pub starts : g.start ≡ words
 
 -- the outcome of a loop call from these maps: the verdict, the answer, and the maps after it, which are of the same
 -- sizes
-pub record IsOutcome (test : Test) (program : Program) (call : LoopCall) (start : MapList) (told : Verdict) (answer : ℕ)
-    (left : MapList) : Type 0 where
+pub record IsOutcome (test : Test) (program : Program) (call : LoopCall) (start : MapList) (verdict : Verdict)
+    (answer : ℕ) (left : MapList) : Type 0 where
   pub outcome_is : outcome test program 4096 call start.words ≡ Ended (record {
-    verdict = told;
+    verdict = verdict;
     answer = answer;
     words = left.words;
   })

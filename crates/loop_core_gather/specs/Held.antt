@@ -1,15 +1,9 @@
 -- What is kept of gathered blocks, and what a pass leaves by it.
-use Rattle.std.specs.Prelude.{◌≡◌, ℕ, ◌/◌, ◌<◌, ◌≤◌, Bool, false, not, ◌&&◌, ◌==◌, List}
-use Rattle.std.specs.Prelude.{map, length, slice_get, slice_index, Some, None}
-use Rattle.std.specs.Int.{bit_at}
-use Rattle.std.specs.List.{All, count_by, filter_map, range_with_len}
+use Rattle.std.specs.Prelude.{◌≡◌, ℕ, ◌/◌, ◌<◌, ◌≤◌, Bool, false, not, ◌&&◌, ◌==◌, List, map, length, slice_get}
+use Rattle.std.specs.{Prelude.{slice_index, Some, None}, Int.{bit_at}, List.{All, count_by, filter_map, range_with_len}}
 use Rattle.array_maps.specs.Accesses.{operators}
-use Rattle.loop_core_model.specs.declared.loop_test.Test.{Test}
-use Rattle.loop_core_model.specs.declared.verdict.Verdict.{Verdict}
-use Rattle.loop_core_model.specs.Actions.{joined}
-use Rattle.loop_core_model.specs.Marks.{Visit}
-use Rattle.loop_core_model.specs.Planes.{bit_of}
-use Rattle.loop_core_model.specs.Kept.{Kept, committed_of_kept}
+use Rattle.loop_core_model.specs.{declared.{loop_test.Test.{Test}, verdict.Verdict.{Verdict}}, Actions.{joined}}
+use Rattle.loop_core_model.specs.{Marks.{Visit}, Planes.{bit_of}, Kept.{Kept, committed_of_kept}}
 use Rattle.shadow_marks.specs.declared.planes.Planes.{Planes}
 use Rattle.shadow_marks.specs.Standing.{ArePlanes, StandFor, words_for, plane_by, test_of}
 use Rattle.private_copy.specs.Reductions.{combination}
@@ -18,8 +12,8 @@ use Rattle.loop_core_block.specs.Blocks.{BlockOf}
 use Rattle.loop_core_gather.specs.declared.summary.Summary.{Summary}
 
 -- what gathering asks of a block
-abbrev pub told_of : BlockOf → Summary
-told_of b = record { number = b.number; first = b.first; past = b.past; broke = b.broke }
+abbrev pub summary_of_block : BlockOf → Summary
+summary_of_block b = record { number = b.number; first = b.first; past = b.past; broke = b.broke }
 
 -- the blocks at these places, in order
 abbrev pub chosen : List ℕ → List BlockOf → List BlockOf
@@ -72,8 +66,8 @@ pub record IsUntouchedElement (e : ℕ) (b : BlockOf) : Type 0 where
   pub partial : combination (b.copy.reduction e) ≡ None
 
 -- a word has a bit for each of the blocks at these places; of a block whose bit isn't set nothing is kept at an element
-abbrev pub TellsUntouched : (word e : ℕ) → List BlockOf → List ℕ → Type 0
-TellsUntouched word e blocks places = (i : ℕ) (b : BlockOf) → i < length places
+abbrev pub MarksTouched : (word e : ℕ) → List BlockOf → List ℕ → Type 0
+MarksTouched word e blocks places = (i : ℕ) (b : BlockOf) → i < length places
     → slice_get blocks (slice_index places i) ≡ Some b →
     (bit_at word i == 1) ≡ false → IsUntouchedElement e b
 
@@ -88,7 +82,7 @@ pub record AreHeld (elements : ℕ) (blocks : List BlockOf) (places : List ℕ) 
   pub stand : StandForSome planes
   pub count : planes.elements ≡ elements
   pub pages : length touched ≡ words_for elements
-  pub untouched : (e : ℕ) → e < elements → TellsUntouched (slice_index touched (e / 64)) e blocks places
+  pub untouched : (e : ℕ) → e < elements → MarksTouched (slice_index touched (e / 64)) e blocks places
 
 -- gathered blocks as contracts see them: the loop's verdict, and what it answers and leaves after a pass from these
 -- start words

@@ -1,4 +1,4 @@
-pub mod Told
+pub mod Summaries
 pub mod Counting
 pub mod Held
 pub mod Gathered

@@ -1,6 +1,5 @@
 -- Which blocks touched which pages: a word for each page, of which each bit says of one block.
-use Rattle.std.specs.Prelude.{◌≡◌, ℕ, ◌<◌, Bool, true, ◌==◌, List, length, slice_get, slice_index, Some}
-use Rattle.std.specs.Int.{bit_at}
+use Rattle.std.specs.{Prelude.{◌≡◌, ℕ, ◌<◌, Bool, true, ◌==◌, List, length, slice_get, slice_index, Some}, Int.{bit_at}}
 use Rattle.private_copy.specs.Touched.{has_page}
 use Rattle.loop_core_block.specs.Blocks.{BlockOf}
 

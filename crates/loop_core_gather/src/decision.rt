@@ -2,8 +2,7 @@
 
 ghost use Rattle.std.specs.Prelude.{◌≡◌, IfOk};
 ghost use Rattle.bpf_verify_sound.specs.Soundness.{OverApproximatesCall};
-ghost use Rattle.loop_core_gather.specs.Decisions.{IsDecision};
-ghost use Rattle.loop_core_gather.specs.Gathered.{IsOutcome};
+ghost use Rattle.loop_core_gather.specs.{Decisions.{IsDecision}, Gathered.{IsOutcome}};
 
 use crate::storing::{LeftPage, store_pages};
 use array_maps::Maps;
@@ -24,7 +23,7 @@ pub enum Decision {
 
 /// The verdict on a loop, and what its call answers: how many iterations ran in order, or would have.
 #[derive(Clone, Copy)]
-pub struct CarriedOut {
+pub struct LoopResult {
     pub verdict: Verdict,
     pub answer: u32,
 }
@@ -43,13 +42,13 @@ pub struct LoopOutcome {
 impl Decision {
     /// Applies to the maps the decision by this test on a loop call on them that main of this program made: they are
     /// then as the loop leaves them. The maps are of the program's sizes.
-    pub fn carry_out(
+    pub fn apply(
         self,
         program: &Verified,
         call: &LoopCall,
         maps: &mut Maps,
         test: Test,
-    ) -> CarriedOut
+    ) -> LoopResult
         requires known { OverApproximatesCall program.now call.now }
         requires sizes { maps.old.sizes ≡ program.now.sizes }
         requires decided { IsDecision test program.now call.now maps.old.words self }
@@ -58,20 +57,20 @@ impl Decision {
         match self {
             Decision::Commit { answer, pages } => {
                 store_pages(maps, &pages);
-                CarriedOut {
+                LoopResult {
                     verdict: Verdict::Parallel,
                     answer,
                 }
             }
-            Decision::Discard { verdict } => CarriedOut {
+            Decision::Discard { verdict } => LoopResult {
                 verdict,
                 answer: in_order(program, call, maps),
             },
         }
     }
 
-    /// Applies the decision, as `carry_out` does, to a copy of the maps, which stay as they are.
-    pub fn carry_out_on_copy(
+    /// Applies the decision, as `apply` does, to a copy of the maps, which stay as they are.
+    pub fn apply_to_copy(
         self,
         alloc: Global,
         program: &Verified,
@@ -85,7 +84,7 @@ impl Decision {
         ensures { IfOk result (λ o. IsOutcome test program.now call.now start.now o.verdict o.answer o.maps) }
     {
         let mut maps = start.try_copy(alloc)?;
-        let CarriedOut { verdict, answer } = self.carry_out(program, call, &mut maps, test);
+        let LoopResult { verdict, answer } = self.apply(program, call, &mut maps, test);
         Ok(LoopOutcome {
             verdict,
             answer,

@@ -1,14 +1,10 @@
 //! Gathering the blocks of a loop.
 
-ghost use Rattle.std.specs.Prelude.{◌≡◌, ◌≤◌, map, Some, None, Err, IfOk, OnOk};
-ghost use Rattle.std.specs.List.{All};
+ghost use Rattle.std.specs.{Prelude.{◌≡◌, ◌≤◌, map, Some, None, Err, IfOk, OnOk}, List.{All}};
 ghost use Rattle.bpf_verify_sound.specs.Soundness.{OverApproximatesCall};
-ghost use Rattle.loop_core_model.specs.LeastBreak.{count_to};
-ghost use Rattle.loop_core_model.specs.Split.{split_fault};
-ghost use Rattle.loop_core_model.specs.Gather.{gather_fault};
+ghost use Rattle.loop_core_model.specs.{LeastBreak.{count_to}, Split.{split_fault}, Gather.{gather_fault}};
 ghost use Rattle.loop_core_model.specs.declared.faults.GatherFault.{GatherFault as FaultOf};
-ghost use Rattle.loop_core_block.specs.Ran.{RecordsRun};
-ghost use Rattle.loop_core_block.specs.Shown.{shown};
+ghost use Rattle.loop_core_block.specs.{Ran.{RecordsRun}, Shown.{shown}};
 ghost use Rattle.loop_core_gather.specs.Gathered.{all_gathered, HasOutcome};
 
 use crate::gathered::Gathered;
@@ -82,7 +78,7 @@ pub fn gather<'a>(
         ≡ Some fault }
     ensures faultless { OnOk result (gather_fault split.now (all_gathered program.now call.now start.now.words
         (map shown blocks.entry.items)) ≡ None) }
-    ensures told { IfOk result (HasOutcome test program.now call.now start.now.words) }
+    ensures outcome { IfOk result (HasOutcome test program.now call.now start.now.words) }
 {
     let summaries = summaries_of(alloc, &blocks)?;
     let counting = match counting_blocks(split, &summaries) {

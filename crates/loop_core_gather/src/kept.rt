@@ -1,13 +1,11 @@
 //! What blocks kept at an element, put together.
 
-ghost use Rattle.std.specs.Prelude.{◌≡◌, ◌==◌, ◌<◌, ◌≤◌, true, false, if◌then◌else◌, map, length};
-ghost use Rattle.std.specs.Int.{bit_at};
-ghost use Rattle.std.specs.List.{All};
-ghost use Rattle.std.specs.Option.{unwrap_or};
+ghost use Rattle.std.specs.{Prelude.{◌≡◌, ◌==◌, ◌<◌, ◌≤◌, true, false, if◌then◌else◌, map, length}, Int.{bit_at}};
+ghost use Rattle.std.specs.{List.{All}, Option.{unwrap_or}};
 ghost use Rattle.private_copy.specs.Reductions.{combination};
 ghost use Rattle.loop_core_model.specs.Kept.{applied as applied_to, committed_of_kept};
 ghost use Rattle.loop_core_block.specs.Shown.{shown};
-ghost use Rattle.loop_core_gather.specs.Held.{chosen, kept_at, TellsUntouched};
+ghost use Rattle.loop_core_gather.specs.Held.{chosen, kept_at, MarksTouched};
 
 use array_maps::{Op, combine};
 use loop_core_block::Block;
@@ -60,7 +58,7 @@ pub(crate) fn combined(blocks: &[Block], places: &[usize], touched: u64, e: u32,
     requires places { All (λ place. place < length blocks.now) places.now }
     requires few { length places.now ≤ 64 }
     requires within { All (λ b. e < length (shown b).copy.start) blocks.now }
-    requires touched { TellsUntouched touched e (map shown blocks.now) places.now }
+    requires touched { MarksTouched touched e (map shown blocks.now) places.now }
     ensures { result ≡ committed_of_kept true (map (kept_at e) (chosen places.now (map shown blocks.now))) word }
 {
     let mut value = word;
@@ -82,7 +80,7 @@ pub(crate) fn last_written(
     requires places { All (λ place. place < length blocks.now) places.now }
     requires few { length places.now ≤ 64 }
     requires within { All (λ b. e < length (shown b).copy.start) blocks.now }
-    requires touched { TellsUntouched touched e (map shown blocks.now) places.now }
+    requires touched { MarksTouched touched e (map shown blocks.now) places.now }
     ensures { result ≡ committed_of_kept false (map (kept_at e) (chosen places.now (map shown blocks.now))) word }
 {
     let mut value = word;

@@ -15,7 +15,7 @@ mod summary;
 mod touched;
 mod workspace;
 
-pub use decision::{CarriedOut, Decision, LoopOutcome};
+pub use decision::{Decision, LoopOutcome, LoopResult};
 pub use gathered::Gathered;
 pub use gathering::{GatherError, gather};
 pub use loop_core_model::GatherFault;

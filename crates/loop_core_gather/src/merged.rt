@@ -1,9 +1,7 @@
 //! The marks of several blocks, merged, and what follows from them.
 
-ghost use Rattle.std.specs.Prelude.{◌≡◌, ◌<◌, ◌/◌, map, length, slice_index, IfOk};
-ghost use Rattle.std.specs.List.{All, count_by};
-ghost use Rattle.array_maps.specs.declared.access.Op.{Op as Operator};
-ghost use Rattle.array_maps.specs.Accesses.{operators};
+ghost use Rattle.std.specs.{Prelude.{◌≡◌, ◌<◌, ◌/◌, map, length, slice_index, IfOk}, List.{All, count_by}};
+ghost use Rattle.array_maps.specs.{declared.access.Op.{Op as Operator}, Accesses.{operators}};
 ghost use Rattle.loop_core_block.specs.Shown.{shown};
 ghost use Rattle.loop_core_model.specs.Planes.{bit_of};
 ghost use Rattle.shadow_marks.specs.Standing.{ArePlanes, plane_by};

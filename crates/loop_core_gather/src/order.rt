@@ -2,8 +2,8 @@
 
 ghost use Rattle.std.specs.Prelude.{◌≡◌, ◌==◌, not, length, Some, None, IfOk, IfErr, IfSome, IfNone};
 ghost use Rattle.std.specs.List.{list_any, position_from};
-ghost use Rattle.loop_core_gather.specs.Told.{least_told, twice_told, stands_told, order_told};
-ghost use Rattle.loop_core_gather.specs.Counting.{told_fault, Counts};
+ghost use Rattle.loop_core_gather.specs.Summaries.{least_broke, has_twins, is_in_split, order_of};
+ghost use Rattle.loop_core_gather.specs.Counting.{summary_fault, Counts};
 
 use crate::summary::Summary;
 use arrayvec::ArrayVec;
@@ -22,9 +22,9 @@ pub struct Counting {
     pub places: ArrayVec<usize, PLACES>,
 }
 
-#[tactic(auto, using(crate::proofs::ToldLaws::lesser_assoc))]
+#[tactic(auto, using(crate::proofs::SummaryLaws::lesser_assoc))]
 fn least_break(blocks: &[Summary]) -> Option<u32>
-    ensures { result ≡ least_told blocks.now }
+    ensures { result ≡ least_broke blocks.now }
 {
     let mut least = None;
     for block in blocks {
@@ -50,8 +50,8 @@ fn places_of(
     blocks: &[Summary],
     least: Option<u32>,
 ) -> Option<ArrayVec<usize, PLACES>>
-    ensures some { IfSome result (λ places. order_told least blocks.now split.now ≡ Some places.items) }
-    ensures none { IfNone result (order_told least blocks.now split.now ≡ None) }
+    ensures some { IfSome result (λ places. order_of least blocks.now split.now ≡ Some places.items) }
+    ensures none { IfNone result (order_of least blocks.now split.now ≡ None) }
 {
     let mut places = ArrayVec::new();
     for number in 0..split.blocks() {
@@ -78,7 +78,7 @@ fn has_number(blocks: &[Summary], number: u32) -> bool
 
 /// Whether a number appears twice.
 fn has_twins(blocks: &[Summary]) -> bool
-    ensures { result ≡ twice_told blocks.now }
+    ensures { result ≡ has_twins blocks.now }
 {
     for (place, block) in blocks.iter().enumerate() {
         if has_number(&blocks[place + 1..], block.number) {
@@ -89,8 +89,8 @@ fn has_twins(blocks: &[Summary]) -> bool
 }
 
 /// Whether an interval is the split's.
-fn stands_in(split: &Split, block: Summary) -> bool
-    ensures { result ≡ stands_told split.now block }
+fn is_in_split(split: &Split, block: Summary) -> bool
+    ensures { result ≡ is_in_split split.now block }
 {
     block.number < split.blocks()
         && split.start(block.number) == block.first
@@ -99,10 +99,10 @@ fn stands_in(split: &Split, block: Summary) -> bool
 
 /// Whether an interval isn't the split's.
 fn has_foreign(split: &Split, blocks: &[Summary]) -> bool
-    ensures { result ≡ list_any (λ s. not (stands_told split.now s)) blocks.now }
+    ensures { result ≡ list_any (λ s. not (is_in_split split.now s)) blocks.now }
 {
     for block in blocks {
-        if !stands_in(split, *block) {
+        if !is_in_split(split, *block) {
             return true;
         }
     }
@@ -114,7 +114,7 @@ fn has_foreign(split: &Split, blocks: &[Summary]) -> bool
 /// G1 (`Missing`) a block of the split isn't there that starts at or before the least break of those that are, G2
 /// (`Twice`) a number appears twice, G3 (`Foreign`) an interval isn't the split's: the least of them.
 pub fn counting_blocks(split: &Split, blocks: &[Summary]) -> Result<Counting, GatherFault>
-    ensures fault { IfErr result (λ fault. told_fault split.now blocks.now ≡ Some fault) }
+    ensures fault { IfErr result (λ fault. summary_fault split.now blocks.now ≡ Some fault) }
     ensures counts { IfOk result (λ counting. Counts split.now blocks.now counting.least counting.places.items) }
 {
     let least = least_break(blocks);

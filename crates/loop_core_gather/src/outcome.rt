@@ -26,7 +26,7 @@ pub fn commit_or_rerun(
 ) -> Result<LoopOutcome, AllocError>
     requires known { OverApproximatesCall program.now call.now }
     requires sizes { start.now.sizes ≡ program.now.sizes }
-    requires told { HasOutcome test program.now call.now start.now.words gathered.now }
+    requires outcome { HasOutcome test program.now call.now start.now.words gathered.now }
     ensures { IfOk result (λ o. IsOutcome test program.now call.now start.now o.verdict o.answer o.maps) }
 {
     let decision = match gathered.verdict() {
@@ -36,5 +36,5 @@ pub fn commit_or_rerun(
         },
         verdict => Decision::Discard { verdict },
     };
-    decision.carry_out_on_copy(alloc, program, call, start, test)
+    decision.apply_to_copy(alloc, program, call, start, test)
 }

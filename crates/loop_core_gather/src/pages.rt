@@ -1,12 +1,10 @@
 //! Pages of what a pass leaves.
 
 ghost use Rattle.std.specs.Prelude.{◌≡◌, ℕ, ◌+◌, ◌*◌, ◌<◌, ◌≤◌, false, if◌then◌else◌, map, length, slice_index};
-ghost use Rattle.std.specs.List.{All};
-ghost use Rattle.std.specs.Option.{unwrap_or};
+ghost use Rattle.std.specs.{List.{All}, Option.{unwrap_or}};
 ghost use Rattle.loop_core_model.specs.Kept.{committed_of_kept};
 ghost use Rattle.loop_core_block.specs.Shown.{shown};
-ghost use Rattle.loop_core_gather.specs.Held.{chosen, kept_at, TellsUntouched};
-ghost use Rattle.loop_core_gather.specs.Pages.{IsPageOf};
+ghost use Rattle.loop_core_gather.specs.{Held.{chosen, kept_at, MarksTouched}, Pages.{IsPageOf}};
 
 use crate::gathered::Gathered;
 use crate::kept::has_bit;
@@ -107,7 +105,7 @@ pub(crate) fn overwrite_in_turn(
     requires places { All (λ place. place < length blocks.now) places.now }
     requires few { length places.now ≤ 64 }
     requires starts { All (λ b. length (shown b).copy.start ≡ elements) blocks.now }
-    requires touched { (k : ℕ) → k < 64 → page * 64 + k < elements → TellsUntouched touched (page * 64 + k)
+    requires touched { (k : ℕ) → k < 64 → page * 64 + k < elements → MarksTouched touched (page * 64 + k)
         (map shown blocks.now) places.now }
     ensures each { (k : ℕ) → k < 64 → page * 64 + k < elements → slice_index own.new k ≡ committed_of_kept false
         (map (kept_at (page * 64 + k)) (chosen places.now (map shown blocks.now))) (slice_index own.old k) }

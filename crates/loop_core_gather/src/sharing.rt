@@ -1,7 +1,6 @@
 //! Pages after a pass, worked out by one thread or several.
 
-ghost use Rattle.std.specs.Prelude.{◌≤◌, length, IfOk};
-ghost use Rattle.std.specs.List.{AllZip};
+ghost use Rattle.std.specs.{Prelude.{◌≤◌, length, IfOk}, List.{AllZip}};
 ghost use Rattle.loop_core_gather.specs.Pages.{IsLeftAt, HaveAllTouched};
 
 use crate::gathered::Gathered;

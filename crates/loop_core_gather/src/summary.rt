@@ -2,7 +2,7 @@
 
 ghost use Rattle.std.specs.Prelude.{◌≡◌, map, IfOk};
 ghost use Rattle.loop_core_block.specs.Shown.{shown};
-ghost use Rattle.loop_core_gather.specs.Held.{told_of};
+ghost use Rattle.loop_core_gather.specs.Held.{summary_of_block};
 
 use loop_core_block::Block;
 use std::alloc::{AllocError, Global};
@@ -21,7 +21,7 @@ pub struct Summary {
 }
 
 fn summary_of(block: &Block) -> Summary
-    ensures { result ≡ told_of (shown block.now) }
+    ensures { result ≡ summary_of_block (shown block.now) }
 {
     Summary {
         number: block.number(),
@@ -33,7 +33,7 @@ fn summary_of(block: &Block) -> Summary
 
 /// What is asked of each block.
 pub(crate) fn summaries_of(alloc: Global, blocks: &[Block]) -> Result<Vec<Summary>, AllocError>
-    ensures { IfOk result (λ summaries. summaries.items ≡ map told_of (map shown blocks.now)) }
+    ensures { IfOk result (λ summaries. summaries.items ≡ map summary_of_block (map shown blocks.now)) }
 {
     let mut summaries = Vec::new(alloc);
     for block in blocks {

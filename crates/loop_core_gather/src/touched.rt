@@ -1,7 +1,6 @@
 //! Which blocks touched which pages.
 
-ghost use Rattle.std.specs.Prelude.{◌≡◌, ◌^◌, ◌<◌, ◌≤◌, map, length, IfOk};
-ghost use Rattle.std.specs.List.{All};
+ghost use Rattle.std.specs.{Prelude.{◌≡◌, ◌^◌, ◌<◌, ◌≤◌, map, length, IfOk}, List.{All}};
 ghost use Rattle.shadow_marks.specs.Standing.{words_for};
 ghost use Rattle.loop_core_block.specs.Shown.{shown};
 ghost use Rattle.loop_core_gather.specs.Touched.{MarksPage, MarksPages, AreMarked};

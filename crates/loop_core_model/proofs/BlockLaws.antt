@@ -1,10 +1,8 @@
 -- The scan of adjacent intervals.
 use Rattle.std.proofs.Common.{◌≡◌, zero, suc, ◌+◌, Bool, true, false, List, [], ◌∷◌, ◌++◌, refl, sym, ◌∙◌, ap, arith}
 use Rattle.std.specs.Prelude.{if◌then◌else◌, ◌==◌}
-use Rattle.bpf_step_model.specs.Run.{BoundedResult, Ended, Stuck, Unfinished, mapped, followed}
-use Rattle.bpf_step_model.specs.Iteration.{Iterated}
-use Rattle.loop_core_model.specs.LeastBreak.{in_front_of}
-use Rattle.loop_core_model.specs.Scan.{up_to_break, scan}
+use Rattle.bpf_step_model.specs.{Run.{BoundedResult, Ended, Stuck, Unfinished, mapped, followed}, Iteration.{Iterated}}
+use Rattle.loop_core_model.specs.{LeastBreak.{in_front_of}, Scan.{up_to_break, scan}}
 use Rattle.loop_core_model.specs.Block.{has_break, unless_break, ScansFollow}
 
 mapped_same : (e : BoundedResult (List Iterated)) → mapped (λ others. [] ++ others) e ≡ e

@@ -1,12 +1,8 @@
 -- An even split is a split.
-use Rattle.std.proofs.Common.{◌≡◌, ℕ, zero, suc, ◌+◌, ◌*◌, ◌≤◌, ◌<◌, true, false, not, ◌||◌, List}
-use Rattle.std.proofs.Common.{map, length, Some, None, refl, sym, ◌∙◌, ap, subst, arith}
-use Rattle.std.specs.Prelude.{◌==◌, ◌/◌, nat_lt}
-use Rattle.std.specs.List.{range_with_len}
+use Rattle.std.proofs.Common.{◌≡◌, ℕ, zero, suc, ◌+◌, ◌*◌, ◌≤◌, ◌<◌, true, false, not, ◌||◌, List, map, length, Some}
+use Rattle.std.{proofs.Common.{None, refl, sym, ◌∙◌, ap, subst, arith}, specs.Prelude.{◌==◌, ◌/◌, nat_lt}}
+use Rattle.std.{specs.List.{range_with_len}, proofs.lemmas.{Bool.{le-ltb, Decides.{nat_tests}}, Nat.{le-div}}}
 use Rattle.std.proofs.Math.Nat.{mul-div_cancel_left, zero-mul, zero-div, div-mul-le_self, add-mul}
-use Rattle.std.proofs.lemmas.Bool.{le-ltb}
-use Rattle.std.proofs.lemmas.Nat.{le-div}
-use Rattle.std.proofs.lemmas.Bool.Decides.{nat_tests}
 use Rattle.std.proofs.lemmas.List.FromFn.{length-map-range_with_len}
 use Rattle.loop_core_model.specs.declared.faults.SplitFault.TheVariants.{Number}
 use Rattle.loop_core_model.specs.Split.{falls, last_bound, ends_amiss, split_fault, even_bounds, EvenIsSplit}

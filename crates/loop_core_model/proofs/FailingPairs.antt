@@ -1,13 +1,9 @@
 -- A test fails exactly where there is a pair of iterations that fails it.
-use Rattle.std.proofs.Common.{◌≡◌, ◌≢◌, ℕ, zero, suc, ◌<◌, Bool, true, false, ◌&&◌, ◌||◌}
-use Rattle.std.proofs.Common.{◌⊎◌, inl, inr, List, [], ◌∷◌, length, refl, arith}
-use Rattle.std.specs.Prelude.{slice_index_or}
-use Rattle.std.specs.List.{list_any}
+use Rattle.std.proofs.Common.{◌≡◌, ◌≢◌, ℕ, zero, suc, ◌<◌, Bool, true, false, ◌&&◌, ◌||◌, ◌⊎◌, inl, inr, List, [], ◌∷◌}
+use Rattle.std.{proofs.Common.{length, refl, arith}, specs.{Prelude.{slice_index_or}, List.{list_any}}}
 use Rattle.std.proofs.lemmas.Bool.{or_cases}
 use Rattle.array_maps.specs.Accesses.{Action}
-use Rattle.loop_core_model.specs.declared.loop_test.Test.{Test}
-use Rattle.loop_core_model.specs.declared.loop_test.Test.TheVariants.{Lrpd, Flow}
-use Rattle.loop_core_model.specs.Actions.{writes, exposed}
+use Rattle.loop_core_model.specs.{declared.loop_test.Test.{Test, TheVariants.{Lrpd, Flow}}, Actions.{writes, exposed}}
 use Rattle.loop_core_model.specs.Conflict.{fails_lrpd, fails_flow, fails, Opposed, FailingPair, FailsByPair}
 use Rattle.loop_core_model.proofs.OneElement.{and_true_left, and_true_right}
 

@@ -1,16 +1,11 @@
 -- Where a scan breaks: at the first index of its interval whose iteration returns 1.
-use Rattle.std.proofs.Common.{◌≡◌, ℕ, zero, suc, ◌+◌, ◌≤◌, ◌<◌, Bool, true, false, ◌||◌, ◌⊎◌, inl, inr, List}
-use Rattle.std.proofs.Common.{[], ◌∷◌, Option, Some, None, refl, sym, ◌∙◌, ap, subst, arith, eqb}
-use Rattle.std.specs.Prelude.{if◌then◌else◌, ◌==◌, is_some}
-use Rattle.std.proofs.lemmas.Bool.{cases_lt}
-use Rattle.std.proofs.lemmas.Bool.Decides.{eqb_tells}
-use Rattle.bpf_step_model.specs.Run.{BoundedResult, Ended, Stuck, Unfinished, followed}
-use Rattle.bpf_step_model.specs.Iteration.{Iterated}
+use Rattle.std.proofs.Common.{◌≡◌, ℕ, zero, suc, ◌+◌, ◌≤◌, ◌<◌, Bool, true, false, ◌||◌, ◌⊎◌, inl, inr, List, [], ◌∷◌}
+use Rattle.std.proofs.{Common.{Option, Some, None, refl, sym, ◌∙◌, ap, subst, arith, eqb}, lemmas.Bool.{cases_lt}}
+use Rattle.std.{specs.Prelude.{if◌then◌else◌, ◌==◌, is_some}, proofs.lemmas.Bool.Decides.{eqb_tells}}
+use Rattle.bpf_step_model.specs.{Run.{BoundedResult, Ended, Stuck, Unfinished, followed}, Iteration.{Iterated}}
 use Rattle.bpf_step_model.proofs.Endings.{mapped_from}
-use Rattle.loop_core_model.specs.LeastBreak.{is_break, in_front_of}
-use Rattle.loop_core_model.specs.Scan.{up_to_break, scan}
-use Rattle.loop_core_model.proofs.Least.{LeastIs}
-use Rattle.loop_core_model.specs.Block.{has_break, break_from}
+use Rattle.loop_core_model.specs.{LeastBreak.{is_break, in_front_of}, Scan.{up_to_break, scan}}
+use Rattle.loop_core_model.{proofs.Least.{LeastIs}, specs.Block.{has_break, break_from}}
 
 -- no index of an interval passes
 abbrev pub NoneIn : (ℕ → Bool) → (index past : ℕ) → Type 0

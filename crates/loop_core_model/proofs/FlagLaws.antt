@@ -1,10 +1,7 @@
 -- Each action changes an iteration's flags by its kind alone.
 use Rattle.std.proofs.Common.{◌≡◌, Bool, true, false, not, ◌&&◌, ◌||◌, List, [], ◌∷◌, ◌++◌, refl, ◌∙◌, ap}
-use Rattle.std.specs.List.{list_any}
-use Rattle.std.proofs.Math.Bool.{or-false}
-use Rattle.std.proofs.lemmas.List.Folds.{list_any-append}
-use Rattle.array_maps.specs.declared.access.Op.{Op}
-use Rattle.array_maps.specs.Accesses.{Action, Read, Write, ReadWrite, Reduce}
+use Rattle.std.{specs.List.{list_any}, proofs.{Math.Bool.{or-false}, lemmas.List.Folds.{list_any-append}}}
+use Rattle.array_maps.specs.{declared.access.Op.{Op}, Accesses.{Action, Read, Write, ReadWrite, Reduce}}
 use Rattle.loop_core_model.specs.Actions.{is_write, writes, is_plain_write, exposed, reduces_by}
 use Rattle.loop_core_model.specs.Flags.{kind_of, is_plain, Flags, flags_of, flagged, FlagsFollowKinds}
 

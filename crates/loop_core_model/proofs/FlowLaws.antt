@@ -1,10 +1,8 @@
 -- What conflicts by the flow test conflicts by the other too.
-use Rattle.std.proofs.Common.{◌≡◌, ℕ, Bool, true, false, List, [], ◌∷◌, refl, ◌∙◌, ap}
-use Rattle.std.specs.Prelude.{is_none, cond}
+use Rattle.std.{proofs.Common.{◌≡◌, ℕ, Bool, true, false, List, [], ◌∷◌, refl, ◌∙◌, ap}, specs.Prelude.{is_none, cond}}
 use Rattle.std.specs.List.{filter, range_with_len}
 use Rattle.array_maps.specs.Accesses.{Action, Access}
-use Rattle.loop_core_model.specs.declared.loop_test.Test.TheVariants.{Lrpd, Flow}
-use Rattle.loop_core_model.specs.Actions.{joined, only_operator}
+use Rattle.loop_core_model.specs.{declared.loop_test.Test.TheVariants.{Lrpd, Flow}, Actions.{joined, only_operator}}
 use Rattle.loop_core_model.specs.Conflict.{fails_lrpd, fails_flow, conflicts, at_element, conflicting, FlowPassesMore}
 use Rattle.loop_core_model.proofs.OneElement.{and_false, fails_flow-fails_lrpd}
 

@@ -2,26 +2,19 @@
 use Rattle.std.proofs.Common.{◌≡◌, ℕ, zero, suc, ◌+◌, ◌-◌, ◌≤◌, ◌<◌, Bool, true, false, not, ◌&&◌, ◌||◌, ◌⊎◌, inl, inr}
 use Rattle.std.proofs.Common.{List, [], ◌∷◌, ◌++◌, map, length, Option, Some, None, refl, sym, ◌∙◌, ap, subst, arith}
 use Rattle.std.specs.Prelude.{if◌then◌else◌, ◌==◌, nat_lt, min, cond, is_none, is_some, slice_get}
-use Rattle.std.specs.List.{list_any, AllByRecursion}
+use Rattle.std.{specs.List.{list_any, AllByRecursion}, proofs.lemmas.List.{append-nil}}
 use Rattle.std.proofs.lemmas.Bool.{cases_lt, eqb-true, ltb-false, le-ltb, lt-ltb}
-use Rattle.std.proofs.lemmas.List.{append-nil}
 use Rattle.bpf_insn_types.specs.Program.{Program}
-use Rattle.bpf_step_model.specs.State.{LoopCall}
-use Rattle.bpf_step_model.specs.Run.{BoundedResult, Ended, mapped, followed}
+use Rattle.bpf_step_model.specs.{State.{LoopCall}, Run.{BoundedResult, Ended, mapped, followed}}
 use Rattle.bpf_step_model.specs.Iteration.{Iterated, iteration}
-use Rattle.loop_core_model.specs.Actions.{joined}
-use Rattle.loop_core_model.specs.LeastBreak.{is_break, least_below, lesser}
-use Rattle.loop_core_model.specs.Scan.{scan}
-use Rattle.loop_core_model.proofs.Least.{least_is}
+use Rattle.loop_core_model.specs.{Actions.{joined}, LeastBreak.{is_break, least_below, lesser}, Scan.{scan}}
+use Rattle.loop_core_model.proofs.{Least.{least_is}, ScanLaws.{counted_are_scanned}, BlockLaws.{scans_follow}}
 use Rattle.loop_core_model.proofs.OneElement.{or_false_left, or_false_right, and_true_left, and_true_right}
-use Rattle.loop_core_model.proofs.ScanLaws.{counted_are_scanned}
-use Rattle.loop_core_model.specs.Block.{has_break, break_from, unless_break}
-use Rattle.loop_core_model.specs.Split.{falls, last_bound, ends_amiss}
+use Rattle.loop_core_model.specs.{Block.{has_break, break_from, unless_break}, Split.{falls, last_bound, ends_amiss}}
 use Rattle.loop_core_model.specs.Gather.{Block, IsRunOf, least_of, starts_late, block_numbered, lacks_block, counting}
 use Rattle.loop_core_model.specs.Gather.{lacks_some, twice, is_bound, stands_in, gathered, Gathers, BlocksGather}
-use Rattle.loop_core_model.proofs.BlockLaws.{scans_follow}
-use Rattle.loop_core_model.proofs.FirstBreak.{NoneIn, IsFirst, FirstIs, widened, one_first}
-use Rattle.loop_core_model.proofs.FirstBreak.{break_there, breaking, scan_first}
+use Rattle.loop_core_model.proofs.FirstBreak.{NoneIn, IsFirst, FirstIs, widened, one_first, break_there, breaking}
+use Rattle.loop_core_model.proofs.FirstBreak.{scan_first}
 
 -- the least of some breaks is at most each of them
 abbrev pub AtMost : Option ℕ → Option ℕ → Type 0

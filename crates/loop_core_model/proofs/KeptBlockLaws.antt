@@ -1,11 +1,9 @@
 -- The marks of blocks are those of their iterations.
 use Rattle.std.proofs.Common.{◌≡◌, ℕ, ◌+◌, List, [], ◌∷◌, ◌++◌, map, length, ◌∙◌, ap, arith}
 use Rattle.array_maps.specs.Accesses.{Action}
-use Rattle.loop_core_model.specs.Actions.{joined}
+use Rattle.loop_core_model.{specs.Actions.{joined}, proofs.MarkLaws.{marks_tell, marks_merge}}
 use Rattle.loop_core_model.specs.Marks.{Visit, numbered, marks_of, marked_reduction, marked_conflict, merged}
-use Rattle.loop_core_model.proofs.MarkLaws.{marks_tell, marks_merge}
-use Rattle.loop_core_model.specs.Kept.{kept, committed_of_kept}
-use Rattle.loop_core_model.proofs.KeptLaws.{commits_of_kept}
+use Rattle.loop_core_model.{specs.Kept.{kept, committed_of_kept}, proofs.KeptLaws.{commits_of_kept}}
 use Rattle.loop_core_model.specs.KeptLaw.{marks_of_blocks, KeptBlocksTell}
 
 numbered-append : (index : ℕ) (xs ys : List (List Action)) → numbered index (xs ++ ys) ≡ numbered index xs

@@ -1,18 +1,14 @@
 -- What a pass leaves follows from what is kept of the blocks.
-use Rattle.std.proofs.Common.{◌≡◌, ℕ, Bool, true, List, [], ◌∷◌, ◌++◌, map, Option, Some}
-use Rattle.std.proofs.Common.{None, refl, sym, ◌∙◌, ap, subst, append_assoc}
-use Rattle.std.specs.Prelude.{if◌then◌else◌, is_some}
-use Rattle.std.specs.Option.{option_or, option_map, unwrap_or}
-use Rattle.std.specs.List.{list_all, fold}
-use Rattle.std.proofs.lemmas.List.Sums.{fold-append}
+use Rattle.std.proofs.Common.{◌≡◌, ℕ, Bool, true, List, [], ◌∷◌, ◌++◌, map, Option, Some, None, refl, sym, ◌∙◌, ap}
+use Rattle.std.{proofs.Common.{subst, append_assoc}, specs.{Prelude.{if◌then◌else◌, is_some}, List.{list_all, fold}}}
+use Rattle.std.{specs.Option.{option_or, option_map, unwrap_or}, proofs.lemmas.List.Sums.{fold-append}}
 use Rattle.std.proofs.lemmas.List.Elements.{filter_map-append}
 use Rattle.array_maps.specs.declared.access.Op.{Op}
 use Rattle.array_maps.specs.Accesses.{Action, Read, Write, ReadWrite, Reduce, combined, left_by_all}
 use Rattle.loop_core_model.specs.Actions.{writes, is_same, reduces_by, joined, only_operator, operand_of, operands}
-use Rattle.loop_core_model.specs.Committed.{last_that, last_value, committed_by}
+use Rattle.loop_core_model.specs.{Committed.{last_that, last_value, committed_by}, Kept.{CommitsOfKept}}
 use Rattle.loop_core_model.proofs.OneElement.{and_true_left, and_true_right, same_op, all_left, all_right, only_reduces}
-use Rattle.loop_core_model.specs.Kept.{partial_by, partial, Kept, kept, applied, last_of}
-use Rattle.loop_core_model.specs.Kept.{committed_of_kept, CommitsOfKept}
+use Rattle.loop_core_model.specs.Kept.{partial_by, partial, Kept, kept, applied, last_of, committed_of_kept}
 use Rattle.loop_core_model.proofs.OperatorLaws.{fold_at_once}
 
 -- where all actions reduce by one operator, a block's partial does what they do

@@ -1,10 +1,7 @@
 -- The least number that passes a test, and what a filter of a range keeps.
-use Rattle.std.proofs.Common.{◌≡◌, ℕ, zero, suc, ◌+◌, ◌<◌, ◌≤◌, Bool, true, false, ◌⊎◌, inl, inr}
-use Rattle.std.proofs.Common.{List, [], ◌∷◌, Option, Some, None, refl, sym, subst, arith, eqb}
-use Rattle.std.specs.Prelude.{if◌then◌else◌, cond}
-use Rattle.std.specs.Option.{option_or}
-use Rattle.std.specs.List.{filter, range_with_len}
-use Rattle.std.proofs.lemmas.Bool.Decides.{eqb_tells}
+use Rattle.std.proofs.Common.{◌≡◌, ℕ, zero, suc, ◌+◌, ◌<◌, ◌≤◌, Bool, true, false, ◌⊎◌, inl, inr, List, [], ◌∷◌, Option}
+use Rattle.std.{proofs.Common.{Some, None, refl, sym, subst, arith, eqb}, specs.Prelude.{if◌then◌else◌, cond}}
+use Rattle.std.{specs.{Option.{option_or}, List.{filter, range_with_len}}, proofs.lemmas.Bool.Decides.{eqb_tells}}
 use Rattle.loop_core_model.specs.LeastBreak.{least_below, count_to}
 
 -- below which nothing passes

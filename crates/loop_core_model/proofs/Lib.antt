@@ -25,3 +25,6 @@ pub mod RunBlocks
 pub mod ScheduleLaws
 pub mod OutcomeLaws
 pub mod KeptBlockLaws
+pub mod Swapping
+pub mod Sparing
+pub mod EffectLaws

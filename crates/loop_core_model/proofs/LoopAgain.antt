@@ -1,31 +1,20 @@
 -- The loop in order does again what the counted iterations did on the start words.
-use Rattle.std.proofs.Common.{◌≡◌, ℕ, zero, suc, ◌+◌, ◌≤◌, Bool, true, false, List, [], ◌∷◌, ◌++◌}
-use Rattle.std.proofs.Common.{map, length, refl, sym, ◌∙◌, ap, subst, arith, add-zero}
-use Rattle.std.specs.Prelude.{if◌then◌else◌, ◌==◌, is_none}
-use Rattle.std.specs.List.{AllByRecursion, range_with_len}
-use Rattle.std.proofs.lemmas.List.{append-nil}
-use Rattle.array_maps.specs.Accesses.{Action, Access, words_after_all}
-use Rattle.array_maps.proofs.ElementLaws.{length-words_after_all}
+use Rattle.std.proofs.Common.{◌≡◌, ℕ, zero, suc, ◌+◌, ◌≤◌, Bool, true, false, List, [], ◌∷◌, ◌++◌, map, length, refl}
+use Rattle.std.{proofs.Common.{sym, ◌∙◌, ap, subst, arith, add-zero}, specs.Prelude.{if◌then◌else◌, ◌==◌, is_none}}
+use Rattle.std.{specs.List.{AllByRecursion, range_with_len}, proofs.lemmas.List.{append-nil}}
+use Rattle.array_maps.{specs.Accesses.{Action, Access, words_after_all}, proofs.ElementLaws.{length-words_after_all}}
 use Rattle.bpf_insn_types.specs.Program.{Program}
-use Rattle.bpf_step_model.specs.State.{LoopCall}
-use Rattle.bpf_step_model.specs.Run.{BoundedResult, Ended, Stuck, Unfinished, mapped, followed}
-use Rattle.bpf_step_model.specs.Iteration.{Iterated, iteration}
+use Rattle.bpf_step_model.specs.{State.{LoopCall}, Run.{BoundedResult, Ended, Stuck, Unfinished, mapped, followed}}
+use Rattle.bpf_step_model.{specs.Iteration.{Iterated, iteration}, proofs.Endings.{mapped_from}}
 use Rattle.bpf_step_model.specs.LoopInOrder.{Looped, behind, loop_from, loop_in_order}
-use Rattle.bpf_step_model.proofs.Endings.{mapped_from}
-use Rattle.loop_core_model.specs.declared.loop_test.Test.{Test}
-use Rattle.loop_core_model.specs.declared.loop_test.Test.TheVariants.{Lrpd, Flow}
-use Rattle.loop_core_model.specs.Actions.{joined, only_operator}
+use Rattle.loop_core_model.specs.{declared.loop_test.Test.{Test, TheVariants.{Lrpd, Flow}}, LeastBreak.{counted_runs}}
+use Rattle.loop_core_model.specs.{Actions.{joined, only_operator}, Committed.{committed_words}, Law.{LoopLaw}}
 use Rattle.loop_core_model.specs.Conflict.{fails_lrpd, fails_flow, conflicts, at_element, conflicting}
-use Rattle.loop_core_model.specs.LeastBreak.{is_break, counted, counted_iterations, all_ended}
-use Rattle.loop_core_model.specs.LeastBreak.{accesses_of_each, counted_runs}
-use Rattle.loop_core_model.specs.Committed.{committed_words}
-use Rattle.loop_core_model.specs.Law.{LoopLaw}
-use Rattle.loop_core_model.proofs.OneElement.{and_false, Unharmed, fails_flow-fails_lrpd}
-use Rattle.loop_core_model.proofs.Turns.{Saws, InTurn, UnharmedEach, words_after_all-append}
-use Rattle.loop_core_model.proofs.Turns.{in_turn_at_start, all_committed}
-use Rattle.loop_core_model.proofs.RunAgain.{iteration_local}
-use Rattle.loop_core_model.proofs.Least.{EndsAt, ends_here, ends_next, ends_somewhere}
-use Rattle.loop_core_model.proofs.Least.{ends_at_zero, counts_to, filter_none}
+use Rattle.loop_core_model.specs.LeastBreak.{is_break, counted, counted_iterations, all_ended, accesses_of_each}
+use Rattle.loop_core_model.proofs.{OneElement.{and_false, Unharmed, fails_flow-fails_lrpd}, Turns.{all_committed}}
+use Rattle.loop_core_model.proofs.Turns.{Saws, InTurn, UnharmedEach, words_after_all-append, in_turn_at_start}
+use Rattle.loop_core_model.proofs.{RunAgain.{iteration_local}, Least.{filter_none}}
+use Rattle.loop_core_model.proofs.Least.{EndsAt, ends_here, ends_next, ends_somewhere, ends_at_zero, counts_to}
 
 -- an iteration ended
 abbrev pub IsEnded : BoundedResult Iterated → Type 0

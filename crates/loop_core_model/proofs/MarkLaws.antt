@@ -1,20 +1,12 @@
 -- What the marks of a set of iterations tell, and how they come about.
-use Rattle.std.proofs.Common.{◌≡◌, ℕ, ◌+◌, ◌-◌, ◌≤◌, Bool, true, false, not, ◌&&◌, ◌||◌, ◌⊎◌, inl, inr}
-use Rattle.std.proofs.Common.{List, [], ◌∷◌, ◌++◌, Option, Some, None, refl, sym, ◌∙◌, ap, arith}
-use Rattle.std.specs.Prelude.{if◌then◌else◌, ◌==◌, nat_lt, min, max, is_some}
-use Rattle.std.specs.List.{list_any, count_by}
-use Rattle.std.proofs.Math.Bool.{or_assoc, or_comm, or-false}
-use Rattle.std.proofs.lemmas.Bool.Decides.{nat_tests}
-use Rattle.std.proofs.lemmas.List.{map-append}
-use Rattle.std.proofs.lemmas.List.Folds.{list_any-append}
-use Rattle.array_maps.specs.declared.access.Op.{Op}
-use Rattle.array_maps.specs.Accesses.{Action, operators}
-use Rattle.loop_core_model.specs.declared.loop_test.Test.{Test}
-use Rattle.loop_core_model.specs.declared.loop_test.Test.TheVariants.{Lrpd, Flow}
+use Rattle.std.proofs.Common.{◌≡◌, ℕ, ◌+◌, ◌-◌, ◌≤◌, Bool, true, false, not, ◌&&◌, ◌||◌, ◌⊎◌, inl, inr, List, [], ◌∷◌}
+use Rattle.std.{proofs.Common.{◌++◌, Option, Some, None, refl, sym, ◌∙◌, ap, arith}, specs.List.{list_any, count_by}}
+use Rattle.std.{specs.Prelude.{if◌then◌else◌, ◌==◌, nat_lt, min, max, is_some}, proofs.lemmas.Bool.Decides.{nat_tests}}
+use Rattle.std.proofs.{Math.Bool.{or_assoc, or_comm, or-false}, lemmas.List.{map-append, Folds.{list_any-append}}}
+use Rattle.array_maps.specs.{declared.access.Op.{Op}, Accesses.{Action, operators}}
+use Rattle.loop_core_model.specs.{declared.loop_test.Test.{Test, TheVariants.{Lrpd, Flow}}, LeastBreak.{lesser}}
 use Rattle.loop_core_model.specs.Actions.{writes, exposed, reduces_by, joined, only_operator}
-use Rattle.loop_core_model.specs.Conflict.{fails_lrpd, fails_flow, fails, conflicts}
-use Rattle.loop_core_model.specs.LeastBreak.{lesser}
-use Rattle.loop_core_model.specs.Flags.{is_plain, flags_of}
+use Rattle.loop_core_model.specs.{Conflict.{fails_lrpd, fails_flow, fails, conflicts}, Flags.{is_plain, flags_of}}
 use Rattle.loop_core_model.specs.Marks.{Visit, actions_of, numbered, Marks, two_write, first_writer, last_reader}
 use Rattle.loop_core_model.specs.Marks.{marks_of, marked_reduction, stands_before, first_number, marked_fails}
 use Rattle.loop_core_model.specs.Marks.{marked_conflict, marks_of_one, merged}

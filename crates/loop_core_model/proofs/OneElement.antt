@@ -1,16 +1,12 @@
 -- What happens at one element when iterations run one after another, where each is known by its actions on the start
 -- word.
-use Rattle.std.proofs.Common.{◌≡◌, ℕ, Bool, true, false, ◌&&◌, ◌||◌, ◌⊎◌, inl, inr, List, []}
-use Rattle.std.proofs.Common.{◌∷◌, ◌++◌, Option, Some, None, refl, sym, ◌∙◌, ap, subst}
-use Rattle.std.specs.Prelude.{if◌then◌else◌, is_none}
-use Rattle.std.specs.Option.{option_or, option_map, unwrap_or}
-use Rattle.std.specs.List.{list_any, list_all, fold}
-use Rattle.array_maps.specs.declared.access.Op.{Op}
-use Rattle.array_maps.specs.declared.access.Op.TheVariants.{Add, Or, And, Xor, AddH}
+use Rattle.std.proofs.Common.{◌≡◌, ℕ, Bool, true, false, ◌&&◌, ◌||◌, ◌⊎◌, inl, inr, List, [], ◌∷◌, ◌++◌, Option, Some}
+use Rattle.std.{proofs.Common.{None, refl, sym, ◌∙◌, ap, subst}, specs.Prelude.{if◌then◌else◌, is_none}}
+use Rattle.std.specs.{Option.{option_or, option_map, unwrap_or}, List.{list_any, list_all, fold}}
+use Rattle.array_maps.specs.declared.access.Op.{Op, TheVariants.{Add, Or, And, Xor, AddH}}
 use Rattle.array_maps.specs.Accesses.{Action, Read, Write, ReadWrite, Reduce, combined, left_by, left_by_all, SawEach}
 use Rattle.loop_core_model.specs.Actions.{writes, exposed, is_same, reduces_by, joined, only_operator, operands}
-use Rattle.loop_core_model.specs.Conflict.{fails_lrpd, fails_flow}
-use Rattle.loop_core_model.specs.Committed.{last_that, committed_by, committed}
+use Rattle.loop_core_model.specs.{Conflict.{fails_lrpd, fails_flow}, Committed.{last_that, committed_by, committed}}
 
 -- both sides of a test that is false, or true
 pub or_false_left : (a b : Bool) → (a || b) ≡ false → a ≡ false

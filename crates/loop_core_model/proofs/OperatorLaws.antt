@@ -1,15 +1,10 @@
 -- Each operator is associative.
 use Rattle.std.proofs.Common.{◌≡◌, ℕ, zero, suc, ◌+◌, ◌*◌, ◌<◌, ◌⊎◌, inl, inr, List, [], ◌∷◌, refl, sym, ◌∙◌, ap, arith}
-use Rattle.std.specs.Prelude.{◌/◌, ◌%◌, ◌^◌, bit_and, bit_or, bit_xor}
-use Rattle.std.specs.List.{fold}
-use Rattle.std.specs.Int.Bits.{xor_assoc, or_zero_l}
-use Rattle.std.proofs.Math.Arith.{bin_ind}
-use Rattle.std.proofs.Math.Nat.{mod-mod, mod-lt, add-mod-mod, mod-add-mod, add_assoc, div-add-mod}
+use Rattle.std.specs.{Prelude.{◌/◌, ◌%◌, ◌^◌, bit_and, bit_or, bit_xor}, List.{fold}, Int.Bits.{xor_assoc, or_zero_l}}
+use Rattle.std.proofs.Math.{Arith.{bin_ind}, Nat.{mod-mod, mod-lt, add-mod-mod, mod-add-mod, add_assoc, div-add-mod}}
 use Rattle.std.proofs.lemmas.Nat.{and_assoc, and_mod, or_mod, or_shr, xor_mod}
 use Rattle.bpf_insn_types.specs.Words.{alu}
-use Rattle.array_maps.specs.declared.access.Op.{Op}
-use Rattle.array_maps.specs.declared.access.Op.TheVariants.{Add, Or, And, Xor, AddH}
-use Rattle.array_maps.specs.Accesses.{combined}
+use Rattle.array_maps.specs.{declared.access.Op.{Op, TheVariants.{Add, Or, And, Xor, AddH}}, Accesses.{combined}}
 use Rattle.array_maps.specs.Halves.{of_halves, half_of, halves_added}
 use Rattle.loop_core_model.specs.Kept.{combined_from_first, applied, OperatorsAssociate}
 

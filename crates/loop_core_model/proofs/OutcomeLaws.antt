@@ -2,17 +2,11 @@
 use Rattle.std.proofs.Common.{◌≡◌, ℕ, List, length, ◌∙◌, ap}
 use Rattle.array_maps.specs.Accesses.{Access}
 use Rattle.bpf_insn_types.specs.Program.{Program}
-use Rattle.bpf_step_model.specs.State.{LoopCall}
-use Rattle.bpf_step_model.specs.Run.{BoundedResult, Ended, mapped, followed}
+use Rattle.bpf_step_model.specs.{State.{LoopCall}, Run.{BoundedResult, Ended, mapped, followed}}
 use Rattle.bpf_step_model.specs.LoopInOrder.{Looped, loop_in_order}
-use Rattle.loop_core_model.specs.declared.loop_test.Test.{Test}
-use Rattle.loop_core_model.specs.declared.verdict.Verdict.{Verdict}
-use Rattle.loop_core_model.specs.Conflict.{conflicting}
-use Rattle.loop_core_model.specs.LeastBreak.{counted_runs}
-use Rattle.loop_core_model.specs.Report.{judged, verdict}
-use Rattle.loop_core_model.proofs.LoopAgain.{loop_law}
-use Rattle.loop_core_model.specs.Outcome.{judged_as, outcome}
-use Rattle.loop_core_model.specs.OutcomeLaw.{OutcomeByTest}
+use Rattle.loop_core_model.specs.{declared.{loop_test.Test.{Test}, verdict.Verdict.{Verdict}}, Conflict.{conflicting}}
+use Rattle.loop_core_model.{specs.{LeastBreak.{counted_runs}, Report.{judged, verdict}}, proofs.LoopAgain.{loop_law}}
+use Rattle.loop_core_model.specs.{Outcome.{judged_as, outcome}, OutcomeLaw.{OutcomeByTest}}
 
 outcome_is : (test : Test) (program : Program) (bound : ℕ) (call : LoopCall) (words : List ℕ)
     (runs : List (List Access)) (elements : List ℕ) (looped : Looped) →

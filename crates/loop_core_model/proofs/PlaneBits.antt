@@ -1,23 +1,15 @@
 -- The elements of a plane are counted by the bits of its words.
 use Rattle.std.proofs.Common.{◌≡◌, ℕ, zero, suc, ◌+◌, ◌*◌, ◌/◌, ◌%◌, ◌^◌, ◌≤◌, ◌<◌, Bool, true, false, cond, List, []}
 use Rattle.std.proofs.Common.{◌∷◌, ◌++◌, length, map, refl, sym, ◌∙◌, ap, ap₂, subst, arith, Option, Some, None}
-use Rattle.std.specs.Prelude.{◌==◌, count_ones, slice_index_or, if◌then◌else◌}
-use Rattle.std.specs.Int.{w64, bit_at, trailing_zeros}
-use Rattle.std.specs.Int.Count.{ones_step}
-use Rattle.std.specs.List.{filter, range_with_len}
-use Rattle.std.specs.Option.{option_map}
-use Rattle.std.proofs.Math.Nat.{pow-suc}
-use Rattle.std.proofs.lemmas.Bool.Decides.{nat_tests}
-use Rattle.std.proofs.lemmas.List.{length-map, length-append}
-use Rattle.std.proofs.lemmas.List.Elements.{filter-append}
-use Rattle.std.proofs.lemmas.Nat.{ones_le_self}
+use Rattle.std.specs.{Prelude.{◌==◌, count_ones, slice_index_or, if◌then◌else◌}, Int.{w64, bit_at, trailing_zeros}}
+use Rattle.std.specs.{Int.Count.{ones_step}, List.{filter, range_with_len}, Option.{option_map}}
+use Rattle.std.proofs.{Math.Nat.{pow-suc}, lemmas.{Bool.Decides.{nat_tests}, List.{length-map, length-append}}}
+use Rattle.std.proofs.lemmas.{List.Elements.{filter-append}, Nat.{ones_le_self}}
 use Rattle.std.proofs.lemmas.Nat.Bits.{bit_at_lowest, bit_at-suc, bit_at-zero, bit_at-trailing_zeros}
 use Rattle.array_maps.specs.MapList.{AreWords}
-use Rattle.loop_core_model.specs.declared.verdict.Verdict.TheVariants.{Conflict}
-use Rattle.loop_core_model.specs.Report.{judged}
-use Rattle.loop_core_model.specs.Planes.{bit_of, elements_in_plane, least_element_in, judged_by}
-use Rattle.loop_core_model.specs.Planes.{set_bits, least_bit, PlaneJudges}
-use Rattle.loop_core_model.proofs.PlaneLaws.{range-append, filter-same, filter-none}
+use Rattle.loop_core_model.specs.{declared.verdict.Verdict.TheVariants.{Conflict}, Report.{judged}}
+use Rattle.loop_core_model.specs.Planes.{bit_of, elements_in_plane, least_element_in, judged_by, set_bits, least_bit}
+use Rattle.loop_core_model.{specs.Planes.{PlaneJudges}, proofs.PlaneLaws.{range-append, filter-same, filter-none}}
 
 -- the places of a word's bits that are set
 unfoldable bits_in : (width word : ℕ) → List ℕ

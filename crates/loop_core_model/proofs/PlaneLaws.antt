@@ -1,10 +1,7 @@
 -- A plane has just the elements that pass.
-use Rattle.std.proofs.Common.{◌≡◌, ℕ, zero, suc, ◌+◌, ◌-◌, ◌*◌, ◌≤◌, ◌<◌, Bool, false}
-use Rattle.std.proofs.Common.{[], ◌∷◌, ◌++◌, length, refl, ◌∙◌, ap, arith}
-use Rattle.std.specs.Prelude.{cond}
-use Rattle.std.specs.List.{filter, range_with_len}
-use Rattle.std.proofs.lemmas.List.{append-nil}
-use Rattle.std.proofs.lemmas.List.Elements.{filter-append}
+use Rattle.std.proofs.Common.{◌≡◌, ℕ, zero, suc, ◌+◌, ◌-◌, ◌*◌, ◌≤◌, ◌<◌, Bool, false, [], ◌∷◌, ◌++◌, length, refl, ◌∙◌}
+use Rattle.std.{proofs.Common.{ap, arith}, specs.{Prelude.{cond}, List.{filter, range_with_len}}}
+use Rattle.std.proofs.lemmas.List.{append-nil, Elements.{filter-append}}
 use Rattle.loop_core_model.specs.Planes.{bit_of, PlaneHasElements}
 
 pub range-append : (from few more : ℕ) → range_with_len from (few + more) ≡ range_with_len from few

@@ -1,16 +1,12 @@
 -- The marks of reductions tell which elements are reduction-only.
-use Rattle.std.proofs.Common.{◌≡◌, ℕ, Bool, true, false, not, ◌&&◌, ◌||◌, List, []}
-use Rattle.std.proofs.Common.{◌∷◌, Some, None, refl, sym, ◌∙◌, ap, subst, arith}
-use Rattle.std.specs.Prelude.{if◌then◌else◌, ◌==◌, is_some}
-use Rattle.std.specs.List.{list_any, list_all, count_by}
-use Rattle.std.proofs.lemmas.Bool.Decides.{nat_tests}
+use Rattle.std.proofs.Common.{◌≡◌, ℕ, Bool, true, false, not, ◌&&◌, ◌||◌, List, [], ◌∷◌, Some, None, refl, sym, ◌∙◌, ap}
+use Rattle.std.{proofs.Common.{subst, arith}, specs.Prelude.{if◌then◌else◌, ◌==◌, is_some}}
+use Rattle.std.{specs.List.{list_any, list_all, count_by}, proofs.lemmas.Bool.Decides.{nat_tests}}
 use Rattle.std.proofs.lemmas.List.Folds.{list_any-append}
-use Rattle.array_maps.specs.declared.access.Op.{Op}
-use Rattle.array_maps.specs.declared.access.Op.TheVariants.{Add, Or, And, Xor, AddH}
+use Rattle.array_maps.specs.declared.access.Op.{Op, TheVariants.{Add, Or, And, Xor, AddH}}
 use Rattle.array_maps.specs.Accesses.{Action, Read, Write, ReadWrite, Reduce, operators}
-use Rattle.loop_core_model.specs.Actions.{is_same, reduces_by, joined, only_operator}
+use Rattle.loop_core_model.specs.{Actions.{is_same, reduces_by, joined, only_operator}, Flags.{is_plain}}
 use Rattle.loop_core_model.proofs.OneElement.{same_op, is_same-refl}
-use Rattle.loop_core_model.specs.Flags.{is_plain}
 
 pub any-joined : (p : Action → Bool) (its : List (List Action)) → list_any (λ actions. list_any p actions) its
     ≡ list_any p (joined its)

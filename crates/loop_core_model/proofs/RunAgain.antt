@@ -1,22 +1,18 @@
 -- A run knows the maps by what it sees alone: over other words where each of its accesses sees the same, it is the
 -- same.
-use Rattle.std.proofs.Common.{◌≡◌, ℕ, zero, suc, ◌<◌, Bool, true, false, List, [], ◌∷◌}
-use Rattle.std.proofs.Common.{length, Option, Some, None, refl, sym, ◌∙◌, ap, subst}
-use Rattle.std.specs.Prelude.{slice_get, slice_index, if◌then◌else◌, ◌==◌}
+use Rattle.std.proofs.Common.{◌≡◌, ℕ, zero, suc, ◌<◌, Bool, true, false, List, [], ◌∷◌, length, Option, Some, None}
+use Rattle.std.{proofs.Common.{refl, sym, ◌∙◌, ap, subst}, specs.Prelude.{slice_get, slice_index, if◌then◌else◌, ◌==◌}}
 use Rattle.std.proofs.lemmas.Bool.{eqb-true, eq-eqb}
 use Rattle.std.proofs.lemmas.Option.{slice_get_within, slice_get-get_or, get_or_from_slice_get}
-use Rattle.array_maps.specs.Accesses.{Action, Access, Saw}
-use Rattle.array_maps.specs.Accesses.{SawEach, actions_at, words_after, words_after_all}
+use Rattle.array_maps.specs.Accesses.{Action, Access, Saw, SawEach, actions_at, words_after, words_after_all}
 use Rattle.array_maps.proofs.ElementLaws.{length-words_after, element_after_all}
 use Rattle.bpf_insn_types.specs.Program.{Program}
-use Rattle.bpf_step_model.specs.State.{Machine, LoopCall, callback_entry}
-use Rattle.bpf_step_model.specs.Step.{Request, Load, Store, StoreHalf, Update, Fetch, StepOutcome}
-use Rattle.bpf_step_model.specs.Step.{NoStep, Next, Asks, Loops, Refuses, Exits, step}
-use Rattle.bpf_step_model.specs.Run.{BoundedResult, Ended, Stuck, Unfinished, StopReason, Exit, Loop}
-use Rattle.bpf_step_model.specs.Run.{Refused, RunSegment, action_of, after_request, mapped, followed}
-use Rattle.bpf_step_model.specs.Run.{with_first_step, ended_by, after_access, after_step, run}
+use Rattle.bpf_step_model.specs.{State.{Machine, LoopCall, callback_entry}, Step.{Loops, Refuses, Exits, step}}
+use Rattle.bpf_step_model.specs.Step.{Request, Load, Store, StoreHalf, Update, Fetch, StepOutcome, NoStep, Next, Asks}
+use Rattle.bpf_step_model.specs.Run.{BoundedResult, Ended, Stuck, Unfinished, StopReason, Exit, Loop, Refused}
+use Rattle.bpf_step_model.specs.Run.{RunSegment, action_of, after_request, mapped, followed, with_first_step, ended_by}
+use Rattle.bpf_step_model.{specs.Run.{after_access, after_step, run}, proofs.Endings.{mapped_from, ended_same}}
 use Rattle.bpf_step_model.specs.Iteration.{Iterated, exited_by, exited, iteration}
-use Rattle.bpf_step_model.proofs.Endings.{mapped_from, ended_same}
 use Rattle.loop_core_model.proofs.Turns.{Saws}
 
 -- the first access saw the word of its element

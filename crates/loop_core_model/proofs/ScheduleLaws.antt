@@ -1,37 +1,27 @@
 -- Every ended list of events leaves a complete list of blocks.
-use Rattle.std.proofs.Common.{◌≡◌, ℕ, zero, suc, ◌+◌, ◌<◌, ◌≤◌, Bool, true, false, ◌⊎◌, inl, inr, List}
-use Rattle.std.proofs.Common.{[], ◌∷◌, Option, Some, None, refl, sym, ◌∙◌, ap, subst, arith}
-use Rattle.std.specs.Prelude.{not, ◌==◌, nat_lt, is_none, map, length, replicate, slice_index_or}
-use Rattle.std.specs.Prelude.{slice_set, Result, Ok, Err, if◌then◌else◌}
-use Rattle.std.specs.List.{list_all, list_any}
-use Rattle.std.proofs.lemmas.Bool.{both_ways, ltb-false, eqb-true, eq-eqb, cases_eq}
-use Rattle.std.proofs.lemmas.Bool.{cases_Bool, and_parts, or_parts, or_cases}
+use Rattle.std.proofs.Common.{◌≡◌, ℕ, zero, suc, ◌+◌, ◌<◌, ◌≤◌, Bool, true, false, ◌⊎◌, inl, inr, List, [], ◌∷◌, Option}
+use Rattle.std.{proofs.Common.{Some, None, refl, sym, ◌∙◌, ap, subst, arith}, specs.Prelude.{Err, if◌then◌else◌}}
+use Rattle.std.specs.Prelude.{not, ◌==◌, nat_lt, is_none, map, length, replicate, slice_index_or, slice_set, Result, Ok}
+use Rattle.std.{specs.List.{list_all, list_any}, proofs.lemmas.Bool.{or_cases}}
+use Rattle.std.proofs.lemmas.Bool.{both_ways, ltb-false, eqb-true, eq-eqb, cases_eq, cases_Bool, and_parts, or_parts}
 use Rattle.std.proofs.lemmas.List.{length-set, get_or-set_same, get_or-set_other}
 use Rattle.bpf_insn_types.specs.Program.{Program}
-use Rattle.bpf_step_model.specs.State.{LoopCall}
-use Rattle.bpf_step_model.specs.Iteration.{iteration}
-use Rattle.loop_core_model.specs.LeastBreak.{lesser}
-use Rattle.loop_core_model.specs.declared.faults.GatherFault.{GatherFault}
+use Rattle.bpf_step_model.specs.{State.{LoopCall}, Iteration.{iteration}}
+use Rattle.loop_core_model.specs.{LeastBreak.{lesser}, declared.faults.GatherFault.{GatherFault}, Gather.{gather_fault}}
 use Rattle.loop_core_model.specs.declared.faults.GatherFault.TheVariants.{Missing, Twice, Foreign}
-use Rattle.loop_core_model.specs.Split.{falls, split_fault}
-use Rattle.loop_core_model.specs.Gather.{Block, starts_late, block_numbered, least_of}
-use Rattle.loop_core_model.specs.Gather.{lacks_some, twice, stands_in, gather_fault}
-use Rattle.loop_core_model.proofs.GatherLaws.{blocks_gather}
-use Rattle.loop_core_model.specs.declared.event.Event.{Event}
-use Rattle.loop_core_model.specs.declared.replay_fault.ReplayFault.{ReplayFault}
-use Rattle.loop_core_model.specs.declared.replay_fault.ReplayFault.TheVariants as faults
-use Rattle.loop_core_model.specs.Intervals.{blocks_of, start_of}
-use Rattle.loop_core_model.specs.Events.{Worker, Idle, Holding, Running, Posting, Drained}
-use Rattle.loop_core_model.specs.Events.{Stopped, Shared, Moved, transition}
-use Rattle.loop_core_model.specs.Schedule.{ScheduleState, at_first, worker_of, if_enabled, after_event}
-use Rattle.loop_core_model.specs.Schedule.{and_then, after_events, is_stopped, has_ended, if_ended}
-use Rattle.loop_core_model.specs.Outcome.{breaks_at}
+use Rattle.loop_core_model.{specs.{Split.{falls, split_fault}, Events.{transition}}, proofs.GatherLaws.{blocks_gather}}
+use Rattle.loop_core_model.specs.Gather.{Block, starts_late, block_numbered, least_of, lacks_some, twice, stands_in}
+use Rattle.loop_core_model.specs.declared.{event.Event.{Event}, replay_fault.ReplayFault.{ReplayFault}}
+use Rattle.loop_core_model.{specs.{Intervals.{blocks_of, start_of}, Outcome.{breaks_at}}, proofs.SplitLaws.{faultless}}
+use Rattle.loop_core_model.specs.Events.{Worker, Idle, Holding, Running, Posting, Drained, Stopped, Shared, Moved}
+use Rattle.loop_core_model.specs.Schedule.{ScheduleState, at_first, worker_of, if_enabled, after_event, and_then}
+use Rattle.loop_core_model.specs.Schedule.{after_events, is_stopped, has_ended, if_ended}
 use Rattle.loop_core_model.specs.ScheduleLaw.{AreRun, Complete, EndedSchedulesComplete}
-use Rattle.loop_core_model.proofs.SplitLaws.{faultless}
 use Rattle.loop_core_model.proofs.RunBlocks.{none_lacks, once_each, some_times, none_foreign, least_is_least}
 use Rattle.loop_core_model.proofs.Totals.{total, others, one_and_others, changed, none_of_all}
-use Rattle.loop_core_model.proofs.Steps.{holds, times, to_post, least_break_of, lesser_swap, lesser_none}
-use Rattle.loop_core_model.proofs.Steps.{Fits, CountsTo, Kept, KeptIfEnabled, event_keeps}
+use Rattle.loop_core_model.proofs.Steps.{holds, times, to_post, least_break_of, lesser_swap, lesser_none, Fits}
+use Rattle.loop_core_model.proofs.Steps.{CountsTo, Kept, KeptIfEnabled, event_keeps}
+use Rattle.loop_core_model.specs.declared.replay_fault.ReplayFault.TheVariants as faults
 
 -- how often all workers have a block in hand, and what they have yet to post
 abbrev pub held : ℕ → List Worker → ℕ

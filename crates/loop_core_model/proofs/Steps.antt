@@ -1,18 +1,13 @@
 -- What one event keeps.
-use Rattle.std.proofs.Common.{◌≡◌, ℕ, zero, suc, ◌+◌, ◌-◌, ◌<◌, ◌≤◌, Bool, true, false, ◌⊎◌, inl, inr}
-use Rattle.std.proofs.Common.{List, [], ◌∷◌, Option, Some, None, refl, sym, ◌∙◌, ap, subst, arith}
+use Rattle.std.proofs.Common.{◌≡◌, ℕ, zero, suc, ◌+◌, ◌-◌, ◌<◌, ◌≤◌, Bool, true, false, ◌⊎◌, inl, inr, List, [], ◌∷◌}
+use Rattle.std.proofs.{Common.{Option, Some, None, refl, sym, ◌∙◌, ap, subst, arith}, Math.Nat.{min-le_right, min_comm}}
 use Rattle.std.specs.Prelude.{◌==◌, nat_lt, min, if◌then◌else◌}
 use Rattle.std.proofs.lemmas.Bool.{ltb-false, ltb-true, eqb-true, eqb-false, lt-ltb, eq-eqb, ne_eqb, cases_eq}
-use Rattle.std.proofs.Math.Nat.{min-le_right, min_comm}
-use Rattle.loop_core_model.specs.LeastBreak.{lesser}
-use Rattle.loop_core_model.specs.Split.{falls}
-use Rattle.loop_core_model.specs.Gather.{starts_late}
-use Rattle.loop_core_model.specs.declared.event.EventKind.{EventKind}
-use Rattle.loop_core_model.specs.declared.event.EventKind.TheVariants.{Claim, Look, Turn, Post, Stop}
+use Rattle.loop_core_model.{specs.{LeastBreak.{lesser}, Split.{falls}, Gather.{starts_late}}, proofs.SplitLaws.{rising}}
+use Rattle.loop_core_model.specs.declared.event.EventKind.{EventKind, TheVariants.{Claim, Look, Turn, Post, Stop}}
 use Rattle.loop_core_model.specs.Intervals.{blocks_of, start_of, end_of}
-use Rattle.loop_core_model.specs.Events.{Worker, Idle, Holding, Running, Posting, Drained, Stopped}
-use Rattle.loop_core_model.specs.Events.{Shared, Moved, becomes, having_run, posts, transition}
-use Rattle.loop_core_model.proofs.SplitLaws.{rising}
+use Rattle.loop_core_model.specs.Events.{Worker, Idle, Holding, Running, Posting, Drained, Stopped, Shared, Moved}
+use Rattle.loop_core_model.specs.Events.{becomes, having_run, posts, transition}
 
 abbrev pub bit : Bool → ℕ
 bit true = 1

@@ -1,7 +1,6 @@
 -- What all workers come to together, and what all but one do.
 use Rattle.std.proofs.Common.{◌≡◌, ℕ, zero, suc, ◌<◌, List, [], ◌∷◌, length, refl, sym, ◌∙◌, ap, subst, arith}
-use Rattle.std.specs.Prelude.{slice_index_or, slice_set}
-use Rattle.std.proofs.lemmas.List.{length-set, get_or-set_same}
+use Rattle.std.{specs.Prelude.{slice_index_or, slice_set}, proofs.lemmas.List.{length-set, get_or-set_same}}
 use Rattle.loop_core_model.specs.Events.{Worker, Idle}
 
 module _ (A : Type 0) (op : A → A → A) (unit : A) (f : Worker → A) where

@@ -1,14 +1,11 @@
 -- Any chains of accesses, one after the other. Nothing is known of what made them: each access says what it saw and
 -- left, and a chain fits words where each saw what was there.
 use Rattle.std.proofs.Common.{◌≡◌, ℕ, ◌<◌, Bool, true, false, List, [], ◌∷◌, ◌++◌, length, refl, sym, ◌∙◌, ap, subst}
-use Rattle.std.specs.Prelude.{slice_index, if◌then◌else◌, ◌==◌}
-use Rattle.std.specs.List.{AllByRecursion}
+use Rattle.std.specs.{Prelude.{slice_index, if◌then◌else◌, ◌==◌}, List.{AllByRecursion}}
 use Rattle.std.proofs.lemmas.List.FromFn.{fill_by_all}
 use Rattle.array_maps.specs.Accesses.{Access, left_by_all, SawEach, actions_at, words_after_all}
 use Rattle.array_maps.proofs.ElementLaws.{element_after_all, length-words_after_all}
-use Rattle.loop_core_model.specs.Actions.{joined}
-use Rattle.loop_core_model.specs.Conflict.{at_element}
-use Rattle.loop_core_model.specs.Committed.{committed, committed_words}
+use Rattle.loop_core_model.specs.{Actions.{joined}, Conflict.{at_element}, Committed.{committed, committed_words}}
 use Rattle.loop_core_model.proofs.OneElement.{Holds, Unharmed, holds_saw, holds_next, holds_at_start, left-committed}
 
 -- each access of the chain saw what was there

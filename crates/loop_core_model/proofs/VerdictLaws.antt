@@ -1,22 +1,15 @@
 -- With a greater bound a verdict that is there stays the same.
-use Rattle.std.proofs.Common.{ℕ, zero, suc, ◌+◌, ◌≤◌, Bool, true, false, inr, List, []}
-use Rattle.std.proofs.Common.{◌∷◌, map, length, Option, Some, None, refl, sym, subst}
-use Rattle.std.specs.Prelude.{if◌then◌else◌, ◌==◌}
+use Rattle.std.proofs.Common.{ℕ, zero, suc, ◌+◌, ◌≤◌, Bool, true, false, inr, List, [], ◌∷◌, map, length, Option, Some}
+use Rattle.std.{proofs.Common.{None, refl, sym, subst}, specs.Prelude.{if◌then◌else◌, ◌==◌}}
 use Rattle.bpf_insn_types.specs.Program.{Program}
-use Rattle.bpf_step_model.specs.State.{LoopCall}
-use Rattle.bpf_step_model.specs.Run.{BoundedResult, Ended}
-use Rattle.bpf_step_model.specs.Iteration.{Iterated, iteration}
-use Rattle.bpf_step_model.specs.ProgramInOrder.{LoopMade, Finished, program_in_order}
-use Rattle.bpf_step_model.specs.Bounds.{Extends}
+use Rattle.bpf_step_model.specs.{State.{LoopCall}, Run.{BoundedResult, Ended}, Iteration.{Iterated, iteration}}
+use Rattle.bpf_step_model.specs.{ProgramInOrder.{LoopMade, Finished, program_in_order}, Bounds.{Extends}}
 use Rattle.bpf_step_model.proofs.BoundLaws.{mapped_extends, followed_extends, iteration_extends, program_extends}
-use Rattle.loop_core_model.specs.declared.loop_test.Test.{Test}
-use Rattle.loop_core_model.specs.declared.verdict.LoopReport.{LoopReport}
-use Rattle.loop_core_model.specs.Conflict.{conflicting}
+use Rattle.loop_core_model.specs.declared.{loop_test.Test.{Test}, verdict.LoopReport.{LoopReport}}
+use Rattle.loop_core_model.specs.{Conflict.{conflicting}, Report.{with_lines, with_each_line, reported_with}}
 use Rattle.loop_core_model.specs.LeastBreak.{in_front_of, all_ended, accesses_of_each, counted_iterations, counted_runs}
 use Rattle.loop_core_model.specs.Report.{judged, verdict, verdict_if_valid, line, loop_report, loop_report_in_order}
-use Rattle.loop_core_model.specs.Report.{with_lines, with_each_line, reported_with}
-use Rattle.loop_core_model.specs.Scan.{up_to_break, scan}
-use Rattle.loop_core_model.specs.VerdictBounds.{VerdictsAgree}
+use Rattle.loop_core_model.specs.{Scan.{up_to_break, scan}, VerdictBounds.{VerdictsAgree}}
 use Rattle.loop_core_model.proofs.ScanLaws.{counted_are_scanned}
 
 -- a scan that is there stays the same

@@ -1,8 +1,7 @@
 -- What an iteration did at one element. It is the list of its actions there, in order.
 use Rattle.std.specs.Prelude.{ℕ, Bool, true, false, not, List, [], ◌∷◌, ◌++◌, Option, Some, None, if◌then◌else◌}
 use Rattle.std.specs.List.{list_any, list_all, filter_map}
-use Rattle.array_maps.specs.declared.access.Op.{Op}
-use Rattle.array_maps.specs.declared.access.Op.TheVariants.{Add, Or, And, Xor, AddH}
+use Rattle.array_maps.specs.declared.access.Op.{Op, TheVariants.{Add, Or, And, Xor, AddH}}
 use Rattle.array_maps.specs.Accesses.{Action, Read, Write, ReadWrite, Reduce}
 
 -- an action that leaves a word: a plain write or a reduce

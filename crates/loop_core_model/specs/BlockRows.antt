@@ -1,19 +1,14 @@
 -- Worked blocks: first writers and last readers of loops that are run as one block, marks of halves, and what is kept
 -- of blocks. Each is worked out by hand.
-use Rattle.std.specs.Prelude.{◌≡◌, ℕ, ◌&&◌, Bool, List, [], ◌∷◌, map, Some, None}
-use Rattle.std.specs.List.{filter, range_with_len}
+use Rattle.std.specs.{Prelude.{◌≡◌, ℕ, ◌&&◌, Bool, List, [], ◌∷◌, map, Some, None}, List.{filter, range_with_len}}
 use Rattle.array_maps.specs.declared.access.Op.TheVariants.{Add, And, AddH}
 use Rattle.bpf_insn_types.specs.declared.insn.Insn.{Insn}
-use Rattle.bpf_step_model.specs.Run.{BoundedResult, Ended, mapped}
-use Rattle.bpf_step_model.specs.Iteration.{Iterated}
-use Rattle.bpf_step_model.specs.LoopRows.{looping, worked_call, add_index, shift_right, shift_left}
-use Rattle.bpf_step_model.specs.LoopRows.{last_writer, mixed_operators, and_operands}
-use Rattle.loop_core_model.specs.Conflict.{at_element}
-use Rattle.loop_core_model.specs.LeastBreak.{accesses_of_each}
-use Rattle.loop_core_model.specs.VerdictRows.{add_halves, add_half_and_whole, store_half}
+use Rattle.bpf_step_model.specs.{Run.{BoundedResult, Ended, mapped}, Iteration.{Iterated}}
+use Rattle.bpf_step_model.specs.LoopRows.{looping, worked_call, add_index, shift_right, shift_left, last_writer}
+use Rattle.bpf_step_model.specs.LoopRows.{mixed_operators, and_operands}
+use Rattle.loop_core_model.specs.{Conflict.{at_element}, LeastBreak.{accesses_of_each}, Block.{block_run}}
+use Rattle.loop_core_model.specs.{VerdictRows.{add_halves, add_half_and_whole, store_half}, Kept.{Kept, kept}}
 use Rattle.loop_core_model.specs.Marks.{Marks, marks_of, numbered}
-use Rattle.loop_core_model.specs.Block.{block_run}
-use Rattle.loop_core_model.specs.Kept.{Kept, kept}
 
 -- the loop of n iterations of a callback over n elements, and its block of an interval
 abbrev pub block_of : (elements n : ℕ) → List Insn → (before : List ℕ) (first past : ℕ) → BoundedResult (List Iterated)

@@ -1,11 +1,8 @@
 -- What a loop that passes leaves.
 use Rattle.std.specs.Prelude.{ℕ, Bool, if◌then◌else◌, List, [], ◌∷◌, map, length, slice_index, Option, Some, None}
-use Rattle.std.specs.List.{fold, range_with_len}
-use Rattle.std.specs.Option.{option_or, option_map, unwrap_or}
-use Rattle.array_maps.specs.declared.access.Op.{Op}
-use Rattle.array_maps.specs.Accesses.{Action, Access, combined, left_by_all}
-use Rattle.loop_core_model.specs.Actions.{writes, joined, only_operator, operands}
-use Rattle.loop_core_model.specs.Conflict.{at_element}
+use Rattle.std.specs.{List.{fold, range_with_len}, Option.{option_or, option_map, unwrap_or}}
+use Rattle.array_maps.specs.{declared.access.Op.{Op}, Accesses.{Action, Access, combined, left_by_all}}
+use Rattle.loop_core_model.specs.{Actions.{writes, joined, only_operator, operands}, Conflict.{at_element}}
 
 -- the last iteration that passes a test
 abbrev pub last_that : (List Action → Bool) → List (List Action) → Option (List Action)

@@ -1,10 +1,8 @@
 -- Which elements conflict. An iteration is the list of its actions at the element; iterations stand by rising index.
-use Rattle.std.specs.Prelude.{◌≡◌, ◌≢◌, ℕ, ◌<◌, Bool, true, false, ◌&&◌, ◌||◌, ◌↔◌, List}
-use Rattle.std.specs.Prelude.{[], ◌∷◌, map, length, slice_index_or, is_none}
-use Rattle.std.specs.List.{list_any, filter, range_with_len}
+use Rattle.std.specs.Prelude.{◌≡◌, ◌≢◌, ℕ, ◌<◌, Bool, true, false, ◌&&◌, ◌||◌, ◌↔◌, List, [], ◌∷◌, map, length}
+use Rattle.std.specs.{Prelude.{slice_index_or, is_none}, List.{list_any, filter, range_with_len}}
 use Rattle.array_maps.specs.Accesses.{Action, Access, actions_at}
-use Rattle.loop_core_model.specs.declared.loop_test.Test.{Test}
-use Rattle.loop_core_model.specs.declared.loop_test.Test.TheVariants.{Lrpd, Flow}
+use Rattle.loop_core_model.specs.declared.loop_test.Test.{Test, TheVariants.{Lrpd, Flow}}
 use Rattle.loop_core_model.specs.Actions.{writes, exposed, joined, only_operator}
 
 -- two different iterations, of which one writes the element and the other has an exposed read of it

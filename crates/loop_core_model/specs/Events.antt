@@ -1,9 +1,7 @@
 -- What the workers of a loop may do, and what each event does. `breaks` says of each index whether its iteration on the
 -- words as they stood when the loop began returns 1.
 use Rattle.std.specs.Prelude.{ℕ, ◌+◌, ◌==◌, nat_lt, Bool, if◌then◌else◌, List, ◌∷◌, Option, Some, None}
-use Rattle.loop_core_model.specs.LeastBreak.{lesser}
-use Rattle.loop_core_model.specs.Gather.{starts_late}
-use Rattle.loop_core_model.specs.declared.event.EventKind.{EventKind}
+use Rattle.loop_core_model.specs.{LeastBreak.{lesser}, Gather.{starts_late}, declared.event.EventKind.{EventKind}}
 use Rattle.loop_core_model.specs.declared.event.EventKind.TheVariants.{Claim, Look, Turn, Post, Stop}
 use Rattle.loop_core_model.specs.Intervals.{blocks_of, start_of, end_of}
 
@@ -29,7 +27,7 @@ pub record Moved : Type 0 where
   pub worker : Worker
   pub shared : Shared
 
--- what a worker becomes, beside what is shared
+-- what a worker becomes, with what is shared
 abbrev pub becomes : Worker → Shared → Moved
 becomes worker shared = record { worker = worker; shared = shared }
 

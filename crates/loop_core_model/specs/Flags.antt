@@ -1,12 +1,9 @@
 -- What an iteration did at one element so far, as flags. They follow from the kinds of its actions, without a word.
-use Rattle.std.specs.Prelude.{◌≡◌, Bool, true, false, not, ◌||◌, List, [], ◌∷◌, ◌++◌}
-use Rattle.std.specs.List.{list_any}
-use Rattle.array_maps.specs.declared.access.Op.{Op}
-use Rattle.array_maps.specs.Accesses.{Action, Read, Write, ReadWrite, Reduce}
+use Rattle.std.specs.{Prelude.{◌≡◌, Bool, true, false, not, ◌||◌, List, [], ◌∷◌, ◌++◌}, List.{list_any}}
+use Rattle.array_maps.specs.{declared.access.Op.{Op}, Accesses.{Action, Read, Write, ReadWrite, Reduce}}
 use Rattle.loop_core_model.specs.Actions.{writes, exposed, is_same, reduces_by}
-use Rattle.loop_core_model.specs.declared.access.Access.{Access as Kind}
-use Rattle.loop_core_model.specs.declared.access.Access.TheVariants.{Read as Reads, Write as Writes}
-use Rattle.loop_core_model.specs.declared.access.Access.TheVariants.{Both, Reduce as Reduces}
+use Rattle.loop_core_model.specs.declared.access.Access.{Access as Kind, TheVariants.{Reduce as Reduces}}
+use Rattle.loop_core_model.specs.declared.access.Access.TheVariants.{Read as Reads, Write as Writes, Both}
 
 -- the kind of an action
 abbrev pub kind_of : Action → Kind

@@ -1,17 +1,11 @@
 -- Blocks that were run, gathered: which of them count, and whether all of those are there.
-use Rattle.std.specs.Prelude.{◌≡◌, ℕ, ◌+◌, Bool, false, not, ◌&&◌, ◌||◌, ◌==◌, nat_lt, is_none, if◌then◌else◌}
-use Rattle.std.specs.Prelude.{List, [], ◌∷◌, map, slice_get, Option, Some, None}
-use Rattle.std.specs.List.{find, list_any, AllByRecursion}
+use Rattle.std.specs.Prelude.{◌≡◌, ℕ, ◌+◌, Bool, false, not, ◌&&◌, ◌||◌, ◌==◌, nat_lt, is_none, if◌then◌else◌, List, []}
+use Rattle.std.specs.{Prelude.{◌∷◌, map, slice_get, Option, Some, None}, List.{find, list_any, AllByRecursion}}
 use Rattle.bpf_insn_types.specs.Program.{Program}
-use Rattle.bpf_step_model.specs.State.{LoopCall}
-use Rattle.bpf_step_model.specs.Run.{Ended}
-use Rattle.bpf_step_model.specs.Iteration.{Iterated}
-use Rattle.loop_core_model.specs.Actions.{joined}
-use Rattle.loop_core_model.specs.LeastBreak.{lesser, least_break, counted_iterations, all_ended}
-use Rattle.loop_core_model.specs.declared.faults.GatherFault.{GatherFault}
-use Rattle.loop_core_model.specs.declared.faults.GatherFault.TheVariants.{Missing, Twice, Foreign}
-use Rattle.loop_core_model.specs.Block.{block_run, break_from}
-use Rattle.loop_core_model.specs.Split.{split_fault}
+use Rattle.bpf_step_model.specs.{State.{LoopCall}, Run.{Ended}, Iteration.{Iterated}}
+use Rattle.loop_core_model.specs.{Actions.{joined}, LeastBreak.{lesser, least_break, counted_iterations, all_ended}}
+use Rattle.loop_core_model.specs.declared.faults.GatherFault.{GatherFault, TheVariants.{Missing, Twice, Foreign}}
+use Rattle.loop_core_model.specs.{Block.{block_run, break_from}, Split.{split_fault}}
 
 -- a block that was run: its number in the split, its interval, and its iterations on the start words
 pub record Block : Type 0 where

@@ -1,8 +1,7 @@
 -- Worked lists of blocks of the split 0 4 8 12 16. Each is worked out by hand.
 use Rattle.std.specs.Prelude.{◌≡◌, ℕ, ◌-◌, List, [], ◌∷◌, ◌++◌, replicate, Option, Some, None}
 use Rattle.bpf_step_model.specs.Iteration.{Iterated}
-use Rattle.loop_core_model.specs.declared.faults.GatherFault.{GatherFault}
-use Rattle.loop_core_model.specs.declared.faults.GatherFault.TheVariants.{Missing, Twice, Foreign}
+use Rattle.loop_core_model.specs.declared.faults.GatherFault.{GatherFault, TheVariants.{Missing, Twice, Foreign}}
 use Rattle.loop_core_model.specs.Gather.{Block, gather_fault}
 
 -- an iteration that returned this

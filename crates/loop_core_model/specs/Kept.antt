@@ -1,11 +1,8 @@
 -- What is kept of a block at one element, so that what a pass leaves there follows from all blocks in order.
-use Rattle.std.specs.Prelude.{◌≡◌, ℕ, Bool, true, false, List, [], ◌∷◌, map, Option, Some, None, is_some}
-use Rattle.std.specs.List.{fold}
+use Rattle.std.specs.{Prelude.{◌≡◌, ℕ, Bool, true, false, List, [], ◌∷◌, map, Option, Some, None, is_some}, List.{fold}}
 use Rattle.std.specs.Option.{option_or, unwrap_or}
-use Rattle.array_maps.specs.declared.access.Op.{Op}
-use Rattle.array_maps.specs.Accesses.{Action, combined}
-use Rattle.loop_core_model.specs.Actions.{joined, only_operator, operands}
-use Rattle.loop_core_model.specs.Committed.{last_value, committed}
+use Rattle.array_maps.specs.{declared.access.Op.{Op}, Accesses.{Action, combined}}
+use Rattle.loop_core_model.specs.{Actions.{joined, only_operator, operands}, Committed.{last_value, committed}}
 
 -- operands combined by an operator, beginning with the first
 abbrev pub combined_from_first : Op → List ℕ → Option (Op × ℕ)

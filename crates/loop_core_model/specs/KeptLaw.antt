@@ -2,12 +2,9 @@
 -- and what a pass leaves there.
 use Rattle.std.specs.Prelude.{◌≡◌, ℕ, ◌+◌, List, [], ◌∷◌, map, length}
 use Rattle.array_maps.specs.Accesses.{Action}
-use Rattle.loop_core_model.specs.declared.loop_test.Test.{Test}
-use Rattle.loop_core_model.specs.Actions.{joined}
-use Rattle.loop_core_model.specs.Conflict.{conflicts}
-use Rattle.loop_core_model.specs.Committed.{committed}
+use Rattle.loop_core_model.specs.{declared.loop_test.Test.{Test}, Actions.{joined}, Conflict.{conflicts}}
+use Rattle.loop_core_model.specs.{Committed.{committed}, Kept.{kept, committed_of_kept}}
 use Rattle.loop_core_model.specs.Marks.{numbered, Marks, marks_of, marked_reduction, marked_conflict, no_marks, merged}
-use Rattle.loop_core_model.specs.Kept.{kept, committed_of_kept}
 
 -- the marks of blocks in order, of which the first begins at an index: those of each, merged
 abbrev pub marks_of_blocks : ℕ → List (List (List Action)) → Marks

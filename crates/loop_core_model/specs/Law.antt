@@ -2,13 +2,9 @@
 use Rattle.std.specs.Prelude.{◌≡◌, ℕ, List, [], length}
 use Rattle.array_maps.specs.Accesses.{Access}
 use Rattle.bpf_insn_types.specs.Program.{Program}
-use Rattle.bpf_step_model.specs.State.{LoopCall}
-use Rattle.bpf_step_model.specs.Run.{Ended}
-use Rattle.bpf_step_model.specs.LoopInOrder.{loop_in_order}
-use Rattle.loop_core_model.specs.declared.loop_test.Test.{Test}
-use Rattle.loop_core_model.specs.Conflict.{conflicting}
+use Rattle.bpf_step_model.specs.{State.{LoopCall}, Run.{Ended}, LoopInOrder.{loop_in_order}}
+use Rattle.loop_core_model.specs.{declared.loop_test.Test.{Test}, Conflict.{conflicting}, Committed.{committed_words}}
 use Rattle.loop_core_model.specs.LeastBreak.{counted, counted_runs}
-use Rattle.loop_core_model.specs.Committed.{committed_words}
 
 -- For both tests, every program, bound on an iteration's instructions, loop call (so any number of iterations) and
 -- start words, where all counted iterations end on the start words: if no element conflicts, the loop in order answers

@@ -1,12 +1,9 @@
 -- Which iterations of a speculative loop count. Each of them runs on the words as they stood when the loop began.
-use Rattle.std.specs.Prelude.{ℕ, zero, suc, ◌+◌, Bool, false, ◌==◌, min, if◌then◌else◌}
-use Rattle.std.specs.Prelude.{List, [], ◌∷◌, map, Option, Some, None}
-use Rattle.std.specs.List.{range_with_len}
-use Rattle.std.specs.Option.{option_or}
+use Rattle.std.specs.Prelude.{ℕ, zero, suc, ◌+◌, Bool, false, ◌==◌, min, if◌then◌else◌, List, [], ◌∷◌, map, Option}
+use Rattle.std.specs.{Prelude.{Some, None}, List.{range_with_len}, Option.{option_or}}
 use Rattle.array_maps.specs.Accesses.{Access}
 use Rattle.bpf_insn_types.specs.Program.{Program}
-use Rattle.bpf_step_model.specs.State.{LoopCall}
-use Rattle.bpf_step_model.specs.Run.{BoundedResult, Ended, Stuck, Unfinished, mapped, followed}
+use Rattle.bpf_step_model.specs.{State.{LoopCall}, Run.{BoundedResult, Ended, Stuck, Unfinished, mapped, followed}}
 use Rattle.bpf_step_model.specs.Iteration.{Iterated, iteration}
 
 -- the least number below n that passes a test
@@ -48,7 +45,7 @@ counted_iterations program bound call words =
 abbrev pub in_front_of : {A : Type 0} → BoundedResult (List A) → A → BoundedResult (List A)
 in_front_of rest a = mapped (λ others. a ∷ others) rest
 
--- what all of a list gave, where each ended; else how the first that didn't stands
+-- what all of a list gave, where each ended; else what became of the first that didn't
 abbrev pub all_ended : {A : Type 0} → List (BoundedResult A) → BoundedResult (List A)
 all_ended [] = Ended []
 all_ended (e ∷ rest) = followed (in_front_of (all_ended rest)) e

@@ -28,3 +28,6 @@ pub mod BlockRows
 pub mod SplitRows
 pub mod GatherRows
 pub mod ReplayRows
+pub mod Kinds
+pub mod Effects
+pub mod LoopByEffects

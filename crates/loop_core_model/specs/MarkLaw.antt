@@ -1,13 +1,10 @@
 -- What the marks of a set of iterations tell, and how they come about.
 use Rattle.std.specs.Prelude.{◌≡◌, ℕ, ◌-◌, ◌≤◌, not, ◌&&◌, ◌==◌, nat_lt, min, List, [], ◌∷◌, ◌++◌, Option, is_some}
 use Rattle.array_maps.specs.Accesses.{Action}
-use Rattle.loop_core_model.specs.declared.loop_test.Test.{Test}
-use Rattle.loop_core_model.specs.Actions.{joined, only_operator}
-use Rattle.loop_core_model.specs.Conflict.{conflicts}
-use Rattle.loop_core_model.specs.LeastBreak.{lesser}
-use Rattle.loop_core_model.specs.Flags.{flags_of}
-use Rattle.loop_core_model.specs.Marks.{Visit, numbered, Marks, marks_of, marked_reduction, stands_before}
-use Rattle.loop_core_model.specs.Marks.{first_number, marked_conflict, no_marks, marks_of_one, merged}
+use Rattle.loop_core_model.specs.{declared.loop_test.Test.{Test}, Actions.{joined, only_operator}, Conflict.{conflicts}}
+use Rattle.loop_core_model.specs.{LeastBreak.{lesser}, Flags.{flags_of}}
+use Rattle.loop_core_model.specs.Marks.{Visit, numbered, Marks, marks_of, marked_reduction, stands_before, first_number}
+use Rattle.loop_core_model.specs.Marks.{marked_conflict, no_marks, marks_of_one, merged}
 
 -- the marks tell exactly which elements are reduction-only, and which conflict by either test
 pub record MarksTell : Type 0 where

@@ -1,14 +1,9 @@
 -- What has to be kept of a set of iterations at one element, so that its conflict is known by either test.
-use Rattle.std.specs.Prelude.{ℕ, ◌+◌, ◌-◌, Bool, false, not, ◌&&◌, ◌||◌, ◌==◌, nat_lt, max}
-use Rattle.std.specs.Prelude.{if◌then◌else◌, List, [], ◌∷◌, map, Option, Some, None}
-use Rattle.std.specs.List.{list_any, count_by}
-use Rattle.array_maps.specs.declared.access.Op.{Op}
-use Rattle.array_maps.specs.Accesses.{Action, operators}
-use Rattle.loop_core_model.specs.declared.loop_test.Test.{Test}
-use Rattle.loop_core_model.specs.declared.loop_test.Test.TheVariants.{Lrpd, Flow}
-use Rattle.loop_core_model.specs.Actions.{writes, exposed, reduces_by}
-use Rattle.loop_core_model.specs.LeastBreak.{lesser}
-use Rattle.loop_core_model.specs.Flags.{is_plain, Flags}
+use Rattle.std.specs.Prelude.{ℕ, ◌+◌, ◌-◌, Bool, false, not, ◌&&◌, ◌||◌, ◌==◌, nat_lt, max, if◌then◌else◌, List, []}
+use Rattle.std.specs.{Prelude.{◌∷◌, map, Option, Some, None}, List.{list_any, count_by}}
+use Rattle.array_maps.specs.{declared.access.Op.{Op}, Accesses.{Action, operators}}
+use Rattle.loop_core_model.specs.{declared.loop_test.Test.{Test, TheVariants.{Lrpd, Flow}}, LeastBreak.{lesser}}
+use Rattle.loop_core_model.specs.{Actions.{writes, exposed, reduces_by}, Flags.{is_plain, Flags}}
 
 -- an iteration at one element: its index in the loop, and its actions there in order. A set of iterations is a list of
 -- them in any order, no two of one index.
@@ -77,7 +72,7 @@ abbrev pub stands_before : Option ℕ → ℕ → Bool
 stands_before None last = false
 stands_before (Some first) last = not (last == 0) && nat_lt first (last - 1)
 
--- the number that stands for a first writer: 4,294,967,295 where there is none
+-- the number of a first writer: 4,294,967,295 where there is none
 abbrev pub first_number : Option ℕ → ℕ
 first_number None = 4294967295
 first_number (Some index) = index

@@ -1,17 +1,11 @@
 -- The outcome of a speculative loop.
 use Rattle.std.specs.Prelude.{ℕ, Bool, List, Result, Ok, Err}
 use Rattle.bpf_insn_types.specs.Program.{Program}
-use Rattle.bpf_step_model.specs.State.{LoopCall}
-use Rattle.bpf_step_model.specs.Run.{BoundedResult, mapped, followed}
-use Rattle.bpf_step_model.specs.Iteration.{iteration}
+use Rattle.bpf_step_model.specs.{State.{LoopCall}, Run.{BoundedResult, mapped, followed}, Iteration.{iteration}}
 use Rattle.bpf_step_model.specs.LoopInOrder.{Looped, loop_in_order}
-use Rattle.loop_core_model.specs.declared.loop_test.Test.{Test}
-use Rattle.loop_core_model.specs.declared.verdict.Verdict.{Verdict}
-use Rattle.loop_core_model.specs.LeastBreak.{is_break}
-use Rattle.loop_core_model.specs.Report.{verdict}
-use Rattle.loop_core_model.specs.declared.event.Event.{Event}
+use Rattle.loop_core_model.specs.{declared.{loop_test.Test.{Test}, verdict.Verdict.{Verdict}}, LeastBreak.{is_break}}
+use Rattle.loop_core_model.specs.{Report.{verdict}, declared.event.Event.{Event}, Schedule.{ScheduleState, replay}}
 use Rattle.loop_core_model.specs.declared.replay_fault.ReplayFault.{ReplayFault}
-use Rattle.loop_core_model.specs.Schedule.{ScheduleState, replay}
 
 -- a loop's verdict, what it answers, and the words after it
 pub record Outcome : Type 0 where
@@ -19,7 +13,7 @@ pub record Outcome : Type 0 where
   pub answer : ℕ
   pub words : List ℕ
 
--- the verdict beside what a loop answers and leaves
+-- the verdict with what a loop answers and leaves
 abbrev pub judged_as : BoundedResult Verdict → Looped → BoundedResult Outcome
 judged_as told looped = mapped (λ v. record { verdict = v; answer = looped.answer; words = looped.words }) told
 
@@ -38,7 +32,7 @@ abbrev pub unless_fault : {A : Type 0} → A → Result ScheduleState ReplayFaul
 unless_fault value (Err fault) = Err fault
 unless_fault value (Ok state) = Ok value
 
--- what a list of events comes to against a split: the loop's outcome where the list has ended, else its first fault
+-- the outcome of a list of events against a split: the loop's outcome where the list has ended, else its first fault
 abbrev pub replayed : Test → Program → ℕ → LoopCall → List ℕ → (bounds : List ℕ) → List Event
     → Result (BoundedResult Outcome) ReplayFault
 replayed test program bound call words bounds events =

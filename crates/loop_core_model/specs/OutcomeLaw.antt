@@ -2,15 +2,10 @@
 use Rattle.std.specs.Prelude.{◌≡◌, ℕ, ◌+◌, List, [], ◌∷◌, length}
 use Rattle.array_maps.specs.Accesses.{Access}
 use Rattle.bpf_insn_types.specs.Program.{Program}
-use Rattle.bpf_step_model.specs.State.{LoopCall}
-use Rattle.bpf_step_model.specs.Run.{Ended}
-use Rattle.bpf_step_model.specs.LoopInOrder.{Looped, loop_in_order}
-use Rattle.loop_core_model.specs.declared.loop_test.Test.{Test}
-use Rattle.loop_core_model.specs.declared.verdict.Verdict.TheVariants.{Parallel, Conflict}
-use Rattle.loop_core_model.specs.Conflict.{conflicting}
-use Rattle.loop_core_model.specs.LeastBreak.{counted, counted_runs}
+use Rattle.bpf_step_model.specs.{State.{LoopCall}, Run.{Ended}, LoopInOrder.{Looped, loop_in_order}}
+use Rattle.loop_core_model.specs.declared.{loop_test.Test.{Test}, verdict.Verdict.TheVariants.{Parallel, Conflict}}
+use Rattle.loop_core_model.specs.{Conflict.{conflicting}, LeastBreak.{counted, counted_runs}, Outcome.{outcome}}
 use Rattle.loop_core_model.specs.Committed.{committed_words}
-use Rattle.loop_core_model.specs.Outcome.{outcome}
 
 -- where all counted iterations end on the start words: if no element conflicts, the loop answers how many iterations
 -- count, and leaves what is committed of their accesses; else it answers and leaves what it does in order

@@ -1,16 +1,12 @@
 -- Worked planes: the marks of loops that are run as one block, as planes of words, and the verdicts that planes of
 -- conflicts tell. Each is worked out by hand.
-use Rattle.std.specs.Prelude.{◌≡◌, ℕ, zero, suc, ◌+◌, ◌*◌, Bool, if◌then◌else◌, List, []}
-use Rattle.std.specs.Prelude.{◌∷◌, map, take, drop, replicate, Option, Some, None}
+use Rattle.std.specs.Prelude.{◌≡◌, ℕ, zero, suc, ◌+◌, ◌*◌, Bool, if◌then◌else◌, List, [], ◌∷◌, map, take, drop}
+use Rattle.std.specs.Prelude.{replicate, Option, Some, None}
 use Rattle.array_maps.specs.declared.access.Op.TheVariants.{Add, Or, And, Xor, AddH}
-use Rattle.bpf_step_model.specs.Run.{BoundedResult, Ended, mapped}
-use Rattle.bpf_step_model.specs.Iteration.{Iterated}
-use Rattle.bpf_step_model.specs.LoopRows.{increment}
-use Rattle.loop_core_model.specs.declared.loop_test.Test.TheVariants.{Lrpd, Flow}
-use Rattle.loop_core_model.specs.declared.verdict.Verdict.{Verdict}
+use Rattle.bpf_step_model.specs.{Run.{BoundedResult, Ended, mapped}, Iteration.{Iterated}, LoopRows.{increment}}
+use Rattle.loop_core_model.specs.declared.{loop_test.Test.TheVariants.{Lrpd, Flow}, verdict.Verdict.{Verdict}}
 use Rattle.loop_core_model.specs.declared.verdict.Verdict.TheVariants.{Parallel, Conflict}
-use Rattle.loop_core_model.specs.Marks.{Marks, marked_conflict}
-use Rattle.loop_core_model.specs.Planes.{set_bits, least_bit, plane_verdict}
+use Rattle.loop_core_model.specs.{Marks.{Marks, marked_conflict}, Planes.{set_bits, least_bit, plane_verdict}}
 use Rattle.loop_core_model.specs.BlockRows.{block_of, of_each, right, left, mixed, writers}
 
 -- the word of some bits, the lowest first
@@ -114,7 +110,7 @@ pub record MarkRows : Type 0 where
   })
   pub writers : HasPlanes 1 1 writers (record (unmarked 1) { w = element_zero; m = element_zero; nx = element_zero })
 
--- a plane has n bits that are set, of which this is the least, and tells this verdict
+-- a plane has n bits that are set, of which this is the least, and gives this verdict
 pub record PlaneTells (plane : List ℕ) (many : ℕ) (first : Option ℕ) (verdict : Verdict) : Type 0 where
   pub count : set_bits plane ≡ many
   pub least : least_bit 0 plane ≡ first

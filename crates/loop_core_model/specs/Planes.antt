@@ -1,12 +1,9 @@
 -- Conflicting elements as a plane: a word for each 64 elements, of which each bit says whether an element is one.
-use Rattle.std.specs.Prelude.{◌≡◌, ℕ, ◌+◌, ◌*◌, ◌/◌, ◌%◌, ◌≤◌, ◌<◌, Bool, false, ◌==◌, if◌then◌else◌, List}
-use Rattle.std.specs.Prelude.{[], ◌∷◌, length, slice_index_or, count_ones, Option, Some, None}
+use Rattle.std.specs.Prelude.{◌≡◌, ℕ, ◌+◌, ◌*◌, ◌/◌, ◌%◌, ◌≤◌, ◌<◌, Bool, false, ◌==◌, if◌then◌else◌, List, [], ◌∷◌}
+use Rattle.std.specs.{Prelude.{length, slice_index_or, count_ones, Option, Some, None}, List.{filter, range_with_len}}
 use Rattle.std.specs.Int.{w64, bit_at, trailing_zeros}
-use Rattle.std.specs.List.{filter, range_with_len}
 use Rattle.array_maps.specs.MapList.{AreWords}
-use Rattle.loop_core_model.specs.declared.verdict.Verdict.{Verdict}
-use Rattle.loop_core_model.specs.declared.verdict.Verdict.TheVariants.{Parallel, Conflict}
-use Rattle.loop_core_model.specs.Report.{judged}
+use Rattle.loop_core_model.specs.{declared.verdict.Verdict.{Verdict, TheVariants.{Parallel, Conflict}}, Report.{judged}}
 
 -- the bit of an element
 abbrev pub bit_of : List ℕ → ℕ → Bool
@@ -37,7 +34,7 @@ abbrev pub least_bit : (k : ℕ) → List ℕ → Option ℕ
 least_bit k [] = None
 least_bit k (word ∷ words) = if word == 0 then least_bit (k + 1) words else Some (64 * k + trailing_zeros w64 word)
 
--- the verdict that a plane of conflicts tells: how many bits are set, and which is the least
+-- the verdict of a plane of conflicts: how many bits are set, and which is the least
 abbrev pub plane_verdict : List ℕ → Verdict
 plane_verdict words = judged_by (set_bits words) (least_bit 0 words)
 
@@ -48,8 +45,8 @@ PlaneHasElements = (words : List ℕ) (test : ℕ → Bool) (elements : ℕ) →
     → bit_of words e ≡ false) →
     elements_in_plane words ≡ filter test (range_with_len 0 elements)
 
--- a plane has as many elements as bits are set in its words, the least of them is the least bit, and the verdict that
--- it tells is that on them
+-- a plane has as many elements as bits are set in its words, the least of them is the least bit, and its
+-- verdict is that on them
 pub record PlaneJudges : Type 0 where
   pub count : (words : List ℕ) → AreWords words → length (elements_in_plane words) ≡ set_bits words
   pub least : (words : List ℕ) → AreWords words → least_element_in (elements_in_plane words) ≡ least_bit 0 words

@@ -1,25 +1,16 @@
 -- Worked lists of events. Each is worked out by hand.
-use Rattle.std.specs.Prelude.{◌≡◌, ℕ, ◌-◌, pos, List, [], ◌∷◌, ◌++◌, length, replicate}
-use Rattle.std.specs.Prelude.{Option, Some, None, Result, Ok, Err}
-use Rattle.bpf_insn_types.specs.declared.insn.Size.TheVariants.{Dw}
-use Rattle.bpf_insn_types.specs.declared.insn.Width.TheVariants.{W64}
-use Rattle.bpf_insn_types.specs.declared.insn.Compare.TheVariants.{Eq}
-use Rattle.bpf_insn_types.specs.declared.insn.Operand.TheVariants.{Imm}
-use Rattle.bpf_insn_types.specs.declared.insn.Insn.{Insn}
+use Rattle.std.specs.Prelude.{◌≡◌, ℕ, ◌-◌, pos, List, [], ◌∷◌, ◌++◌, length, replicate, Option, Some, None, Result, Ok}
+use Rattle.std.specs.Prelude.{Err}
+use Rattle.bpf_insn_types.specs.declared.insn.{Size.TheVariants.{Dw}, Width.TheVariants.{W64}, Compare.TheVariants.{Eq}}
+use Rattle.bpf_insn_types.specs.{declared.insn.{Operand.TheVariants.{Imm}, Insn.{Insn}}, Program.{Program}}
 use Rattle.bpf_insn_types.specs.declared.insn.Insn.TheVariants.{Exit, Jump, StoreImm}
-use Rattle.bpf_insn_types.specs.Program.{Program}
-use Rattle.bpf_step_model.specs.Run.{Ended}
-use Rattle.bpf_step_model.specs.Lines.{mov, element_address}
+use Rattle.bpf_step_model.specs.{Run.{Ended}, Lines.{mov, element_address}}
 use Rattle.bpf_step_model.specs.LoopRows.{looping, worked_call, skip_unless, shift_right}
-use Rattle.loop_core_model.specs.declared.loop_test.Test.{Test}
-use Rattle.loop_core_model.specs.declared.verdict.Verdict.TheVariants.{Parallel, Conflict}
-use Rattle.loop_core_model.specs.declared.event.EventKind.TheVariants.{Claim, Look, Turn, Post, Stop}
-use Rattle.loop_core_model.specs.declared.event.Event.{Event}
-use Rattle.loop_core_model.specs.declared.replay_fault.ReplayFault.{ReplayFault}
+use Rattle.loop_core_model.specs.declared.{loop_test.Test.{Test}, verdict.Verdict.TheVariants.{Parallel, Conflict}}
+use Rattle.loop_core_model.specs.declared.event.{EventKind.TheVariants.{Claim, Look, Turn, Post, Stop}, Event.{Event}}
+use Rattle.loop_core_model.specs.{declared.replay_fault.ReplayFault.{ReplayFault}, Events.{Shared}}
+use Rattle.loop_core_model.specs.{Schedule.{ScheduleState, replay}, Outcome.{breaks_at, replayed}}
 use Rattle.loop_core_model.specs.declared.replay_fault.ReplayFault.TheVariants as faults
-use Rattle.loop_core_model.specs.Events.{Shared}
-use Rattle.loop_core_model.specs.Schedule.{ScheduleState, replay}
-use Rattle.loop_core_model.specs.Outcome.{breaks_at, replayed}
 
 -- the events of a worker
 abbrev pub c : ℕ → Event
@@ -50,7 +41,7 @@ two_breaks = looping (16 ∷ []) 16 break_at_two
 abbrev pub quarters : List ℕ
 quarters = 0 ∷ 4 ∷ 8 ∷ 12 ∷ 16 ∷ []
 
--- a list of events comes to this outcome: the loop stops at 3, and four elements are marked
+-- a list of events has this outcome: the loop stops at 3, and four elements are marked
 abbrev pub ScheduleEnds : Test → List Event → Type 0
 ScheduleEnds test events =
     replayed test two_breaks 20 (worked_call 16) (replicate 16 0) quarters events

@@ -1,15 +1,11 @@
--- What is told of a program's loops.
+-- What is reported of a program's loops.
 use Rattle.std.specs.Prelude.{ℕ, ◌+◌, List, [], ◌∷◌, map, length, Option, Some, None}
 use Rattle.bpf_insn_types.specs.Program.{Program}
-use Rattle.bpf_step_model.specs.State.{LoopCall}
-use Rattle.bpf_step_model.specs.Run.{BoundedResult, Ended, mapped, followed}
+use Rattle.bpf_step_model.specs.{State.{LoopCall}, Run.{BoundedResult, Ended, mapped, followed}}
 use Rattle.bpf_step_model.specs.ProgramInOrder.{LoopMade, Finished, program_in_order}
-use Rattle.loop_core_model.specs.declared.loop_test.Test.{Test}
-use Rattle.loop_core_model.specs.declared.verdict.Verdict.{Verdict}
+use Rattle.loop_core_model.specs.declared.{loop_test.Test.{Test}, verdict.{Verdict.{Verdict}, LoopReport.{LoopReport}}}
 use Rattle.loop_core_model.specs.declared.verdict.Verdict.TheVariants.{Parallel, Conflict, Refused, InOrder}
-use Rattle.loop_core_model.specs.declared.verdict.LoopReport.{LoopReport}
-use Rattle.loop_core_model.specs.Conflict.{conflicting}
-use Rattle.loop_core_model.specs.LeastBreak.{all_ended, counted_runs}
+use Rattle.loop_core_model.specs.{Conflict.{conflicting}, LeastBreak.{all_ended, counted_runs}}
 
 -- the verdict on a loop whose conflicting elements are these, rising: it passes where there is none; else they are
 -- counted, and the least is named

@@ -1,8 +1,7 @@
 -- A speculative loop as it is run: the iterations of an interval on the start words, up to the first that breaks.
 use Rattle.std.specs.Prelude.{◌≡◌, ℕ, zero, suc, ◌+◌, ◌==◌, if◌then◌else◌, List, [], ◌∷◌}
 use Rattle.bpf_insn_types.specs.Program.{Program}
-use Rattle.bpf_step_model.specs.State.{LoopCall}
-use Rattle.bpf_step_model.specs.Run.{BoundedResult, Ended, followed}
+use Rattle.bpf_step_model.specs.{State.{LoopCall}, Run.{BoundedResult, Ended, followed}}
 use Rattle.bpf_step_model.specs.Iteration.{Iterated, iteration}
 use Rattle.loop_core_model.specs.LeastBreak.{in_front_of, all_ended, counted_iterations}
 

@@ -1,12 +1,10 @@
 -- Lists of events: which of them are schedules, and what the others' first fault is.
-use Rattle.std.specs.Prelude.{ℕ, ◌+◌, ◌&&◌, nat_lt, Bool, true, false, if◌then◌else◌, List, [], ◌∷◌, length}
-use Rattle.std.specs.Prelude.{replicate, slice_index_or, slice_set, Option, Some, None, Result, Ok, Err}
-use Rattle.std.specs.List.{list_all}
-use Rattle.loop_core_model.specs.declared.event.Event.{Event}
-use Rattle.loop_core_model.specs.declared.replay_fault.ReplayFault.{ReplayFault}
+use Rattle.std.specs.Prelude.{ℕ, ◌+◌, ◌&&◌, nat_lt, Bool, true, false, if◌then◌else◌, List, [], ◌∷◌, length, replicate}
+use Rattle.std.specs.{Prelude.{slice_index_or, slice_set, Option, Some, None, Result, Ok, Err}, List.{list_all}}
+use Rattle.loop_core_model.specs.declared.{event.Event.{Event}, replay_fault.ReplayFault.{ReplayFault}}
+use Rattle.loop_core_model.specs.Events.{Worker, Idle, Holding, Running, Posting, Drained, Stopped, Shared, Moved}
+use Rattle.loop_core_model.specs.Events.{transition}
 use Rattle.loop_core_model.specs.declared.replay_fault.ReplayFault.TheVariants as faults
-use Rattle.loop_core_model.specs.Events.{Worker, Idle, Holding, Running, Posting, Drained}
-use Rattle.loop_core_model.specs.Events.{Stopped, Shared, Moved, transition}
 
 -- what is shared, and what each of the workers 0 to 15 does
 pub record ScheduleState : Type 0 where

@@ -1,16 +1,10 @@
 -- Every ended list of events leaves a complete list of blocks.
-use Rattle.std.specs.Prelude.{◌≡◌, ℕ, true, List, map, None, Ok}
-use Rattle.std.specs.List.{AllByRecursion}
+use Rattle.std.specs.{Prelude.{◌≡◌, ℕ, true, List, map, None, Ok}, List.{AllByRecursion}}
 use Rattle.bpf_insn_types.specs.Program.{Program}
 use Rattle.bpf_step_model.specs.State.{LoopCall}
-use Rattle.loop_core_model.specs.LeastBreak.{least_break}
-use Rattle.loop_core_model.specs.Split.{split_fault}
-use Rattle.loop_core_model.specs.Gather.{Block, IsRunOf, least_of, stands_in, gather_fault}
-use Rattle.loop_core_model.specs.declared.event.Event.{Event}
-use Rattle.loop_core_model.specs.Intervals.{blocks_of}
-use Rattle.loop_core_model.specs.Events.{Shared}
-use Rattle.loop_core_model.specs.Schedule.{ScheduleState, replay}
-use Rattle.loop_core_model.specs.Outcome.{breaks_at}
+use Rattle.loop_core_model.specs.{LeastBreak.{least_break}, Split.{split_fault}, declared.event.Event.{Event}}
+use Rattle.loop_core_model.specs.{Gather.{Block, IsRunOf, least_of, stands_in, gather_fault}, Intervals.{blocks_of}}
+use Rattle.loop_core_model.specs.{Events.{Shared}, Schedule.{ScheduleState, replay}, Outcome.{breaks_at}}
 
 -- these are the blocks of a split that have these numbers, each run up to its first break or to its end
 pub record AreRun (program : Program) (bound : ℕ) (call : LoopCall) (words : List ℕ) (bounds : List ℕ)

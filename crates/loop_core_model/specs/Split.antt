@@ -1,9 +1,7 @@
 -- Splits of a loop into blocks: bounds, of which each two neighbours are a block's interval.
-use Rattle.std.specs.Prelude.{◌≡◌, ℕ, ◌+◌, ◌*◌, ◌/◌, ◌≤◌, ◌<◌, Bool, false, not, ◌||◌, ◌==◌, nat_lt}
-use Rattle.std.specs.Prelude.{if◌then◌else◌, List, [], ◌∷◌, map, length, Option, Some, None}
-use Rattle.std.specs.List.{range_with_len}
-use Rattle.loop_core_model.specs.declared.faults.SplitFault.{SplitFault}
-use Rattle.loop_core_model.specs.declared.faults.SplitFault.TheVariants.{Falling, Number, Ends}
+use Rattle.std.specs.Prelude.{◌≡◌, ℕ, ◌+◌, ◌*◌, ◌/◌, ◌≤◌, ◌<◌, Bool, false, not, ◌||◌, ◌==◌, nat_lt, if◌then◌else◌}
+use Rattle.std.specs.{Prelude.{List, [], ◌∷◌, map, length, Option, Some, None}, List.{range_with_len}}
+use Rattle.loop_core_model.specs.declared.faults.SplitFault.{SplitFault, TheVariants.{Falling, Number, Ends}}
 
 -- a bound is below the one before
 abbrev pub falls : ℕ → List ℕ → Bool

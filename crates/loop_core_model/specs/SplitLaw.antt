@@ -1,7 +1,6 @@
 -- Splits are partitions of a loop's indices.
 use Rattle.std.specs.Prelude.{◌≡◌, ℕ, ◌<◌, ◌≤◌, List, None}
-use Rattle.loop_core_model.specs.Split.{split_fault}
-use Rattle.loop_core_model.specs.Intervals.{blocks_of, start_of, end_of}
+use Rattle.loop_core_model.specs.{Split.{split_fault}, Intervals.{blocks_of, start_of, end_of}}
 
 -- a block has an index
 pub record HasIndex (bounds : List ℕ) (block index : ℕ) : Type 0 where

@@ -1,10 +1,8 @@
 -- A bound decides nothing of a verdict but whether there is one yet.
 use Rattle.std.specs.Prelude.{ℕ, ◌≤◌, List}
 use Rattle.bpf_insn_types.specs.Program.{Program}
-use Rattle.bpf_step_model.specs.State.{LoopCall}
-use Rattle.bpf_step_model.specs.Bounds.{Extends}
-use Rattle.loop_core_model.specs.declared.loop_test.Test.{Test}
-use Rattle.loop_core_model.specs.LeastBreak.{counted_runs}
+use Rattle.bpf_step_model.specs.{State.{LoopCall}, Bounds.{Extends}}
+use Rattle.loop_core_model.specs.{declared.loop_test.Test.{Test}, LeastBreak.{counted_runs}}
 use Rattle.loop_core_model.specs.Report.{verdict, report, report_in_order}
 
 -- with a greater bound the counted iterations, the verdicts and the reports that are there stay the same

@@ -1,22 +1,15 @@
 -- Worked verdicts: what is reported of loops that may run in parallel. Each is worked out by hand.
 use Rattle.std.specs.Prelude.{◌≡◌, ℕ, pos, negsuc, List, [], ◌∷◌, ◌++◌, replicate}
-use Rattle.bpf_insn_types.specs.declared.insn.Size.TheVariants.{W, Dw}
-use Rattle.bpf_insn_types.specs.declared.insn.Width.TheVariants.{W32, W64}
-use Rattle.bpf_insn_types.specs.declared.insn.SimpleOp.TheVariants.{Add as AddOp, Or as OrOp}
+use Rattle.bpf_insn_types.specs.declared.insn.{Size.TheVariants.{W, Dw}, Width.TheVariants.{W32, W64}, Insn.{Insn}}
+use Rattle.bpf_insn_types.specs.declared.insn.{SimpleOp.TheVariants.{Add as AddOp, Or as OrOp}, AluOp.TheVariants.{Add}}
 use Rattle.bpf_insn_types.specs.declared.insn.AtomicOp.TheVariants.{Simple}
-use Rattle.bpf_insn_types.specs.declared.insn.AluOp.TheVariants.{Add}
-use Rattle.bpf_insn_types.specs.declared.insn.Insn.{Insn}
 use Rattle.bpf_insn_types.specs.declared.insn.Insn.TheVariants.{Exit, Load, Store, StoreImm, Atomic}
-use Rattle.bpf_step_model.specs.Run.{Ended}
-use Rattle.bpf_step_model.specs.Lines.{mov, alu_imm, map_value, end, loop_with}
+use Rattle.bpf_step_model.specs.{Run.{Ended}, Lines.{mov, alu_imm, map_value, end, loop_with}}
 use Rattle.bpf_step_model.specs.LoopRows.{looping, skip_unless, add_index, increment, shift_right, shift_left}
 use Rattle.bpf_step_model.specs.LoopRows.{last_writer, mixed_operators, break_at_five, break_that_never_comes}
 use Rattle.bpf_step_model.specs.LoopRows.{and_operands, add_fetched, two_loops}
-use Rattle.loop_core_model.specs.declared.loop_test.Test.{Test}
-use Rattle.loop_core_model.specs.declared.loop_test.Test.TheVariants.{Lrpd, Flow}
-use Rattle.loop_core_model.specs.declared.verdict.Verdict.{Verdict}
-use Rattle.loop_core_model.specs.declared.verdict.Verdict.TheVariants.{Parallel, Conflict, Refused}
-use Rattle.loop_core_model.specs.Report.{report}
+use Rattle.loop_core_model.specs.declared.{loop_test.Test.{Test, TheVariants.{Lrpd, Flow}}, verdict.Verdict.{Verdict}}
+use Rattle.loop_core_model.specs.{declared.verdict.Verdict.TheVariants.{Parallel, Conflict, Refused}, Report.{report}}
 
 -- each iteration reads the element, and iteration 3 writes it
 abbrev pub read_by_all : List Insn

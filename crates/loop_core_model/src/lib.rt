@@ -2,7 +2,8 @@
 //! which passes is the loop in order. What has to be kept of iterations at an element, so that its conflict is known by
 //! either test: flags while an iteration runs, and marks of those that ended. A loop in blocks, and what is kept of
 //! each. What workers may do and when, one atomic step each, and the outcome of a loop, which depends on none of it.
-//! How many workers and blocks there may be. Nothing runs here: each function's contract is a law.
+//! Batches of a loop in order: iterations done at once, one a lane, and when they are the loop's own. How many workers
+//! and blocks there may be. Nothing runs here: each function's contract is a law.
 #![tactic(auto)]
 
 pub mod access;
@@ -14,27 +15,15 @@ pub mod pages;
 pub mod replay_fault;
 pub mod verdict;
 
-ghost use Rattle.loop_core_model.specs.Block.{ScansFollow};
-ghost use Rattle.loop_core_model.specs.BlockRows.{BlockRows};
-ghost use Rattle.loop_core_model.specs.Conflict.{FailsByPair, FlowPassesMore};
-ghost use Rattle.loop_core_model.specs.Flags.{FlagsFollowKinds};
-ghost use Rattle.loop_core_model.specs.Gather.{BlocksGather};
-ghost use Rattle.loop_core_model.specs.GatherRows.{GatherRows};
-ghost use Rattle.loop_core_model.specs.Kept.{OperatorsAssociate, CommitsOfKept};
-ghost use Rattle.loop_core_model.specs.KeptLaw.{KeptBlocksTell};
-ghost use Rattle.loop_core_model.specs.Law.{LoopLaw};
-ghost use Rattle.loop_core_model.specs.MarkLaw.{MarksTell, FirstIsNumber, MarksMerge};
-ghost use Rattle.loop_core_model.specs.OutcomeLaw.{OutcomeByTest};
-ghost use Rattle.loop_core_model.specs.PlaneRows.{PlaneRows};
-ghost use Rattle.loop_core_model.specs.Planes.{PlaneHasElements, PlaneJudges};
-ghost use Rattle.loop_core_model.specs.ReplayRows.{ReplayRows};
-ghost use Rattle.loop_core_model.specs.Scan.{CountedAreScanned};
-ghost use Rattle.loop_core_model.specs.ScheduleLaw.{EndedSchedulesComplete};
-ghost use Rattle.loop_core_model.specs.Split.{EvenIsSplit};
-ghost use Rattle.loop_core_model.specs.SplitLaw.{SplitsPartition};
-ghost use Rattle.loop_core_model.specs.SplitRows.{SplitRows};
-ghost use Rattle.loop_core_model.specs.VerdictBounds.{VerdictsAgree};
-ghost use Rattle.loop_core_model.specs.VerdictRows.{VerdictRows};
+ghost use Rattle.loop_core_model.specs.{Block.{ScansFollow}, BlockRows.{BlockRows}, Flags.{FlagsFollowKinds}};
+ghost use Rattle.loop_core_model.specs.{Conflict.{FailsByPair, FlowPassesMore}, Gather.{BlocksGather}, Law.{LoopLaw}};
+ghost use Rattle.loop_core_model.specs.{GatherRows.{GatherRows}, Kept.{OperatorsAssociate, CommitsOfKept}};
+ghost use Rattle.loop_core_model.specs.{KeptLaw.{KeptBlocksTell}, LoopByEffects.{LoopByEachLane}, Split.{EvenIsSplit}};
+ghost use Rattle.loop_core_model.specs.{MarkLaw.{MarksTell, FirstIsNumber, MarksMerge}, OutcomeLaw.{OutcomeByTest}};
+ghost use Rattle.loop_core_model.specs.{PlaneRows.{PlaneRows}, Planes.{PlaneHasElements, PlaneJudges}};
+ghost use Rattle.loop_core_model.specs.{ReplayRows.{ReplayRows}, Scan.{CountedAreScanned}, SplitLaw.{SplitsPartition}};
+ghost use Rattle.loop_core_model.specs.{ScheduleLaw.{EndedSchedulesComplete}, SplitRows.{SplitRows}};
+ghost use Rattle.loop_core_model.specs.{VerdictBounds.{VerdictsAgree}, VerdictRows.{VerdictRows}};
 
 pub use access::Access;
 pub use event::{Event, EventKind};
@@ -181,4 +170,12 @@ pub fn worked_splits()
 /// The definitions give what worked lists of events come to: the loop's outcome, or their first fault.
 pub fn worked_replays()
     ensures { ReplayRows }
+{}
+
+/// The law of batches: where iterations go on that ran on the words from before them, and each loads the
+/// same after those before it, the loop in order is the loop after them, on the words after their effects,
+/// one lane after another. Each effect is on the word that it finds: so lanes may change one element, where
+/// none loads it.
+pub fn law_of_batches()
+    ensures each { LoopByEachLane }
 {}

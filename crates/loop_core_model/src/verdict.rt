@@ -1,4 +1,4 @@
-//! What is told of a loop call.
+//! What is reported of a loop call.
 
 /// How a loop call was carried out.
 #[derive(Clone, Copy, Debug, PartialEq)]

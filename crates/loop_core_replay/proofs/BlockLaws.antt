@@ -1,19 +1,13 @@
 -- Blocks that are under way, and blocks that were run.
-use Rattle.std.proofs.Common.{◌≡◌, ℕ, zero, suc, ◌+◌, ◌++◌, ◌<◌, ◌⊎◌, inl, inr, List, [], ◌∷◌}
-use Rattle.std.proofs.Common.{length, Option, Some, None, refl, sym, ◌∙◌, ap, subst, arith}
-use Rattle.std.specs.Prelude.{replicate, slice_index_or, slice_set, is_some}
-use Rattle.std.specs.List.{AllByRecursion, insert}
-use Rattle.std.proofs.lemmas.Bool.{cases_eq}
+use Rattle.std.proofs.Common.{◌≡◌, ℕ, zero, suc, ◌+◌, ◌++◌, ◌<◌, ◌⊎◌, inl, inr, List, [], ◌∷◌, length, Option, Some}
+use Rattle.std.{proofs.Common.{None, refl, sym, ◌∙◌, ap, subst, arith}, specs.List.{AllByRecursion, insert}}
+use Rattle.std.{specs.Prelude.{replicate, slice_index_or, slice_set, is_some}, proofs.lemmas.Bool.{cases_eq}}
 use Rattle.std.proofs.lemmas.List.{length-set, get_or-set_same, get_or-set_other, length-replicate, replicate_more}
-use Rattle.loop_core_model.specs.Block.{block_run, break_from}
-use Rattle.loop_core_model.specs.Intervals.{blocks_of, end_of}
-use Rattle.loop_core_block.specs.declared.block.Block.{Block}
-use Rattle.loop_core_block.specs.Blocks.{BlockOf}
-use Rattle.loop_core_block.specs.Shown.{shown}
-use Rattle.loop_core_block.specs.Loops.{LoopOf}
+use Rattle.loop_core_model.specs.{Block.{block_run, break_from}, Intervals.{blocks_of, end_of}}
+use Rattle.loop_core_block.specs.{declared.block.Block.{Block}, Blocks.{BlockOf}, Shown.{shown}, Loops.{LoopOf}}
 use Rattle.loop_core_block.specs.LoopBlocks.{IsBlockOf}
-use Rattle.loop_core_replay.specs.Replays.{BlocksOf, block_numbers, IfBlockOf, AreBlocks}
-use Rattle.loop_core_replay.specs.Replays.{IsUnderWay, BreaksAt, BlockHasRun}
+use Rattle.loop_core_replay.specs.Replays.{BlocksOf, block_numbers, IfBlockOf, AreBlocks, IsUnderWay, BreaksAt}
+use Rattle.loop_core_replay.specs.Replays.{BlockHasRun}
 
 none_at : (n k : ℕ) (nothing : Option Block) → slice_index_or (replicate n nothing) k nothing ≡ nothing
 none_at zero k nothing = refl
@@ -99,9 +93,9 @@ ended s old new number b within there set pushed are =
 pub breaks : (s : LoopOf) (number : ℕ) (b : BlockOf) → IsBlockOf s number b → BreaksAt s number b.broke
 breaks s number b is = record {
   ran = is.ran.ran;
-  told =
+  ended =
       ap (λ (first : ℕ). block_run s.program 4096 s.call s.start.words first (end_of s.bounds number)) (sym is.first_is)
-      ∙ (ap (λ (past : ℕ). block_run s.program 4096 s.call s.start.words b.first past) (sym is.past_is) ∙ is.ran.told);
+      ∙ (ap (λ (past : ℕ). block_run s.program 4096 s.call s.start.words b.first past) (sym is.past_is) ∙ is.ran.ended);
   broke_is = is.ran.broke ∙ ap (λ (first : ℕ). break_from first is.ran.ran) is.first_is;
 }
 

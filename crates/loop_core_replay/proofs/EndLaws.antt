@@ -1,26 +1,16 @@
 -- What an ended list leaves.
-use Rattle.std.proofs.Common.{◌≡◌, ℕ, zero, suc, ◌+◌, ◌<◌, true, List, [], ◌∷◌, map, length}
-use Rattle.std.proofs.Common.{Some, None, refl, sym, ◌∙◌, ap, subst, arith}
-use Rattle.std.specs.Prelude.{slice_get, slice_index, Result, Ok, Err}
-use Rattle.std.specs.List.{All, AllByRecursion}
-use Rattle.std.proofs.lemmas.Bool.{eq-eqb}
-use Rattle.std.proofs.lemmas.List.Elements.{All-nil, All-cons}
+use Rattle.std.proofs.Common.{◌≡◌, ℕ, zero, suc, ◌+◌, ◌<◌, true, List, [], ◌∷◌, map, length, Some, None, refl, sym, ◌∙◌}
+use Rattle.std.{proofs.Common.{ap, subst, arith}, specs.Prelude.{slice_get, slice_index, Result, Ok, Err}}
+use Rattle.std.{specs.List.{All, AllByRecursion}, proofs.lemmas.{Bool.{eq-eqb}, List.Elements.{All-nil, All-cons}}}
 use Rattle.bpf_step_model.specs.Run.{Ended}
-use Rattle.loop_core_model.specs.declared.faults.GatherFault.{GatherFault}
-use Rattle.loop_core_model.specs.Gather as gather
-use Rattle.loop_core_model.specs.Gather.{is_bound, stands_in, gather_fault}
-use Rattle.loop_core_model.specs.Outcome.{Outcome, outcome, unless_fault, replayed}
+use Rattle.loop_core_model.specs.{declared.faults.GatherFault.{GatherFault}, Gather.{is_bound, stands_in, gather_fault}}
+use Rattle.loop_core_model.specs.{Outcome.{Outcome, outcome, unless_fault, replayed}, declared.event.Event.{Event}}
 use Rattle.loop_core_model.specs.ScheduleLaw.{EndedSchedulesComplete}
-use Rattle.loop_core_model.specs.declared.event.Event.{Event}
-use Rattle.loop_core_block.specs.declared.block.Block.{Block}
-use Rattle.loop_core_block.specs.Blocks.{BlockOf}
-use Rattle.loop_core_block.specs.Ran.{as_gathered, iterations_of, RecordsRun}
-use Rattle.loop_core_block.specs.Shown.{shown}
+use Rattle.loop_core_model.specs.Gather as gather
+use Rattle.loop_core_block.specs.{declared.block.Block.{Block}, Blocks.{BlockOf}, Shown.{shown}, LoopBlocks.{IsBlockOf}}
+use Rattle.loop_core_block.specs.{Ran.{as_gathered, iterations_of, RecordsRun}, Loops.{LoopOf, IsSpeculative}}
 use Rattle.loop_core_gather.specs.Gathered.{all_gathered}
-use Rattle.loop_core_replay.specs.Standing.{state}
-use Rattle.loop_core_block.specs.Loops.{LoopOf, IsSpeculative}
-use Rattle.loop_core_block.specs.LoopBlocks.{IsBlockOf}
-use Rattle.loop_core_replay.specs.Replays.{block_numbers, IsLeft}
+use Rattle.loop_core_replay.specs.{Standing.{state}, Replays.{block_numbers, IsLeft}}
 
 bound_at : (bounds : List ℕ) (k : ℕ) → k < length bounds → is_bound (slice_get bounds k) (slice_index bounds k) ≡ true
 bound_at [] k h = absurd (omega (arith, h))
@@ -57,7 +47,7 @@ module _ (s : LoopOf) where
   run : (blocks : List Block) → AreOwn blocks → AllByRecursion (gather.IsRunOf s.program 4096 s.call s.start.words)
       (gathered_of blocks)
   run [] own = tt
-  run (b ∷ blocks) own = (own.0.ran.told ∙ ap (λ e. Ended (iterations_of e)) (sym own.0.ran.told), run blocks own.1)
+  run (b ∷ blocks) own = (own.0.ran.ended ∙ ap (λ e. Ended (iterations_of e)) (sym own.0.ran.ended), run blocks own.1)
 
   -- each of them was run
   pub all_run : (blocks : List Block) → AreOwn blocks

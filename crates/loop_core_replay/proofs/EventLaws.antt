@@ -1,32 +1,22 @@
 -- What events do to a replay.
-use Rattle.std.proofs.Common.{◌≡◌, ℕ, zero, suc, ◌+◌, ◌-◌, ◌<◌, Bool, true, false, List, [], ◌∷◌}
-use Rattle.std.proofs.Common.{◌++◌, take, Option, Some, None, refl, sym, ◌∙◌, ap, subst, arith}
-use Rattle.std.specs.Prelude.{slice_get, if◌then◌else◌, OnOk, Result, Ok, Err}
-use Rattle.std.specs.Option.{option_to_list}
-use Rattle.std.proofs.lemmas.Bool.{eq-eqb, ne_eqb}
+use Rattle.std.proofs.Common.{◌≡◌, ℕ, zero, suc, ◌+◌, ◌-◌, ◌<◌, Bool, true, false, List, [], ◌∷◌, ◌++◌, take, Option}
+use Rattle.std.{proofs.Common.{Some, None, refl, sym, ◌∙◌, ap, subst, arith}, specs.Option.{option_to_list}}
+use Rattle.std.{specs.Prelude.{slice_get, if◌then◌else◌, OnOk, Result, Ok, Err}, proofs.lemmas.Bool.{eq-eqb, ne_eqb}}
 use Rattle.bpf_step_model.specs.Iteration.{iteration}
-use Rattle.loop_core_model.specs.Gather.{is_bound}
-use Rattle.loop_core_model.specs.declared.event.Event.{Event}
-use Rattle.loop_core_model.specs.declared.event.EventKind.TheVariants as kinds
-use Rattle.loop_core_model.specs.Intervals.{start_of, end_of}
-use Rattle.loop_core_model.specs.Events.{Running as InBlock}
-use Rattle.loop_core_model.specs.declared.replay_fault.ReplayFault.{ReplayFault}
-use Rattle.loop_core_model.specs.Schedule.{ScheduleState, at_first, worker_of, replay}
-use Rattle.loop_core_model.proofs.SplitLaws.{faultless}
-use Rattle.loop_core_model.proofs.Steps.{first_break, RunsFrom, Fits as WorkerIsSound}
-use Rattle.loop_core_model.proofs.RunBlocks.{scan_break}
+use Rattle.loop_core_model.specs.{Gather.{is_bound}, declared.event.Event.{Event}, Intervals.{start_of, end_of}}
+use Rattle.loop_core_model.specs.{Events.{Running as InBlock}, declared.replay_fault.ReplayFault.{ReplayFault}}
+use Rattle.loop_core_model.{specs.Schedule.{ScheduleState, at_first, worker_of, replay}, proofs.SplitLaws.{faultless}}
+use Rattle.loop_core_model.proofs.{Steps.{first_break, RunsFrom, Fits as WorkerIsSound}, RunBlocks.{scan_break}}
 use Rattle.loop_core_model.proofs.ScheduleLaws.{Sound, AllOk, events_ok, sound_at_first}
-use Rattle.loop_core_replay.specs.declared.worker.Worker.TheVariants.{Running}
-use Rattle.loop_core_replay.specs.declared.worker.PendingIteration.{PendingIteration}
-use Rattle.loop_core_replay.specs.Standing.{Standing, WorkersFit, schedule_worker, state}
-use Rattle.loop_core_replay.specs.declared.worker.Step.{Step}
-use Rattle.loop_core_replay.specs.declared.worker.Step.TheVariants as steps
+use Rattle.loop_core_model.specs.declared.event.EventKind.TheVariants as kinds
+use Rattle.loop_core_replay.specs.declared.worker.{Worker.TheVariants.{Running}, PendingIteration.{PendingIteration}}
+use Rattle.loop_core_replay.specs.{Standing.{Standing, WorkersFit, schedule_worker, state}, declared.worker.Step.{Step}}
 use Rattle.loop_core_replay.specs.Steps.{Leads, Faults, StepFollows, IsBefore, IterationFinished}
-use Rattle.loop_core_replay.specs.InTurn.{LeadTo, EventsInTurn}
-use Rattle.loop_core_replay.proofs.StandingLaws.{seen_at, at_is}
+use Rattle.loop_core_replay.{specs.InTurn.{LeadTo, EventsInTurn}, proofs.StandingLaws.{seen_at, at_is}}
+use Rattle.loop_core_replay.specs.Replays.{BlocksOf, ReplayOf, loop_breaks, block_numbers, state_of, AreBlocks}
+use Rattle.loop_core_replay.specs.Replays.{BreaksAt, BlockHasRun, HasCome}
+use Rattle.loop_core_replay.specs.declared.worker.Step.TheVariants as steps
 use Rattle.loop_core_block.specs.Loops.{LoopOf, IsSpeculative}
-use Rattle.loop_core_replay.specs.Replays.{BlocksOf, ReplayOf, loop_breaks, block_numbers, state_of}
-use Rattle.loop_core_replay.specs.Replays.{AreBlocks, BreaksAt, BlockHasRun, HasCome}
 
 -- a state that events lead to is sound
 sound_of : (s : LoopOf) → IsSpeculative s → (events : List Event) (place : ℕ) (now : ScheduleState)
@@ -74,7 +64,7 @@ next_breaks s is events place r come turn before broke at =
     ap (λ (o : Option ℕ). is_bound o turn.index)
     (at.broke_is
     ∙ (scan_break (λ (index : ℕ). iteration s.program 4096 s.call index s.start.words) (end_of s.bounds turn.block
-    - start_of s.bounds turn.block) (start_of s.bounds turn.block) at.ran at.told
+    - start_of s.bounds turn.block) (start_of s.bounds turn.block) at.ran at.ended
     ∙ runs.no_break))
     ∙ first_is (loop_breaks s) (end_of s.bounds turn.block - turn.index) turn.index (omega (arith, end))
 

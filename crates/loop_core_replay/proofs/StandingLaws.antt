@@ -1,27 +1,19 @@
 -- Workers as a schedule's state.
-use Rattle.std.proofs.Common.{◌≡◌, ℕ, zero, suc, ◌<◌, Bool, false, ◌⊎◌, inl, inr, List, [], ◌∷◌, ◌++◌}
-use Rattle.std.proofs.Common.{map, length, Some, Option, Ok, refl, sym, ◌∙◌, ap, subst, arith}
-use Rattle.std.specs.Prelude.{slice_get, slice_index_or, slice_set, nat_lt}
-use Rattle.std.proofs.lemmas.Bool.{le-ltb, cases_eq}
+use Rattle.std.proofs.Common.{◌≡◌, ℕ, zero, suc, ◌<◌, Bool, false, ◌⊎◌, inl, inr, List, [], ◌∷◌, ◌++◌, map, length}
+use Rattle.std.proofs.{Common.{Some, Option, Ok, refl, sym, ◌∙◌, ap, subst, arith}, lemmas.Bool.{le-ltb, cases_eq}}
+use Rattle.std.specs.{Prelude.{slice_get, slice_index_or, slice_set, nat_lt}, Option.{option_to_list}}
 use Rattle.std.proofs.lemmas.List.{get_or-set_same, get_or-set_other}
-use Rattle.std.specs.Option.{option_to_list}
-use Rattle.loop_core_model.specs.declared.event.Event.{Event}
+use Rattle.loop_core_model.specs.{declared.event.Event.{Event}, Schedule.{if_enabled, after_event}}
 use Rattle.loop_core_model.specs.Events as events
-use Rattle.loop_core_model.specs.Schedule.{if_enabled, after_event}
-use Rattle.loop_core_replay.specs.declared.worker.Worker.{Worker}
-use Rattle.loop_core_replay.specs.declared.worker.Worker.TheVariants.{Idle}
-use Rattle.loop_core_replay.specs.declared.worker.Shared.{Shared}
-use Rattle.loop_core_replay.specs.declared.moves.WorkerTransition.{WorkerTransition}
-use Rattle.loop_core_replay.specs.Standing.{schedule_worker, shared_of, Standing, state, WorkerFits, WorkersFit}
-use Rattle.loop_core_replay.specs.declared.worker.Worker.TheVariants.{Running}
-use Rattle.loop_core_replay.specs.declared.worker.Step.{Step}
-use Rattle.loop_core_replay.specs.declared.worker.Step.TheVariants as steps
-use Rattle.loop_core_replay.specs.declared.worker.PendingIteration.{PendingIteration}
 use Rattle.loop_core_model.specs.declared.event.EventKind.TheVariants as kinds
-use Rattle.loop_core_replay.specs.declared.moves.Asked.{Asked}
+use Rattle.loop_core_replay.specs.declared.worker.{Worker.{Worker, TheVariants.{Idle, Running}}, Shared.{Shared}}
+use Rattle.loop_core_replay.specs.declared.{moves.WorkerTransition.{WorkerTransition}, worker.Step.{Step}}
+use Rattle.loop_core_replay.specs.Standing.{schedule_worker, shared_of, Standing, state, WorkerFits, WorkersFit}
+use Rattle.loop_core_replay.specs.declared.{worker.PendingIteration.{PendingIteration}, moves.Asked.{Asked}}
 use Rattle.loop_core_replay.specs.declared.moves.Asked.TheVariants.{Moves}
 use Rattle.loop_core_replay.specs.Moves.{TransitionFits, transition_result, after_transition, IsTransition, IsAskedFor}
 use Rattle.loop_core_replay.specs.Steps.{IsStepOf, IsBefore, StepFollows, IterationFinished}
+use Rattle.loop_core_replay.specs.declared.worker.Step.TheVariants as steps
 
 pub seen_at : (workers : List Worker) (number : ℕ) → slice_index_or (map schedule_worker workers) number events.Idle
     ≡ schedule_worker (slice_index_or workers number Idle)

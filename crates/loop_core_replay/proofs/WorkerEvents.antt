@@ -1,13 +1,10 @@
 -- A list of events, one after another.
-use Rattle.std.proofs.Common.{◌≡◌, ℕ, zero, suc, ◌+◌, Bool, true, false, List, [], ◌∷◌, length}
-use Rattle.std.proofs.Common.{take, Some, Ok, Err, Result, refl, ap, subst, arith}
-use Rattle.std.specs.Prelude.{slice_get, if◌then◌else◌}
+use Rattle.std.proofs.Common.{◌≡◌, ℕ, zero, suc, ◌+◌, Bool, true, false, List, [], ◌∷◌, length, take, Some, Ok, Err}
+use Rattle.std.{proofs.Common.{Result, refl, ap, subst, arith}, specs.Prelude.{slice_get, if◌then◌else◌}}
 use Rattle.std.proofs.Math.Seq.{take-length}
-use Rattle.loop_core_model.specs.declared.event.Event.{Event}
-use Rattle.loop_core_model.specs.declared.replay_fault.ReplayFault.{ReplayFault}
-use Rattle.loop_core_model.specs.declared.replay_fault.ReplayFault.TheVariants.{NotEnded}
-use Rattle.loop_core_model.specs.Schedule.{ScheduleState, at_first, after_event, after_events}
-use Rattle.loop_core_model.specs.Schedule.{and_then, has_ended, if_ended, replay}
+use Rattle.loop_core_model.specs.declared.{event.Event.{Event}, replay_fault.ReplayFault.{ReplayFault}}
+use Rattle.loop_core_model.specs.{declared.replay_fault.ReplayFault.TheVariants.{NotEnded}, Schedule.{if_ended, replay}}
+use Rattle.loop_core_model.specs.Schedule.{ScheduleState, at_first, after_event, after_events, and_then, has_ended}
 use Rattle.loop_core_replay.specs.InTurn.{EventsInTurn}
 
 module _ (breaks : ℕ → Bool) (bounds : List ℕ) where

@@ -1,7 +1,6 @@
 -- A list of events, one after another.
 use Rattle.std.specs.Prelude.{◌≡◌, ℕ, ◌+◌, Bool, true, false, List, length, take, slice_get, Some, Ok, Err}
-use Rattle.loop_core_model.specs.declared.event.Event.{Event}
-use Rattle.loop_core_model.specs.declared.replay_fault.ReplayFault.{ReplayFault}
+use Rattle.loop_core_model.specs.declared.{event.Event.{Event}, replay_fault.ReplayFault.{ReplayFault}}
 use Rattle.loop_core_model.specs.declared.replay_fault.ReplayFault.TheVariants.{NotEnded}
 use Rattle.loop_core_model.specs.Schedule.{ScheduleState, at_first, after_event, after_events, has_ended, replay}
 

@@ -1,15 +1,11 @@
 -- What an event asks for.
 use Rattle.std.specs.Prelude.{◌≡◌, ℕ, ◌<◌, ◌≤◌, Bool, List, ◌++◌, slice_set, IfSome, Some, None}
 use Rattle.std.specs.Option.{option_to_list}
-use Rattle.loop_core_model.specs.declared.event.EventKind.{EventKind}
-use Rattle.loop_core_model.specs.declared.event.EventKind.TheVariants as kinds
-use Rattle.loop_core_model.specs.Intervals.{blocks_of}
+use Rattle.loop_core_model.specs.{declared.event.EventKind.{EventKind}, Intervals.{blocks_of}}
 use Rattle.loop_core_model.specs.Events.{Moved, becomes, transition}
-use Rattle.loop_core_replay.specs.declared.worker.Worker.{Worker}
-use Rattle.loop_core_replay.specs.declared.worker.Worker.TheVariants.{Running}
-use Rattle.loop_core_replay.specs.declared.worker.Shared.{Shared}
-use Rattle.loop_core_replay.specs.declared.moves.WorkerTransition.{WorkerTransition}
-use Rattle.loop_core_replay.specs.declared.moves.Asked.{Asked}
+use Rattle.loop_core_model.specs.declared.event.EventKind.TheVariants as kinds
+use Rattle.loop_core_replay.specs.declared.worker.{Worker.{Worker, TheVariants.{Running}}, Shared.{Shared}}
+use Rattle.loop_core_replay.specs.declared.moves.{WorkerTransition.{WorkerTransition}, Asked.{Asked}}
 use Rattle.loop_core_replay.specs.declared.moves.Asked.TheVariants.{Moves, Iteration}
 use Rattle.loop_core_replay.specs.Standing.{schedule_worker, shared_of, Standing, WorkerFits}
 

@@ -1,20 +1,11 @@
 -- The state of a replay, event by event.
-use Rattle.std.specs.Prelude.{◌≡◌, ℕ, ◌<◌, Bool, true, List, ◌∷◌, map, length, slice_index_or}
-use Rattle.std.specs.Prelude.{Option, Some, None, is_some, Ok}
-use Rattle.std.specs.List.{AllByRecursion}
-use Rattle.bpf_step_model.specs.Run.{Ended}
-use Rattle.bpf_step_model.specs.Iteration.{Iterated}
-use Rattle.loop_core_model.specs.Block.{block_run, break_from}
-use Rattle.loop_core_model.specs.declared.event.Event.{Event}
-use Rattle.loop_core_model.specs.Intervals.{blocks_of, start_of, end_of}
-use Rattle.loop_core_model.specs.Outcome.{breaks_at}
-use Rattle.loop_core_model.specs.Schedule.{ScheduleState, replay}
-use Rattle.loop_core_replay.specs.Standing.{Standing, WorkersFit, state}
-use Rattle.loop_core_replay.specs.InTurn.{LeadTo}
-use Rattle.loop_core_block.specs.declared.block.Block.{Block}
-use Rattle.loop_core_block.specs.Loops.{LoopOf}
-use Rattle.loop_core_block.specs.LoopBlocks.{IsBlockOf}
-use Rattle.loop_core_block.specs.Shown.{shown}
+use Rattle.std.specs.Prelude.{◌≡◌, ℕ, ◌<◌, Bool, true, List, ◌∷◌, map, length, slice_index_or, Option, Some, None}
+use Rattle.std.specs.{Prelude.{is_some, Ok}, List.{AllByRecursion}}
+use Rattle.bpf_step_model.specs.{Run.{Ended}, Iteration.{Iterated}}
+use Rattle.loop_core_model.specs.{Block.{block_run, break_from}, declared.event.Event.{Event}, Outcome.{breaks_at}}
+use Rattle.loop_core_model.specs.{Intervals.{blocks_of, start_of, end_of}, Schedule.{ScheduleState, replay}}
+use Rattle.loop_core_replay.specs.{Standing.{Standing, WorkersFit, state}, InTurn.{LeadTo}}
+use Rattle.loop_core_block.specs.{declared.block.Block.{Block}, Loops.{LoopOf}, LoopBlocks.{IsBlockOf}, Shown.{shown}}
 
 -- the blocks that are active, by number, and those that were run, the latest first
 pub record BlocksOf : Type 0 where
@@ -57,7 +48,7 @@ pub record IsUnderWay (blocks : BlocksOf) (number : ℕ) : Type 0 where
 -- a block breaks here on the start words, or not at all
 pub record BreaksAt (s : LoopOf) (number : ℕ) (broke : Option ℕ) : Type 0 where
   pub ran : List Iterated
-  pub told : block_run s.program 4096 s.call s.start.words (start_of s.bounds number) (end_of s.bounds number)
+  pub ended : block_run s.program 4096 s.call s.start.words (start_of s.bounds number) (end_of s.bounds number)
       ≡ Ended ran
   pub broke_is : broke ≡ break_from (start_of s.bounds number) ran
 

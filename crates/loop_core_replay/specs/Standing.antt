@@ -1,12 +1,9 @@
 -- Workers and what they share, while a list of events goes by.
 use Rattle.std.specs.Prelude.{ℕ, ◌<◌, ◌≤◌, List, map, slice_index_or}
-use Rattle.loop_core_model.specs.Intervals.{blocks_of, end_of}
+use Rattle.loop_core_model.specs.{Intervals.{blocks_of, end_of}, Schedule.{ScheduleState}}
 use Rattle.loop_core_model.specs.Events as events
-use Rattle.loop_core_model.specs.Schedule.{ScheduleState}
-use Rattle.loop_core_replay.specs.declared.worker.Worker.{Worker}
-use Rattle.loop_core_replay.specs.declared.worker.Worker.TheVariants.{Idle, Holding, Running, Posting}
-use Rattle.loop_core_replay.specs.declared.worker.Worker.TheVariants.{Drained, Stopped}
-use Rattle.loop_core_replay.specs.declared.worker.Shared.{Shared}
+use Rattle.loop_core_replay.specs.declared.worker.{Worker.{Worker}, Shared.{Shared}}
+use Rattle.loop_core_replay.specs.declared.worker.Worker.TheVariants.{Idle, Holding, Running, Posting, Drained, Stopped}
 
 -- what a worker does, as schedules say it
 abbrev pub schedule_worker : Worker → events.Worker

@@ -1,16 +1,12 @@
 -- What comes of an event, whichever iterations break and whichever blocks were run before.
 use Rattle.std.specs.Prelude.{◌≡◌, ℕ, ◌<◌, Bool, List, [], ◌∷◌, ◌++◌, slice_get, Option, Some, None, Ok, Err}
 use Rattle.std.specs.Option.{option_to_list}
-use Rattle.loop_core_model.specs.declared.event.Event.{Event}
+use Rattle.loop_core_model.specs.declared.{event.Event.{Event}, replay_fault.ReplayFault.{ReplayFault}}
+use Rattle.loop_core_model.specs.{Intervals.{blocks_of}, Schedule.{after_event}}
 use Rattle.loop_core_model.specs.declared.event.EventKind.TheVariants as kinds
-use Rattle.loop_core_model.specs.declared.replay_fault.ReplayFault.{ReplayFault}
-use Rattle.loop_core_model.specs.Intervals.{blocks_of}
-use Rattle.loop_core_model.specs.Schedule.{after_event}
-use Rattle.loop_core_replay.specs.declared.worker.Worker.TheVariants.{Running}
-use Rattle.loop_core_replay.specs.declared.worker.PendingIteration.{PendingIteration}
-use Rattle.loop_core_replay.specs.declared.worker.Step.{Step}
+use Rattle.loop_core_replay.specs.declared.worker.{Worker.TheVariants.{Running}, PendingIteration.{PendingIteration}}
+use Rattle.loop_core_replay.specs.{declared.worker.Step.{Step}, Standing.{Standing, state}}
 use Rattle.loop_core_replay.specs.declared.worker.Step.TheVariants as steps
-use Rattle.loop_core_replay.specs.Standing.{Standing, state}
 
 -- the event at this place of a list leads from one state to another, and these blocks were run with it
 abbrev pub Leads : List ℕ → Event → (place : ℕ) → (old new : Standing) → List ℕ → Type 0

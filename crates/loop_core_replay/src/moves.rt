@@ -1,8 +1,7 @@
 //! What each event does to a worker and to what it shares.
 
 ghost use Rattle.std.specs.Prelude.{◌≡◌, ◌<◌, ◌≤◌, ℕ, Bool, List, IfSome, IfNone, Some, None};
-ghost use Rattle.loop_core_model.specs.Intervals.{blocks_of, end_of};
-ghost use Rattle.loop_core_model.specs.Events.{claims, looks, iterates, posts};
+ghost use Rattle.loop_core_model.specs.{Intervals.{blocks_of, end_of}, Events.{claims, looks, iterates, posts}};
 ghost use Rattle.loop_core_replay.specs.Standing.{schedule_worker, shared_of, WorkerFits};
 ghost use Rattle.loop_core_replay.specs.Moves.{TransitionFits, transition_result, IsAskedFor, IsNeverEnabled};
 

@@ -1,11 +1,9 @@
 //! A replay, event by event.
 
 ghost use Rattle.std.specs.Prelude.{◌≡◌, ◌+◌, ◌<◌, List, length, slice_get, Some, Err, IfOk, IfErr, OnOk};
-ghost use Rattle.loop_core_model.specs.Gather.{is_bound};
+ghost use Rattle.loop_core_model.specs.{Gather.{is_bound}, Schedule.{replay}};
 ghost use Rattle.loop_core_model.specs.declared.event.EventKind.TheVariants as kinds;
-ghost use Rattle.loop_core_model.specs.Schedule.{replay};
-ghost use Rattle.loop_core_replay.specs.Steps.{IsBefore};
-ghost use Rattle.loop_core_replay.specs.Replays.{loop_breaks, HasCome, IsLeft};
+ghost use Rattle.loop_core_replay.specs.{Steps.{IsBefore}, Replays.{loop_breaks, HasCome, IsLeft}};
 
 use crate::blocks::Blocks;
 use crate::error::ReplayError;

@@ -3,8 +3,7 @@
 ghost use Rattle.std.specs.Prelude.{◌≡◌, None, Ok, Err, IfOk};
 ghost use Rattle.bpf_step_model.specs.Run.{Ended};
 ghost use Rattle.bpf_verify_sound.specs.Soundness.{OverApproximatesCall};
-ghost use Rattle.loop_core_model.specs.Split.{split_fault};
-ghost use Rattle.loop_core_model.specs.Outcome.{replayed};
+ghost use Rattle.loop_core_model.specs.{Split.{split_fault}, Outcome.{replayed}};
 
 use crate::error::ReplayError;
 use crate::replay::run_events;

@@ -1,12 +1,10 @@
 //! The workers of a replayed schedule.
 
-ghost use Rattle.std.specs.Prelude.{◌≡◌, ◌<◌, ◌≤◌, ℕ, Bool, true, false, List, []};
-ghost use Rattle.std.specs.Prelude.{length, IfSome, IfOk, IfErr, OnOk, OnErr};
-ghost use Rattle.std.specs.List.{list_all};
+ghost use Rattle.std.specs.Prelude.{◌≡◌, ◌<◌, ◌≤◌, ℕ, Bool, true, false, List, [], length, IfSome, IfOk, IfErr, OnOk};
+ghost use Rattle.std.specs.{Prelude.{OnErr}, List.{list_all}};
 ghost use Rattle.loop_core_model.specs.declared.replay_fault.ReplayFault.TheVariants.{NotEnded};
 ghost use Rattle.loop_core_model.specs.Schedule.{at_first, has_ended, is_stopped, worker_of};
-ghost use Rattle.loop_core_replay.specs.Standing.{WorkersFit, state};
-ghost use Rattle.loop_core_replay.specs.Moves.{after_transition};
+ghost use Rattle.loop_core_replay.specs.{Standing.{WorkersFit, state}, Moves.{after_transition}};
 ghost use Rattle.loop_core_replay.specs.Steps.{IsStepOf, StepFits, StepFollows, Faults, IsBefore, IterationFinished};
 
 use crate::moves::{Asked, WorkerTransition, asked_of, iterate};

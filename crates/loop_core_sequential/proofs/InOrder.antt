@@ -1,16 +1,12 @@
 -- Loops that run index by index.
-use Rattle.std.proofs.Common.{◌≡◌, ℕ, suc, ◌+◌, ◌-◌, ◌<◌, ◌≤◌, Bool, true, false, ◌==◌, if◌then◌else◌, List}
-use Rattle.std.proofs.Common.{Option, Some, None, length, refl, sym, ap, subst, ◌∙◌, eqb-true, arith}
-use Rattle.std.specs.List.{sum}
+use Rattle.std.proofs.Common.{◌≡◌, ℕ, suc, ◌+◌, ◌-◌, ◌<◌, ◌≤◌, Bool, true, false, ◌==◌, if◌then◌else◌, List, Option}
+use Rattle.std.{proofs.Common.{Some, None, length, refl, sym, ap, subst, ◌∙◌, eqb-true, arith}, specs.List.{sum}}
 use Rattle.array_maps.specs.MapList.{MapList}
 use Rattle.bpf_insn_types.specs.Program.{Program}
-use Rattle.bpf_step_model.specs.State.{LoopCall}
-use Rattle.bpf_step_model.specs.Run.{Ended, followed}
-use Rattle.bpf_step_model.specs.Iteration.{Iterated, iteration}
+use Rattle.bpf_step_model.specs.{State.{LoopCall}, Run.{Ended, followed}, Iteration.{Iterated, iteration}}
 use Rattle.bpf_step_model.specs.LoopInOrder.{behind, loop_from, loop_in_order}
 use Rattle.bpf_step.specs.Iterations.{CallbackOf, RanCallback}
-use Rattle.loop_core_sequential.specs.Loops.{RanLoopInOrder}
-use Rattle.loop_core_sequential.specs.Rests.{rest_to, RanOn, BrokeOff, RanTo, answer_of}
+use Rattle.loop_core_sequential.specs.{Loops.{RanLoopInOrder}, Rests.{rest_to, RanOn, BrokeOff, RanTo, answer_of}}
 use Rattle.loop_core_sequential.proofs.MapEffects.{map_effect, sizes_kept}
 
 -- nothing was done

@@ -1,8 +1,6 @@
 -- What accesses do to maps.
 use Rattle.std.proofs.Common.{◌≡◌, ℕ, List, [], ◌∷◌, ap, ◌∙◌}
-use Rattle.array_maps.specs.Accesses.{Access, words_after}
-use Rattle.array_maps.specs.MapList.{MapList}
-use Rattle.array_maps.specs.Store.{Effects}
+use Rattle.array_maps.specs.{Accesses.{Access, words_after}, MapList.{MapList}, Store.{Effects}}
 
 -- an access changes the words alone
 abbrev pub map_effect : MapList → Access → MapList → Type 0

@@ -1,37 +1,25 @@
 -- Loops whose iterations are marked, each on the start words.
-use Rattle.std.proofs.Common.{◌≡◌, ℕ, ◌+◌, ◌-◌, ◌<◌, ◌≤◌, true, false, ◌⊎◌, inl, inr, leb, map, Some}
-use Rattle.std.proofs.Common.{List, length, refl, sym, ap, subst, ◌∙◌, arith}
-use Rattle.std.specs.List.{All, AllPairs}
+use Rattle.std.proofs.Common.{◌≡◌, ℕ, ◌+◌, ◌-◌, ◌<◌, ◌≤◌, true, false, ◌⊎◌, inl, inr, leb, map, Some, List, length}
+use Rattle.std.{proofs.Common.{refl, sym, ap, subst, ◌∙◌, arith}, specs.List.{All, AllPairs}}
 use Rattle.std.proofs.lemmas.Bool.Decides.{leb_tells}
 use Rattle.array_maps.specs.MapList.{AreWords}
 use Rattle.bpf_insn_types.specs.Program.{Program}
 use Rattle.bpf_step_model.specs.State.{LoopCall}
-use Rattle.bpf_verify_sound.specs.Soundness.{IsSoundProgram, AreMapWords, OverApproximatesCall}
-use Rattle.bpf_verify_sound.specs.Soundness.{EachProgramEnds, EachCountIsSmall}
-use Rattle.bpf_step_ir_sound.specs.Laws.{EachIterationSimulates}
-use Rattle.bpf_verify.specs.declared.callback_rows.CallbackRows.{CallbackRows}
-use Rattle.bpf_verify.specs.Rows.{AreRowsAt}
-use Rattle.loop_core_batch.specs.Effects.{EffectLog, accesses_on, effects_of}
-use Rattle.loop_core_batch.specs.LoopByEffects.{EndsInZero}
-use Rattle.lane_stamps.specs.declared.site.Site.{Site}
-use Rattle.lane_stamps.specs.Sites.{IsWithin, LaneRows, log_of}
-use Rattle.lane_stamps.specs.Stamps.{WatchedOwn}
+use Rattle.bpf_verify_sound.specs.Soundness.{IsSoundProgram, AreMapWords, OverApproximatesCall, EachProgramEnds}
+use Rattle.bpf_verify_sound.specs.Soundness.{EachCountIsSmall}
+use Rattle.bpf_step.specs.Laws.{EachIterationSimulates}
+use Rattle.bpf_verify.specs.{declared.callback_rows.CallbackRows.{CallbackRows}, Rows.{AreRowsAt}}
+use Rattle.loop_core_model.specs.{Effects.{EffectLog, accesses_on, effects_of}, LoopByEffects.{EndsInZero}}
+use Rattle.lane_stamps.specs.{declared.site.Site.{Site}, Sites.{IsWithin, LaneRows, log_of}, Stamps.{WatchedOwn}}
 use Rattle.lane_stamps.proofs.StampSteps.{all_own}
-use Rattle.row_run.specs.declared.batch.Batch.{Batch}
-use Rattle.row_run.specs.Batches.{AllRan, IsReady, batch_log, rows_of, sites_of}
+use Rattle.row_run.specs.{declared.batch.Batch.{Batch}, Batches.{AllRan, IsReady, batch_log, rows_of, sites_of}}
 use Rattle.row_run.proofs.OwnLaws.{sees_own}
-use Rattle.shadow_marks.specs.declared.planes.Planes.{Planes}
-use Rattle.shadow_marks.specs.Standing.{StandFor, no_visits}
-use Rattle.loop_marks.specs.Touches.{touches_of}
-use Rattle.loop_marks.specs.MarkedVerdicts.{VerdictByMarks}
-use Rattle.loop_marks.specs.LaneMarks.{LanesMarked}
+use Rattle.shadow_marks.specs.{declared.planes.Planes.{Planes}, Standing.{StandFor, no_visits}}
+use Rattle.loop_marks.specs.{Touches.{touches_of}, MarkedVerdicts.{VerdictByMarks}, LaneMarks.{LanesMarked}}
 use Rattle.loop_marks.proofs.VerdictLaws.{touches_on}
-use Rattle.loop_core_sequential.specs.declared.loop_run.LoopRun.{LoopRun}
-use Rattle.loop_core_sequential.specs.Lanes.{LanesGoOn}
-use Rattle.loop_core_sequential.specs.Watched.{accesses_at, accesses_if_ended}
-use Rattle.loop_core_sequential.specs.Marked.{AreMarked, HaveVerdict, RanApart}
-use Rattle.loop_core_sequential.proofs.Together.{lanes_go_on}
-use Rattle.loop_core_sequential.proofs.WatchedLanes.{loads_itself}
+use Rattle.loop_core_sequential.specs.{declared.loop_run.LoopRun.{LoopRun}, Lanes.{LanesGoOn}}
+use Rattle.loop_core_sequential.{specs.Watched.{accesses_at, accesses_if_ended}, proofs.Together.{lanes_go_on}}
+use Rattle.loop_core_sequential.{specs.Marked.{AreMarked, HaveVerdict, RanApart}, proofs.WatchedLanes.{loads_itself}}
 
 -- lanes that each ran, of which none loads what it left itself, are iterations
 pub ran_apart : EachIterationSimulates → EachProgramEnds → EachCountIsSmall → (program : Program)

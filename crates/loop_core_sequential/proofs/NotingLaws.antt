@@ -1,21 +1,13 @@
 -- What is noted of batches.
 use Rattle.std.proofs.Common.{◌≡◌, ℕ, ◌+◌, ◌-◌, ◌<◌, ◌≤◌, Bool, true, false, ◌||◌, ◌&&◌, ◌==◌, ◌⊎◌, All, List, length}
 use Rattle.std.proofs.Common.{take, slice_index_or, inl, inr, refl, sym, ◌∙◌, ap, subst, arith}
-use Rattle.std.specs.Prelude.{nat_le, nat_lt, if◌then◌else◌}
-use Rattle.std.proofs.lemmas.Bool.{cases_eq, both_ways, or_cases, or_left, or_right, and_from, and_parts}
-use Rattle.std.proofs.lemmas.Bool.{eq-eqb, eqb-true, le-leb, leb-true, lt-ltb, ltb-true}
-use Rattle.std.proofs.lemmas.List.Elements.{All-more, All-take}
-use Rattle.std.proofs.lemmas.List.{take_all, get_or_default}
-use Rattle.lane_rows.specs.declared.mask.Mask.{Mask}
-use Rattle.lane_rows.specs.declared.places.Places.{Places}
-use Rattle.lane_rows.specs.Lanes.{MaskHas}
-use Rattle.lane_rows.specs.Rows.{is_in}
-use Rattle.lane_stamps.specs.declared.kind.Kind.{Kind}
-use Rattle.lane_stamps.specs.declared.site.Site.{Site}
+use Rattle.std.{specs.Prelude.{nat_le, nat_lt, if◌then◌else◌}, proofs.lemmas.List.Elements.{All-more, All-take}}
+use Rattle.std.proofs.lemmas.Bool.{cases_eq, both_ways, or_cases, or_left, or_right, and_from, and_parts, eq-eqb}
+use Rattle.std.proofs.lemmas.{Bool.{eqb-true, le-leb, leb-true, lt-ltb, ltb-true}, List.{take_all, get_or_default}}
+use Rattle.lane_rows.specs.{declared.{mask.Mask.{Mask}, places.Places.{Places}}, Lanes.{MaskHas}, Rows.{is_in}}
+use Rattle.lane_stamps.specs.{declared.{kind.Kind.{Kind}, site.Site.{Site}}, Forms.{IsPlace, RunsFrom}}
 use Rattle.lane_stamps.specs.Sites.{IsWithin, LaneRows, element_named, is_of_halves, leaves, loads, mask_of, places_of}
-use Rattle.lane_stamps.specs.Forms.{IsPlace, RunsFrom}
-use Rattle.loop_core_undo.specs.declared.undo_log.UndoLog.{UndoLog}
-use Rattle.loop_core_undo.specs.Undo.{log_elements, is_written, MarksMore}
+use Rattle.loop_core_undo.specs.{declared.undo_log.UndoLog.{UndoLog}, Undo.{log_elements, is_written, MarksMore}}
 use Rattle.loop_core_sequential.specs.Watched.{AreUnwritten, IsUnread, IsNoted, element_at, is_whole}
 use Rattle.loop_core_sequential.specs.Noting.{AreBelow, Grows, HasElement, IsLeft, LanesNoted, NotesWrites}
 

@@ -1,6 +1,5 @@
 -- Batches get on.
-use Rattle.std.proofs.Common.{◌≡◌, ℕ, ◌-◌, ◌<◌, ◌≤◌, inl, inr, arith}
-use Rattle.std.proofs.lemmas.Bool.{cases_eq}
+use Rattle.std.proofs.{Common.{◌≡◌, ℕ, ◌-◌, ◌<◌, ◌≤◌, inl, inr, arith}, lemmas.Bool.{cases_eq}}
 
 -- after a batch that nothing went of, at least one iteration goes alone
 pub smaller : (index next resume to alone : ℕ) → index < to → index ≤ next → (next ≡ index → 0 < alone) → next ≤ resume

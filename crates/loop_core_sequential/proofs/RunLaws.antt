@@ -5,14 +5,10 @@ use Rattle.bpf_insn_types.specs.Program.{Program}
 use Rattle.bpf_step_model.specs.State.{LoopCall}
 use Rattle.bpf_step.specs.Iterations.{CallbackOf}
 use Rattle.loop_core_undo.specs.declared.undo_log.UndoLog.{UndoLog}
-use Rattle.loop_core_sequential.specs.declared.loop_run.LoopRun.{LoopRun}
-use Rattle.loop_core_sequential.specs.declared.watching.Watch.{Watch}
-use Rattle.loop_core_sequential.specs.declared.watched_loop.WatchedLoop.{WatchedLoop}
-use Rattle.loop_core_sequential.specs.LoopRuns.{IsLoopRun}
-use Rattle.loop_core_sequential.specs.Rests.{RanOn, RanTo}
-use Rattle.loop_core_sequential.specs.Noting.{GoesWatched}
-use Rattle.loop_core_sequential.specs.WatchedRuns.{WatchedTo, WatchedToEnd}
-use Rattle.loop_core_sequential.proofs.InOrder.{went_both, ran_both}
+use Rattle.loop_core_sequential.specs.declared.{loop_run.LoopRun.{LoopRun}, watching.Watch.{Watch}}
+use Rattle.loop_core_sequential.specs.{declared.watched_loop.WatchedLoop.{WatchedLoop}, LoopRuns.{IsLoopRun}}
+use Rattle.loop_core_sequential.specs.{Rests.{RanOn, RanTo}, Noting.{GoesWatched}}
+use Rattle.loop_core_sequential.{specs.WatchedRuns.{WatchedTo, WatchedToEnd}, proofs.InOrder.{went_both, ran_both}}
 
 -- its callback is of the program and the call
 pub callback_is : (run first : LoopRun) → run ≡ first → IsLoopRun first

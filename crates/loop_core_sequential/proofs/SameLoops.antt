@@ -1,15 +1,12 @@
 -- Calls with the same iterations are the same loop.
-use Rattle.std.proofs.Common.{◌≡◌, ℕ, zero, suc, ◌+◌, ◌<◌, Bool, true, false, ◌==◌}
-use Rattle.std.proofs.Common.{if◌then◌else◌, List, refl, ap, subst, ◌∙◌, arith}
+use Rattle.std.proofs.Common.{◌≡◌, ℕ, zero, suc, ◌+◌, ◌<◌, Bool, true, false, ◌==◌, if◌then◌else◌, List, refl, ap}
+use Rattle.std.proofs.Common.{subst, ◌∙◌, arith}
 use Rattle.bpf_insn_types.specs.Program.{Program}
-use Rattle.bpf_step_model.specs.State.{LoopCall}
-use Rattle.bpf_step_model.specs.Run.{BoundedResult, Ended, Stuck, Unfinished, followed}
-use Rattle.bpf_step_model.specs.Iteration.{Iterated, iteration}
-use Rattle.bpf_step_model.specs.LoopInOrder.{behind, loop_from, loop_in_order}
+use Rattle.bpf_step_model.specs.{State.{LoopCall}, Run.{BoundedResult, Ended, Stuck, Unfinished, followed}}
+use Rattle.bpf_step_model.specs.{Iteration.{Iterated, iteration}, LoopInOrder.{behind, loop_from, loop_in_order}}
 use Rattle.bpf_verify_sound.specs.Soundness.{IsSoundProgram, AreMapWords, OverApproximatesCall, IterationEnds}
 use Rattle.bpf_verify_sound.specs.Soundness.{EachProgramEnds, EachCountIsSmall, callback_count}
-use Rattle.bpf_step.specs.Turns.{IsFilled}
-use Rattle.bpf_step.proofs.Limits.{few_counts}
+use Rattle.bpf_step.{specs.Turns.{IsFilled}, proofs.Limits.{few_counts}}
 
 module _ (laws : EachProgramEnds) (counts : EachCountIsSmall) (program : Program) (sound : IsSoundProgram program)
     (made call : LoopCall) (filled : IsFilled program made call) (known : OverApproximatesCall program call) where

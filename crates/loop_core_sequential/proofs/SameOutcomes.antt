@@ -1,31 +1,20 @@
 -- Calls with the same iterations have the same verdict and outcome.
-use Rattle.std.proofs.Common.{◌≡◌, ℕ, zero, suc, ◌+◌, ◌<◌, Bool, List, ◌∷◌, map}
-use Rattle.std.proofs.Common.{Option, Some, None, refl, ap, subst, ◌∙◌, arith}
-use Rattle.std.specs.Prelude.{if◌then◌else◌, length}
-use Rattle.std.specs.List.{range_with_len}
+use Rattle.std.proofs.Common.{◌≡◌, ℕ, zero, suc, ◌+◌, ◌<◌, Bool, List, ◌∷◌, map, Option, Some, None, refl, ap, subst}
+use Rattle.std.{proofs.Common.{◌∙◌, arith}, specs.{Prelude.{if◌then◌else◌, length}, List.{range_with_len}}}
 use Rattle.std.specs.Option.{option_or}
 use Rattle.array_maps.specs.Accesses.{Access}
 use Rattle.bpf_insn_types.specs.Program.{Program}
-use Rattle.bpf_step_model.specs.State.{LoopCall}
-use Rattle.bpf_step_model.specs.Run.{BoundedResult, mapped, followed}
+use Rattle.bpf_step_model.specs.{State.{LoopCall}, Run.{BoundedResult, mapped, followed}, LoopInOrder.{loop_in_order}}
 use Rattle.bpf_step_model.specs.Iteration.{Iterated, iteration}
-use Rattle.bpf_step_model.specs.LoopInOrder.{loop_in_order}
-use Rattle.bpf_verify_sound.specs.Soundness.{IsSoundProgram, AreMapWords, OverApproximatesCall}
-use Rattle.bpf_verify_sound.specs.Soundness.{EachProgramEnds, EachCountIsSmall}
+use Rattle.bpf_verify_sound.specs.Soundness.{IsSoundProgram, AreMapWords, OverApproximatesCall, EachProgramEnds}
+use Rattle.bpf_verify_sound.specs.Soundness.{EachCountIsSmall}
 use Rattle.bpf_step.specs.Turns.{IsFilled}
-use Rattle.loop_core_model.specs.declared.loop_test.Test.{Test}
-use Rattle.loop_core_model.specs.declared.verdict.Verdict.{Verdict}
-use Rattle.loop_core_model.specs.Conflict.{conflicting}
-use Rattle.loop_core_model.specs.LeastBreak.{least_below, is_break, count_to, counted_iterations}
-use Rattle.loop_core_model.specs.LeastBreak.{all_ended, accesses_of_each}
-use Rattle.loop_core_model.specs.Report.{judged, verdict}
-use Rattle.loop_core_model.proofs.Least.{counts_to}
-use Rattle.loop_core_model.specs.Split.{split_fault}
-use Rattle.loop_core_model.specs.declared.event.Event.{Event}
+use Rattle.loop_core_model.specs.{declared.{loop_test.Test.{Test}, verdict.Verdict.{Verdict}}, Conflict.{conflicting}}
+use Rattle.loop_core_model.specs.LeastBreak.{least_below, is_break, count_to, counted_iterations, all_ended}
+use Rattle.loop_core_model.{specs.{LeastBreak.{accesses_of_each}, Report.{judged, verdict}}, proofs.Least.{counts_to}}
+use Rattle.loop_core_model.specs.{Split.{split_fault}, declared.event.Event.{Event}, Schedule.{replay}}
 use Rattle.loop_core_model.specs.Outcome.{Outcome, judged_as, outcome, breaks_at, unless_fault, replayed}
-use Rattle.loop_core_model.specs.Schedule.{replay}
-use Rattle.loop_core_sequential.specs.FilledCalls.{AreOneLoop, FilledCallsAreOneLoop}
-use Rattle.loop_core_sequential.proofs.SameLoops.{same_loop}
+use Rattle.loop_core_sequential.{specs.FilledCalls.{AreOneLoop, FilledCallsAreOneLoop}, proofs.SameLoops.{same_loop}}
 use Rattle.loop_core_sequential.proofs.SameReplays.{same_replay}
 
 -- tests that agree below a number have the same least one there

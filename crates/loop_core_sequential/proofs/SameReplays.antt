@@ -1,19 +1,14 @@
 -- Lists of events ask of a split's indices alone which of them break.
 use Rattle.std.proofs.Common.{◌≡◌, ℕ, ◌+◌, ◌<◌, Bool, List, [], ◌∷◌, Option, Some, None, refl, ap, ◌∙◌, arith}
 use Rattle.std.specs.Prelude.{◌==◌, nat_lt, Result, Ok, Err, if◌then◌else◌}
-use Rattle.loop_core_model.specs.Split.{split_fault}
-use Rattle.loop_core_model.specs.declared.event.Event.{Event}
-use Rattle.loop_core_model.specs.declared.event.EventKind.{EventKind}
-use Rattle.loop_core_model.specs.declared.event.EventKind.TheVariants.{Turn}
-use Rattle.loop_core_model.specs.declared.replay_fault.ReplayFault.{ReplayFault}
-use Rattle.loop_core_model.specs.declared.replay_fault.ReplayFault.TheVariants as faults
-use Rattle.loop_core_model.specs.Intervals.{blocks_of, end_of}
+use Rattle.loop_core_model.specs.{Split.{split_fault}, declared.event.{Event.{Event}, EventKind.{EventKind}}}
+use Rattle.loop_core_model.specs.declared.{event.EventKind.TheVariants.{Turn}, replay_fault.ReplayFault.{ReplayFault}}
+use Rattle.loop_core_model.specs.{Intervals.{blocks_of, end_of}, Schedule.{after_events, if_ended, replay}}
 use Rattle.loop_core_model.specs.Events.{Worker, Idle, Running, Posting, Shared, Moved, becomes, having_run, transition}
-use Rattle.loop_core_model.specs.Schedule.{ScheduleState, at_first, worker_of, if_enabled, after_event}
-use Rattle.loop_core_model.specs.Schedule.{and_then, after_events, if_ended, replay}
-use Rattle.loop_core_model.proofs.SplitLaws.{faultless, rising}
-use Rattle.loop_core_model.proofs.Steps.{RunsFrom, Fits}
+use Rattle.loop_core_model.specs.Schedule.{ScheduleState, at_first, worker_of, if_enabled, after_event, and_then}
+use Rattle.loop_core_model.proofs.{SplitLaws.{faultless, rising}, Steps.{RunsFrom, Fits}}
 use Rattle.loop_core_model.proofs.ScheduleLaws.{Sound, OneOk, event_ok, sound_at_first}
+use Rattle.loop_core_model.specs.declared.replay_fault.ReplayFault.TheVariants as faults
 
 module _ (n : ℕ) (bounds : List ℕ) (a b : ℕ → Bool) (fine : split_fault bounds n ≡ None) (same : (i : ℕ) → i < n
     → a i ≡ b i) where

@@ -1,43 +1,27 @@
 -- The lanes of a batch are iterations of the loop in order.
-use Rattle.std.proofs.Common.{◌≡◌, ℕ, ◌+◌, ◌-◌, ◌^◌, ◌<◌, ◌≤◌, Bool, List, [], ◌∷◌, length, slice_index}
-use Rattle.std.proofs.Common.{slice_index_or, map, Some, refl, sym, ap}
-use Rattle.std.proofs.Common.{subst, ◌∙◌, arith}
-use Rattle.std.specs.Prelude.{if◌then◌else◌}
-use Rattle.std.specs.List.{All, AllByRecursion}
-use Rattle.std.proofs.lemmas.List.{length-map}
-use Rattle.array_maps.specs.Accesses.{Access, words_after_all}
-use Rattle.array_maps.specs.MapList.{MapList, AreWords}
+use Rattle.std.proofs.Common.{◌≡◌, ℕ, ◌+◌, ◌-◌, ◌^◌, ◌<◌, ◌≤◌, Bool, List, [], ◌∷◌, length, slice_index, slice_index_or}
+use Rattle.std.{proofs.Common.{map, Some, refl, sym, ap, subst, ◌∙◌, arith}, specs.Prelude.{if◌then◌else◌}}
+use Rattle.std.{specs.List.{All, AllByRecursion}, proofs.lemmas.List.{length-map}}
+use Rattle.array_maps.specs.{Accesses.{Access, words_after_all}, MapList.{MapList, AreWords}}
 use Rattle.bpf_insn_types.specs.Program.{Program}
-use Rattle.bpf_step_model.specs.State.{LoopCall}
-use Rattle.bpf_step_model.specs.Run.{Ended, followed}
-use Rattle.bpf_step_model.specs.Iteration.{iteration}
+use Rattle.bpf_step_model.specs.{State.{LoopCall}, Run.{Ended, followed}, Iteration.{iteration}}
 use Rattle.bpf_step_model.specs.LoopInOrder.{loop_from}
 use Rattle.bpf_verify_sound.specs.Soundness.{IsSoundProgram, AreMapWords, OverApproximatesCall, callback_count}
 use Rattle.bpf_verify_sound.specs.Soundness.{IterationEnds, EachProgramEnds, EachCountIsSmall}
-use Rattle.bpf_step_ir.specs.declared.plain_op.PlainOp.{PlainOp}
-use Rattle.bpf_step_ir.specs.Plain.{Plain}
-use Rattle.bpf_step_ir.specs.PlainRun.{plain_run}
+use Rattle.bpf_step_ir.specs.{declared.ir_op.IrOp.{IrOp}, Plain.{Plain}, PlainRun.{plain_run}}
 use Rattle.bpf_step_ir.specs.Translation.{AreOps}
-use Rattle.bpf_step_ir_sound.specs.Laws.{EachIterationSimulates, plain_exited}
-use Rattle.bpf_step.proofs.Callbacks.{begins}
+use Rattle.bpf_step.{specs.Laws.{EachIterationSimulates, plain_exited}, proofs.Callbacks.{begins}}
 use Rattle.bpf_step.proofs.Limits.{few_counts, few_slots}
-use Rattle.loop_core_batch.specs.Effects.{Effect, EffectLog, accesses_on, effects_of, words_after_effects}
-use Rattle.loop_core_batch.specs.Effects.{words_after_each_lane}
-use Rattle.loop_core_batch.specs.LoopByEffects.{EndsInZero}
-use Rattle.loop_core_batch.specs.LoopByEffects.{GoesOn, LoopByEachLane}
-use Rattle.loop_core_batch.proofs.Sparing.{accesses_leave}
-use Rattle.bpf_verify.specs.declared.callback_rows.CallbackRows.{CallbackRows}
-use Rattle.bpf_verify.specs.Rows.{AreRowsAt}
-use Rattle.lane_stamps.specs.declared.site.Site.{Site}
-use Rattle.lane_stamps.specs.Sites.{HasRows, IsWithin, LaneRows, log_of}
+use Rattle.loop_core_model.specs.Effects.{Effect, EffectLog, accesses_on, effects_of, words_after_effects}
+use Rattle.loop_core_model.specs.{Effects.{words_after_each_lane}, LoopByEffects.{EndsInZero, GoesOn, LoopByEachLane}}
+use Rattle.loop_core_model.proofs.Sparing.{accesses_leave}
+use Rattle.bpf_verify.specs.{declared.callback_rows.CallbackRows.{CallbackRows}, Rows.{AreRowsAt}}
+use Rattle.lane_stamps.specs.{declared.site.Site.{Site}, Sites.{HasRows, IsWithin, LaneRows, log_of}}
 use Rattle.lane_stamps.specs.Stamps.{AreRanked, GoTogether, NoneMeets, allowed}
-use Rattle.row_list.specs.declared.row_op.RowOp.{RowOp}
-use Rattle.row_list.specs.Rows.{AreValues, effects_by}
+use Rattle.row_list.specs.{declared.row_op.RowOp.{RowOp}, Rows.{AreValues, effects_by}}
 use Rattle.row_list.specs.Agreement.{AgreesWithValues, EndsWith, SeesBefore}
-use Rattle.row_run.specs.declared.batch.Batch.{Batch}
-use Rattle.row_run.specs.Batches.{AllRan, NoneSeesOwn, batch_log, rows_of, sites_of}
-use Rattle.loop_core_sequential.specs.Rests.{rest_to, RanOn}
-use Rattle.loop_core_sequential.specs.Lanes.{LanesGoOn, LoadsNoneLeft, RanTogether}
+use Rattle.row_run.specs.{declared.batch.Batch.{Batch}, Batches.{AllRan, NoneSeesOwn, batch_log, rows_of, sites_of}}
+use Rattle.loop_core_sequential.specs.{Rests.{rest_to, RanOn}, Lanes.{LanesGoOn, LoadsNoneLeft, RanTogether}}
 
 -- iterations that are left, of which lanes are the first
 lanes_left : (past first lanes : ℕ) → first + lanes ≤ past → past - first ≡ lanes + (past - (first + lanes))
@@ -57,7 +41,7 @@ abbrev machine_at : (slot index : ℕ) (bytes : List ℕ) → Plain
 machine_at slot index bytes =
     record { slot = slot; registers = registers_at index; frame = bytes; caller = bytes }
 
-module _ (its : EachIterationSimulates) (program : Program) (sound : IsSoundProgram program) (ops : List PlainOp)
+module _ (its : EachIterationSimulates) (program : Program) (sound : IsSoundProgram program) (ops : List IrOp)
     (are : AreOps program ops) (call : LoopCall) (known : OverApproximatesCall program call) (bytes : List ℕ)
     (long : length bytes ≡ 512) (same : map Some bytes ≡ call.frame) where
   -- a run that ends with 0 is an iteration

@@ -1,26 +1,20 @@
 -- How watched loops end.
-use Rattle.std.proofs.Common.{◌≡◌, ℕ, Bool, true, false, if◌then◌else◌, List, Option, Some, None, length}
-use Rattle.std.proofs.Common.{refl, sym, ◌∙◌, ap, subst, arith}
-use Rattle.std.proofs.lemmas.Grind.{same_number_lists}
+use Rattle.std.proofs.Common.{◌≡◌, ℕ, Bool, true, false, if◌then◌else◌, List, Option, Some, None, length, refl, sym}
+use Rattle.std.proofs.{Common.{◌∙◌, ap, subst, arith}, lemmas.Grind.{same_number_lists}}
 use Rattle.std.proofs.lemmas.List.FromFn.{get_or-map-range_with_len, length-map-range_with_len}
 use Rattle.array_maps.specs.MapList.{MapList}
 use Rattle.bpf_insn_types.specs.Program.{Program}
 use Rattle.bpf_step_model.specs.State.{LoopCall}
-use Rattle.loop_core_undo.specs.declared.undo_log.UndoLog.{UndoLog}
+use Rattle.loop_core_undo.{specs.declared.undo_log.UndoLog.{UndoLog}, proofs.UndoLaws.{from_now}}
 use Rattle.loop_core_undo.specs.Undo.{log_elements, is_written, word_before, words_before, IsEmpty}
-use Rattle.loop_core_undo.proofs.UndoLaws.{from_now}
-use Rattle.loop_core_sequential.specs.declared.progress.Progress.{Progress}
-use Rattle.loop_core_sequential.specs.declared.watched_loop.WatchedLoop.TheVariants as loops
-use Rattle.loop_core_sequential.specs.declared.watching.Watch.{Watch}
+use Rattle.loop_core_sequential.specs.declared.{progress.Progress.{Progress}, watching.Watch.{Watch}}
 use Rattle.loop_core_sequential.specs.declared.watching.Watch.TheVariants.{Completed, Broke, Dependent}
-use Rattle.loop_core_sequential.specs.Loops.{RanLoopInOrder}
-use Rattle.loop_core_sequential.specs.Rests.{RanOn, RanTo, answer_of}
-use Rattle.loop_core_sequential.specs.Watched.{RanAndPasses}
-use Rattle.loop_core_sequential.specs.Noting.{CanRestore, GoesWatched}
+use Rattle.loop_core_sequential.specs.{Loops.{RanLoopInOrder}, Rests.{RanOn, RanTo, answer_of}, Watched.{RanAndPasses}}
+use Rattle.loop_core_sequential.{specs.Noting.{CanRestore, GoesWatched}, proofs.WatchedLaws.{begun, all_watched}}
 use Rattle.loop_core_sequential.specs.Dependences.{RanSoFar, maps_before, IsAhead, CameOut}
 use Rattle.loop_core_sequential.specs.WatchedRuns.{HasMet, WatchedTo, WatchedToEnd, loop_by}
 use Rattle.loop_core_sequential.proofs.InOrder.{ran_both, broke_before, ran_all}
-use Rattle.loop_core_sequential.proofs.WatchedLaws.{begun, all_watched}
+use Rattle.loop_core_sequential.specs.declared.watched_loop.WatchedLoop.TheVariants as loops
 
 -- before the first iteration
 pub begins : (program : Program) (call : LoopCall) (start : MapList) (log : UndoLog) → IsEmpty (length start.words) log

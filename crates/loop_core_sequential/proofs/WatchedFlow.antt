@@ -1,22 +1,16 @@
 -- A loop of which no iteration reads what an earlier one writes passes by the flow test.
-use Rattle.std.proofs.Common.{◌≡◌, ℕ, zero, suc, ◌+◌, ◌<◌, ◌≤◌, Bool, true, false, ◌==◌, if◌then◌else◌, ◌&&◌}
-use Rattle.std.proofs.Common.{◌||◌, List, [], ◌∷◌, map, length, is_none, refl, sym, ap, subst, ◌∙◌, arith}
+use Rattle.std.proofs.Common.{◌≡◌, ℕ, zero, suc, ◌+◌, ◌<◌, ◌≤◌, Bool, true, false, ◌==◌, if◌then◌else◌, ◌&&◌, ◌||◌}
+use Rattle.std.proofs.Common.{List, [], ◌∷◌, map, length, is_none, refl, sym, ap, subst, ◌∙◌, arith}
 use Rattle.std.specs.List.{list_any, range_with_len}
 use Rattle.array_maps.specs.Accesses.{Access, actions_at}
 use Rattle.bpf_insn_types.specs.Program.{Program}
-use Rattle.bpf_step_model.specs.State.{LoopCall}
-use Rattle.bpf_step_model.specs.Run.{BoundedResult, Ended, mapped, followed}
+use Rattle.bpf_step_model.specs.{State.{LoopCall}, Run.{BoundedResult, Ended, mapped, followed}}
 use Rattle.bpf_step_model.specs.Iteration.{Iterated, iteration}
-use Rattle.loop_core_model.specs.declared.loop_test.Test.TheVariants.{Flow}
-use Rattle.loop_core_model.specs.declared.verdict.Verdict.TheVariants.{Parallel}
-use Rattle.loop_core_model.specs.Actions.{writes, exposed, joined, only_operator}
-use Rattle.loop_core_model.specs.Conflict.{fails_flow, conflicts, at_element, conflicting}
-use Rattle.loop_core_model.specs.LeastBreak.{in_front_of, accesses_of_each}
-use Rattle.loop_core_model.specs.Report.{judged, verdict}
-use Rattle.loop_core_model.specs.Scan.{up_to_break, scan}
-use Rattle.loop_core_model.proofs.PlaneLaws.{filter-none}
-use Rattle.loop_core_model.proofs.ScanLaws.{counted_are_scanned}
-use Rattle.loop_core_batch.specs.LoopByEffects.{EndsInZero}
+use Rattle.loop_core_model.specs.declared.{loop_test.Test.TheVariants.{Flow}, verdict.Verdict.TheVariants.{Parallel}}
+use Rattle.loop_core_model.specs.{Actions.{writes, exposed, joined, only_operator}, Report.{judged, verdict}}
+use Rattle.loop_core_model.specs.{Conflict.{fails_flow, conflicts, at_element, conflicting}, Scan.{up_to_break, scan}}
+use Rattle.loop_core_model.{specs.LeastBreak.{in_front_of, accesses_of_each}, proofs.PlaneLaws.{filter-none}}
+use Rattle.loop_core_model.{proofs.ScanLaws.{counted_are_scanned}, specs.LoopByEffects.{EndsInZero}}
 use Rattle.loop_core_sequential.specs.Watched.{accesses_if_ended, accesses_at, NoneReadsWritten}
 
 or_both : (a b : Bool) → a ≡ false → b ≡ false → (a || b) ≡ false

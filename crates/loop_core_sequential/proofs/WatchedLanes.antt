@@ -1,41 +1,26 @@
 -- The lanes of a batch of a watched loop.
-use Rattle.std.proofs.Common.{◌≡◌, ℕ, zero, suc, ◌+◌, ◌*◌, ◌<◌, ◌≤◌, ◌==◌, ◌||◌, ◌⊎◌, inl, inr, Bool, true}
-use Rattle.std.proofs.Common.{false, List}
+use Rattle.std.proofs.Common.{◌≡◌, ℕ, zero, suc, ◌+◌, ◌*◌, ◌<◌, ◌≤◌, ◌==◌, ◌||◌, ◌⊎◌, inl, inr, Bool, true, false, List}
 use Rattle.std.proofs.Common.{[], ◌∷◌, length, slice_index, slice_index_or, refl, sym, ap, subst, ◌∙◌, eqb-true, arith}
-use Rattle.std.specs.Prelude.{Some, None, if◌then◌else◌}
-use Rattle.std.specs.List.{All, AllByRecursion}
-use Rattle.std.proofs.lemmas.Bool.{both_ways, eq-eqb, or_parts}
-use Rattle.std.proofs.lemmas.List.Elements.{recursion_from_All}
-use Rattle.array_maps.specs.Accesses.{Action, Access, actions_at}
-use Rattle.array_maps.specs.MapList.{MapList, AreWords}
+use Rattle.std.specs.{Prelude.{Some, None, if◌then◌else◌}, List.{All, AllByRecursion}}
+use Rattle.std.proofs.lemmas.{Bool.{both_ways, eq-eqb, or_parts}, List.Elements.{recursion_from_All}}
+use Rattle.array_maps.specs.{Accesses.{Action, Access, actions_at}, MapList.{MapList, AreWords}}
 use Rattle.bpf_insn_types.specs.Program.{Program}
 use Rattle.bpf_step_model.specs.State.{LoopCall}
-use Rattle.loop_core_model.specs.Actions.{is_write, writes, exposed}
-use Rattle.loop_core_batch.specs.Kinds.{kind_leaves}
-use Rattle.loop_core_batch.specs.Effects.{Deed, Load as LoadDeed, Store as StoreDeed, Fetch as FetchDeed}
-use Rattle.loop_core_batch.specs.Effects.{Replace as ReplaceDeed}
-use Rattle.loop_core_batch.specs.Effects.{Apply as ApplyDeed, Effect, EffectLog, SameIfLoaded, accesses_on}
-use Rattle.loop_core_batch.specs.Effects.{action_on, effects_of, kind_of_deed, with_effect}
-use Rattle.loop_core_batch.specs.Effects.{words_after_each_lane}
-use Rattle.loop_core_batch.specs.Effects.{words_after_effect}
-use Rattle.loop_core_batch.specs.LoopByEffects.{LoopByEachLane}
-use Rattle.loop_core_batch.proofs.Sparing.{LeavesAlone, before_lane, length-before}
-use Rattle.lane_stamps.specs.declared.kind.Kind.{Kind}
-use Rattle.lane_stamps.specs.declared.kind.Kind.TheVariants.{Load, LoadHalf, Store, Fetch, Replace, FetchHalf}
-use Rattle.lane_stamps.specs.declared.kind.Kind.TheVariants.{AddHalf, Apply}
-use Rattle.lane_stamps.specs.declared.site.Site.{Site}
-use Rattle.lane_stamps.specs.Sites.{Covers, LaneRows, done_by, effect_by, element_named}
-use Rattle.lane_stamps.specs.Sites.{has}
-use Rattle.lane_stamps.specs.Sites.{is_of_halves, leaves, loads, log_of, place_of, value_of}
-use Rattle.loop_core_undo.specs.declared.undo_log.UndoLog.{UndoLog}
-use Rattle.loop_core_undo.specs.Undo.{WordsBeforeAreKept, is_written}
-use Rattle.row_run.specs.declared.batch.Batch.{Batch}
-use Rattle.row_run.specs.Batches.{batch_log, rows_of, sites_of}
-use Rattle.loop_core_sequential.specs.Lanes.{LanesGoOn, LoadsNoneLeft, RanTogether}
-use Rattle.loop_core_sequential.specs.Rests.{RanOn}
-use Rattle.loop_core_sequential.specs.Watched.{IsNoted, IsUnread, WentWatched, is_whole}
+use Rattle.loop_core_model.specs.{Actions.{is_write, writes, exposed}, Kinds.{kind_leaves}}
+use Rattle.loop_core_model.specs.Effects.{Deed, Load as LoadDeed, Store as StoreDeed, Fetch as FetchDeed}
+use Rattle.loop_core_model.specs.Effects.{Replace as ReplaceDeed, Apply as ApplyDeed, Effect, EffectLog, SameIfLoaded}
+use Rattle.loop_core_model.specs.Effects.{accesses_on, action_on, effects_of, kind_of_deed, with_effect}
+use Rattle.loop_core_model.specs.{Effects.{words_after_each_lane, words_after_effect}, LoopByEffects.{LoopByEachLane}}
+use Rattle.loop_core_model.proofs.Sparing.{LeavesAlone, before_lane, length-before}
+use Rattle.lane_stamps.specs.declared.{kind.Kind.{Kind, TheVariants.{Apply}}, site.Site.{Site}}
+use Rattle.lane_stamps.specs.declared.kind.Kind.TheVariants.{Load, LoadHalf, Store, Fetch, Replace, FetchHalf, AddHalf}
+use Rattle.lane_stamps.specs.Sites.{Covers, LaneRows, done_by, effect_by, element_named, has, is_of_halves, leaves}
+use Rattle.lane_stamps.specs.Sites.{loads, log_of, place_of, value_of}
+use Rattle.loop_core_undo.specs.{declared.undo_log.UndoLog.{UndoLog}, Undo.{WordsBeforeAreKept, is_written}}
+use Rattle.row_run.specs.{declared.batch.Batch.{Batch}, Batches.{batch_log, rows_of, sites_of}}
+use Rattle.loop_core_sequential.specs.{Lanes.{LanesGoOn, LoadsNoneLeft, RanTogether}, Rests.{RanOn}}
+use Rattle.loop_core_sequential.{specs.Watched.{IsNoted, IsUnread, WentWatched, is_whole}, proofs.Together.{lanes_went}}
 use Rattle.loop_core_sequential.specs.Noting.{GoesWatched, IsLeft, NotesWrites}
-use Rattle.loop_core_sequential.proofs.Together.{lanes_went}
 use Rattle.loop_core_sequential.proofs.WatchedLaws.{WritesAt, more_watched, on_start}
 
 -- what is so of what a lane does at each site is so of all that it does

@@ -1,28 +1,18 @@
 -- Loops that are watched while they run in order.
 use Rattle.std.proofs.Common.{◌≡◌, ℕ, zero, suc, ◌+◌, ◌-◌, ◌<◌, ◌≤◌, ◌==◌, if◌then◌else◌, Bool, true, false, leb, ◌⊎◌}
 use Rattle.std.proofs.Common.{inl, inr, List, length, slice_index, Some, None, refl, sym, ap, subst, ◌∙◌, arith}
-use Rattle.std.proofs.lemmas.Bool.{both_ways}
-use Rattle.std.proofs.lemmas.Bool.Decides.{leb_tells}
-use Rattle.array_maps.specs.Accesses.{Access, SawEach, actions_at, words_after_all}
-use Rattle.array_maps.specs.MapList.{MapList}
+use Rattle.std.proofs.lemmas.Bool.{both_ways, Decides.{leb_tells}}
+use Rattle.array_maps.specs.{Accesses.{Access, SawEach, actions_at, words_after_all}, MapList.{MapList}}
 use Rattle.array_maps.proofs.ElementLaws.{element_after_all, length-words_after_all}
 use Rattle.bpf_insn_types.specs.Program.{Program}
-use Rattle.bpf_step_model.specs.State.{LoopCall}
-use Rattle.bpf_step_model.specs.Run.{Ended, followed}
-use Rattle.bpf_step_model.specs.Iteration.{Iterated, iteration}
-use Rattle.bpf_step_model.specs.LoopInOrder.{behind, loop_from}
-use Rattle.bpf_step_model.proofs.Endings.{ended_same}
-use Rattle.loop_core_model.specs.Actions.{writes, exposed}
-use Rattle.loop_core_model.proofs.OneElement.{sealed_saw, unwritten_left}
-use Rattle.loop_core_model.proofs.Turns.{Saws}
-use Rattle.loop_core_model.proofs.RunAgain.{iteration_local}
-use Rattle.loop_core_batch.specs.LoopByEffects.{EndsInZero}
-use Rattle.loop_core_sequential.specs.Rests.{rest_to, RanOn, BrokeOff}
-use Rattle.loop_core_sequential.specs.Watched.{RanAndPasses, accesses_if_ended, accesses_at}
-use Rattle.loop_core_sequential.specs.Watched.{NoneReadsWritten, IsWrittenBelow, WentWatched}
-use Rattle.loop_core_sequential.proofs.InOrder.{stayed, went_both, broke_before, ran_all}
-use Rattle.loop_core_sequential.proofs.WatchedFlow.{Scanned, renamed, none_scanned, last_scanned}
-use Rattle.loop_core_sequential.proofs.WatchedFlow.{scanned_from, passes_flow}
+use Rattle.bpf_step_model.specs.{State.{LoopCall}, Run.{Ended, followed}, Iteration.{Iterated, iteration}}
+use Rattle.bpf_step_model.{specs.LoopInOrder.{behind, loop_from}, proofs.Endings.{ended_same}}
+use Rattle.loop_core_model.{specs.Actions.{writes, exposed}, proofs.OneElement.{sealed_saw, unwritten_left}}
+use Rattle.loop_core_model.{proofs.{Turns.{Saws}, RunAgain.{iteration_local}}, specs.LoopByEffects.{EndsInZero}}
+use Rattle.loop_core_sequential.specs.{Rests.{rest_to, RanOn, BrokeOff}, Watched.{IsWrittenBelow, WentWatched}}
+use Rattle.loop_core_sequential.specs.Watched.{RanAndPasses, accesses_if_ended, accesses_at, NoneReadsWritten}
+use Rattle.loop_core_sequential.proofs.{InOrder.{stayed, went_both, broke_before, ran_all}, WatchedFlow.{passes_flow}}
+use Rattle.loop_core_sequential.proofs.WatchedFlow.{Scanned, renamed, none_scanned, last_scanned, scanned_from}
 
 -- what makes a test true that is false is false too
 pub not_so : (a b : Bool) → (a ≡ true → b ≡ true) → b ≡ false → a ≡ false

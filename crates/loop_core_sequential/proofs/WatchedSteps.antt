@@ -1,27 +1,18 @@
 -- An iteration of a watched loop that goes alone.
 use Rattle.std.proofs.Common.{◌≡◌, ℕ, ◌+◌, ◌<◌, ◌==◌, Bool, false, true, ◌⊎◌, inl, inr, length, refl, sym, ◌∙◌, ap}
-use Rattle.std.proofs.Common.{subst, eqb-true, arith}
+use Rattle.std.proofs.{Common.{subst, eqb-true, arith}, lemmas.List.{get_or_past}}
 use Rattle.std.proofs.lemmas.Bool.{cases_lt, both_ways, eq-eqb, or_left, or_right, or_cases}
-use Rattle.std.proofs.lemmas.List.{get_or_past}
-use Rattle.array_maps.specs.Accesses.{actions_at}
-use Rattle.array_maps.specs.MapList.{MapList}
-use Rattle.array_maps.proofs.ElementLaws.{length-words_after_all}
+use Rattle.array_maps.{specs.{Accesses.{actions_at}, MapList.{MapList}}, proofs.ElementLaws.{length-words_after_all}}
 use Rattle.bpf_insn_types.specs.Program.{Program}
-use Rattle.bpf_step_model.specs.State.{LoopCall}
-use Rattle.bpf_step_model.specs.Run.{Ended}
-use Rattle.bpf_step_model.specs.Iteration.{Iterated, iteration}
+use Rattle.bpf_step_model.specs.{State.{LoopCall}, Run.{Ended}, Iteration.{Iterated, iteration}}
 use Rattle.bpf_step.specs.Iterations.{CallbackOf, RanCallback}
 use Rattle.loop_core_model.specs.Actions.{writes, exposed}
-use Rattle.loop_core_undo.specs.declared.undo_log.UndoLog.{UndoLog}
-use Rattle.loop_core_undo.specs.declared.watched.Watched.{Watched}
+use Rattle.loop_core_undo.specs.declared.{undo_log.UndoLog.{UndoLog}, watched.Watched.{Watched}}
 use Rattle.loop_core_undo.specs.Undo.{log_elements, is_written, word_before}
 use Rattle.loop_core_undo.specs.Watching.{IsWatched, MeetsWritten, WatchedAll, AccessesAreWatched}
-use Rattle.loop_core_sequential.specs.declared.progress.Progress.{Progress}
-use Rattle.loop_core_sequential.specs.Watched.{RanAndPasses, IsWrittenBelow}
-use Rattle.loop_core_sequential.specs.Noting.{CanRestore, GoesWatched}
-use Rattle.loop_core_sequential.specs.Dependences.{RanSoFar, EndsDependent}
-use Rattle.loop_core_sequential.specs.WatchedRuns.{HasMet}
-use Rattle.loop_core_sequential.proofs.InOrder.{went_both}
+use Rattle.loop_core_sequential.specs.{declared.progress.Progress.{Progress}, Watched.{RanAndPasses, IsWrittenBelow}}
+use Rattle.loop_core_sequential.specs.{Noting.{CanRestore, GoesWatched}, Dependences.{RanSoFar, EndsDependent}}
+use Rattle.loop_core_sequential.{specs.WatchedRuns.{HasMet}, proofs.InOrder.{went_both}}
 use Rattle.loop_core_sequential.proofs.WatchedLaws.{one_broke, one_went, one_watched, break_watched}
 
 module _ (law : AccessesAreWatched) (program : Program) (call : LoopCall) (callback : CallbackOf)

@@ -3,12 +3,9 @@ use Rattle.std.specs.Prelude.{◌≡◌, ℕ, ◌+◌, ◌≤◌, if◌then◌el
 use Rattle.array_maps.specs.MapList.{MapList}
 use Rattle.bpf_insn_types.specs.Program.{Program}
 use Rattle.bpf_step_model.specs.State.{LoopCall}
-use Rattle.loop_core_undo.specs.declared.undo_log.UndoLog.{UndoLog}
-use Rattle.loop_core_undo.specs.Undo.{log_elements, words_before}
-use Rattle.loop_core_sequential.specs.declared.progress.Progress.{Progress}
-use Rattle.loop_core_sequential.specs.declared.watched_loop.WatchedLoop.{WatchedLoop}
-use Rattle.loop_core_sequential.specs.declared.watched_loop.WatchedLoop.TheVariants.{Passed, Dependent}
-use Rattle.loop_core_sequential.specs.Rests.{RanTo}
+use Rattle.loop_core_undo.specs.{declared.undo_log.UndoLog.{UndoLog}, Undo.{log_elements, words_before}}
+use Rattle.loop_core_sequential.specs.declared.{progress.Progress.{Progress}, watched_loop.WatchedLoop.{WatchedLoop}}
+use Rattle.loop_core_sequential.specs.{declared.watched_loop.WatchedLoop.TheVariants.{Passed, Dependent}, Rests.{RanTo}}
 use Rattle.loop_core_sequential.specs.Watched.{RanAndPasses, ReachesWritten}
 
 -- the loop's answer where the last iteration that ran broke it off
@@ -35,7 +32,7 @@ pub record IsAhead (program : Program) (call : LoopCall) (start : MapList) (log 
   pub within : progress.done ≤ call.n
   pub ran : RanSoFar program call start (maps_before log start) progress
 
--- how a watched loop came out: it ended, and passes; or it was given up after an iteration that saw or reduced an
+-- how a watched loop came out: it ended, and passes; or it was stopped after an iteration that saw or reduced an
 -- element that was written: the maps are as before, and the log has those that it had come to
 abbrev pub CameOut : Program → LoopCall → (old new : MapList) → UndoLog → WatchedLoop → Type 0
 CameOut program call old new log (Passed answer) = RanAndPasses program call old new answer

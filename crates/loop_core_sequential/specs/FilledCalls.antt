@@ -1,15 +1,11 @@
 -- What a call that main made and the same call with its frame filled have in common.
 use Rattle.std.specs.Prelude.{◌≡◌, ℕ, List, None}
 use Rattle.bpf_insn_types.specs.Program.{Program}
-use Rattle.bpf_step_model.specs.State.{LoopCall}
-use Rattle.bpf_step_model.specs.LoopInOrder.{loop_in_order}
+use Rattle.bpf_step_model.specs.{State.{LoopCall}, LoopInOrder.{loop_in_order}}
 use Rattle.bpf_verify_sound.specs.Soundness.{IsSoundProgram, AreMapWords, OverApproximatesCall}
 use Rattle.bpf_step.specs.Turns.{IsFilled}
-use Rattle.loop_core_model.specs.declared.loop_test.Test.{Test}
-use Rattle.loop_core_model.specs.Report.{verdict}
-use Rattle.loop_core_model.specs.Split.{split_fault}
-use Rattle.loop_core_model.specs.declared.event.Event.{Event}
-use Rattle.loop_core_model.specs.Outcome.{outcome, replayed}
+use Rattle.loop_core_model.specs.{declared.loop_test.Test.{Test}, Report.{verdict}, Split.{split_fault}}
+use Rattle.loop_core_model.specs.{declared.event.Event.{Event}, Outcome.{outcome, replayed}}
 
 -- two calls are one loop from these words: they come to the same in order, have the same verdict and outcome by either
 -- test, and lists of events come to the same against a split of their iterations

@@ -1,16 +1,12 @@
 -- The lanes of a batch as iterations of a loop.
-use Rattle.std.specs.Prelude.{◌≡◌, ℕ, ◌+◌, ◌<◌, ◌≤◌, true, List, length}
-use Rattle.std.specs.List.{All}
+use Rattle.std.specs.{Prelude.{◌≡◌, ℕ, ◌+◌, ◌<◌, ◌≤◌, true, List, length}, List.{All}}
 use Rattle.array_maps.specs.MapList.{AreWords}
 use Rattle.bpf_insn_types.specs.Program.{Program}
 use Rattle.bpf_step_model.specs.State.{LoopCall}
-use Rattle.loop_core_batch.specs.Effects.{EffectLog, LoadsSame, effects_of}
-use Rattle.loop_core_batch.specs.LoopByEffects.{GoesOn}
-use Rattle.lane_stamps.specs.declared.site.Site.{Site}
-use Rattle.lane_stamps.specs.Sites.{HasRows, IsWithin, LaneRows, Touches, leaves, loads}
+use Rattle.loop_core_model.specs.{Effects.{EffectLog, LoadsSame, effects_of}, LoopByEffects.{GoesOn}}
+use Rattle.lane_stamps.specs.{declared.site.Site.{Site}, Sites.{HasRows, IsWithin, LaneRows, Touches, leaves, loads}}
 use Rattle.lane_stamps.specs.Stamps.{GoTogether}
-use Rattle.row_run.specs.declared.batch.Batch.{Batch}
-use Rattle.row_run.specs.Batches.{batch_log, rows_of, sites_of}
+use Rattle.row_run.specs.{declared.batch.Batch.{Batch}, Batches.{batch_log, rows_of, sites_of}}
 
 -- the first lanes of a batch are the iterations from an index on: each goes on, on all words on which it loads the same
 -- as on these, and does there what the log has of it

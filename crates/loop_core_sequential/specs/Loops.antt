@@ -2,9 +2,7 @@
 use Rattle.std.specs.Prelude.{◌≡◌, ℕ}
 use Rattle.array_maps.specs.MapList.{MapList}
 use Rattle.bpf_insn_types.specs.Program.{Program}
-use Rattle.bpf_step_model.specs.State.{LoopCall}
-use Rattle.bpf_step_model.specs.Run.{Ended}
-use Rattle.bpf_step_model.specs.LoopInOrder.{loop_in_order}
+use Rattle.bpf_step_model.specs.{State.{LoopCall}, Run.{Ended}, LoopInOrder.{loop_in_order}}
 
 -- the loop in order on the old maps ends with this answer and leaves the new ones, which are of the old sizes; an
 -- iteration takes at most 4,096 instructions

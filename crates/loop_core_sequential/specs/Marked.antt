@@ -1,21 +1,14 @@
 -- Loops whose iterations are marked, each on the start words, so that the verdict on them is known.
-use Rattle.std.specs.Prelude.{◌≡◌, ℕ, ◌<◌, ◌≤◌, List, length}
-use Rattle.std.specs.List.{All}
+use Rattle.std.specs.{Prelude.{◌≡◌, ℕ, ◌<◌, ◌≤◌, List, length}, List.{All}}
 use Rattle.array_maps.specs.Accesses.{Access}
 use Rattle.bpf_insn_types.specs.Program.{Program}
-use Rattle.bpf_step_model.specs.State.{LoopCall}
-use Rattle.bpf_step_model.specs.Run.{Ended}
-use Rattle.loop_core_model.specs.declared.loop_test.Test.{Test}
-use Rattle.loop_core_model.specs.Report.{judged, verdict}
-use Rattle.loop_core_batch.specs.LoopByEffects.{EndsInZero}
+use Rattle.bpf_step_model.specs.{State.{LoopCall}, Run.{Ended}}
+use Rattle.loop_core_model.specs.{declared.loop_test.Test.{Test}, Report.{judged, verdict}, LoopByEffects.{EndsInZero}}
 use Rattle.lane_stamps.specs.Sites.{HasRows, IsWithin}
-use Rattle.row_run.specs.declared.batch.Batch.{Batch}
-use Rattle.row_run.specs.Batches.{batch_log, rows_of, sites_of}
-use Rattle.shadow_marks.specs.declared.planes.Planes.{Planes}
-use Rattle.shadow_marks.specs.Standing.{StandFor}
+use Rattle.row_run.specs.{declared.batch.Batch.{Batch}, Batches.{batch_log, rows_of, sites_of}}
+use Rattle.shadow_marks.specs.{declared.planes.Planes.{Planes}, Standing.{StandFor}}
 use Rattle.loop_marks.specs.MarkedVerdicts.{marked_elements, visits_below}
-use Rattle.loop_core_sequential.specs.Lanes.{LanesGoOn}
-use Rattle.loop_core_sequential.specs.Watched.{accesses_at}
+use Rattle.loop_core_sequential.specs.{Lanes.{LanesGoOn}, Watched.{accesses_at}}
 
 -- the lanes of a batch, which each ran on these words, are the iterations from an index on
 pub record RanApart (program : Program) (call : LoopCall) (first lanes : ℕ) (words : List ℕ) (batch : Batch)

@@ -1,16 +1,11 @@
 -- What an undo log has of a loop that is watched.
-use Rattle.std.specs.Prelude.{◌≡◌, ℕ, ◌<◌, Bool, true, ◌⊎◌, List, length, slice_index, slice_index_or}
-use Rattle.std.specs.List.{All}
+use Rattle.std.specs.{Prelude.{◌≡◌, ℕ, ◌<◌, Bool, true, ◌⊎◌, List, length, slice_index, slice_index_or}, List.{All}}
 use Rattle.array_maps.specs.MapList.{MapList}
 use Rattle.bpf_insn_types.specs.Program.{Program}
 use Rattle.bpf_step_model.specs.State.{LoopCall}
-use Rattle.lane_rows.specs.declared.mask.Mask.{Mask}
-use Rattle.lane_rows.specs.declared.places.Places.{Places}
-use Rattle.lane_rows.specs.Rows.{is_in}
-use Rattle.lane_stamps.specs.declared.site.Site.{Site}
-use Rattle.lane_stamps.specs.Sites.{LaneRows, is_of_halves, leaves, mask_of, places_of}
-use Rattle.loop_core_undo.specs.declared.undo_log.UndoLog.{UndoLog}
-use Rattle.loop_core_undo.specs.Undo.{log_elements, is_written, word_before}
+use Rattle.lane_rows.specs.{declared.{mask.Mask.{Mask}, places.Places.{Places}}, Rows.{is_in}}
+use Rattle.lane_stamps.specs.{declared.site.Site.{Site}, Sites.{LaneRows, is_of_halves, leaves, mask_of, places_of}}
+use Rattle.loop_core_undo.specs.{declared.undo_log.UndoLog.{UndoLog}, Undo.{log_elements, is_written, word_before}}
 use Rattle.loop_core_sequential.specs.Watched.{AreWritten, IsNoted, WentWatched, element_at}
 
 -- the elements of the lanes of a mask are below a number
@@ -18,7 +13,7 @@ abbrev pub AreBelow : (elements lanes : ℕ) → (halves : Bool) → Mask → Pl
 AreBelow elements lanes halves mask places = (lane : ℕ) → lane < lanes → is_in mask lane ≡ true
     → element_at halves places lane < elements
 
--- what was told written still is, and the words from when the log was empty are the same
+-- what was noted as written still is, and the words from when the log was empty are the same
 pub record Grows (words : List ℕ) (old new : UndoLog) : Type 0 where
   pub count : log_elements new ≡ log_elements old
   pub written : (e : ℕ) → e < log_elements old → is_written old e ≡ true → is_written new e ≡ true

@@ -2,9 +2,7 @@
 use Rattle.std.specs.Prelude.{◌≡◌, ℕ, ◌-◌, ◌≤◌, List, Option, Some, None}
 use Rattle.array_maps.specs.MapList.{MapList}
 use Rattle.bpf_insn_types.specs.Program.{Program}
-use Rattle.bpf_step_model.specs.State.{LoopCall}
-use Rattle.bpf_step_model.specs.Run.{BoundedResult, Ended}
-use Rattle.bpf_step_model.specs.LoopInOrder.{Looped, loop_from}
+use Rattle.bpf_step_model.specs.{State.{LoopCall}, Run.{BoundedResult, Ended}, LoopInOrder.{Looped, loop_from}}
 
 -- the loop in order from an index up to, and without, another: an iteration takes at most 4,096 instructions
 abbrev pub rest_to : Program → LoopCall → (past index : ℕ) → List ℕ → BoundedResult Looped

@@ -1,26 +1,17 @@
 -- Loops that run in order and are watched: no iteration reads an element that an earlier one wrote.
 use Rattle.std.specs.Prelude.{◌≡◌, ℕ, ◌<◌, Bool, true, false, ◌⊎◌, List, [], ◌∷◌, ◌++◌, length, slice_index}
-use Rattle.array_maps.specs.Accesses.{Access, actions_at}
-use Rattle.array_maps.specs.MapList.{MapList}
+use Rattle.array_maps.specs.{Accesses.{Access, actions_at}, MapList.{MapList}}
 use Rattle.bpf_insn_types.specs.Program.{Program}
-use Rattle.bpf_step_model.specs.State.{LoopCall}
-use Rattle.bpf_step_model.specs.Run.{BoundedResult, Ended, Stuck, Unfinished}
+use Rattle.bpf_step_model.specs.{State.{LoopCall}, Run.{BoundedResult, Ended, Stuck, Unfinished}}
 use Rattle.bpf_step_model.specs.Iteration.{Iterated, iteration}
-use Rattle.loop_core_model.specs.declared.loop_test.Test.TheVariants.{Flow}
-use Rattle.loop_core_model.specs.declared.verdict.Verdict.TheVariants.{Parallel}
-use Rattle.loop_core_model.specs.Actions.{is_plain_write, writes, exposed}
-use Rattle.loop_core_model.specs.Report.{verdict}
-use Rattle.loop_core_batch.specs.LoopByEffects.{EndsInZero}
-use Rattle.lane_rows.specs.declared.mask.Mask.{Mask}
-use Rattle.lane_rows.specs.declared.places.Places.{Places}
-use Rattle.lane_rows.specs.Rows.{is_in, place_at}
-use Rattle.lane_stamps.specs.declared.kind.Kind.{Kind}
-use Rattle.lane_stamps.specs.declared.kind.Kind.TheVariants.{Load, LoadHalf, Store, Fetch, Replace, FetchHalf}
-use Rattle.lane_stamps.specs.declared.kind.Kind.TheVariants.{AddHalf, Apply}
-use Rattle.lane_stamps.specs.declared.site.Site.{Site}
+use Rattle.loop_core_model.specs.declared.{loop_test.Test.TheVariants.{Flow}, verdict.Verdict.TheVariants.{Parallel}}
+use Rattle.loop_core_model.specs.{Actions.{is_plain_write, writes, exposed}, Report.{verdict}}
+use Rattle.loop_core_model.specs.LoopByEffects.{EndsInZero}
+use Rattle.lane_rows.specs.{declared.{mask.Mask.{Mask}, places.Places.{Places}}, Rows.{is_in, place_at}}
+use Rattle.lane_stamps.specs.declared.{kind.Kind.{Kind, TheVariants.{Apply}}, site.Site.{Site}}
+use Rattle.lane_stamps.specs.declared.kind.Kind.TheVariants.{Load, LoadHalf, Store, Fetch, Replace, FetchHalf, AddHalf}
 use Rattle.lane_stamps.specs.Sites.{LaneRows, element_named, is_of_halves, leaves, loads, mask_of, places_of}
-use Rattle.loop_core_sequential.specs.Loops.{RanLoopInOrder}
-use Rattle.loop_core_sequential.specs.Rests.{RanOn}
+use Rattle.loop_core_sequential.specs.{Loops.{RanLoopInOrder}, Rests.{RanOn}}
 
 -- the loop in order on the old maps ends with this answer and leaves the new ones, and it passes by the flow test
 pub record RanAndPasses (program : Program) (call : LoopCall) (old new : MapList) (answer : ℕ) : Type 0 where
@@ -70,8 +61,8 @@ pub record ReachesWritten (program : Program) (call : LoopCall) (start : MapList
       ⊎ (writes (actions_at access.element front) ≡ true)
 
 -- up to an index the loop went on in order from its start maps, and each iteration goes on from the start words too;
--- none reads what an earlier one writes; the elements that they write are those that are told written, and the others
--- are as at the start
+-- none reads what an earlier one writes; the elements that they write are those that are noted as written, and the
+-- others are as at the start
 pub record WentWatched (program : Program) (call : LoopCall) (index : ℕ) (start now : MapList) (written : ℕ → Bool)
     : Type 0 where
   pub went : RanOn program call 0 index start now
@@ -101,24 +92,24 @@ is_whole (Apply op) = false
 abbrev pub element_at : (halves : Bool) → Places → (lane : ℕ) → ℕ
 element_at halves places lane = element_named halves (place_at places lane)
 
--- an element of none of the lanes of a mask is told written
+-- an element of none of the lanes of a mask is noted as written
 abbrev pub AreUnwritten : (written : ℕ → Bool) → (lanes : ℕ) → (halves : Bool) → Mask → Places → Type 0
 AreUnwritten written lanes halves mask places = (lane : ℕ) → lane < lanes → is_in mask lane ≡ true
     → written (element_at halves places lane) ≡ false
 
--- at a site lanes read nothing that is told written: no lane reduces there, or replaces a half of a word, and none
--- loads an element that is told written
+-- at a site lanes read nothing that is noted as written: no lane reduces there, or replaces a half of a word, and none
+-- loads an element that is noted as written
 pub record IsUnread (written : ℕ → Bool) (lanes : ℕ) (of_lanes : LaneRows) (site : Site) : Type 0 where
   pub whole : (lane : ℕ) → lane < lanes → is_in (mask_of of_lanes site) lane ≡ true → is_whole site.kind ≡ true
   pub unread : loads site.kind ≡ true
       → AreUnwritten written lanes (is_of_halves site.kind) (mask_of of_lanes site) (places_of of_lanes site)
 
--- the elements of all lanes of a mask are told written
+-- the elements of all lanes of a mask are noted as written
 abbrev pub AreWritten : (written : ℕ → Bool) → (lanes : ℕ) → (halves : Bool) → Mask → Places → Type 0
 AreWritten written lanes halves mask places = (lane : ℕ) → lane < lanes → is_in mask lane ≡ true
     → written (element_at halves places lane) ≡ true
 
--- the elements that lanes leave a word at, at a site, are told written
+-- the elements that lanes leave a word at, at a site, are noted as written
 abbrev pub IsNoted : (written : ℕ → Bool) (lanes : ℕ) → LaneRows → Site → Type 0
 IsNoted written lanes of_lanes site = leaves site.kind ≡ true
     → AreWritten written lanes (is_of_halves site.kind) (mask_of of_lanes site) (places_of of_lanes site)

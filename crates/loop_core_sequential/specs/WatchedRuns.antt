@@ -4,14 +4,11 @@ use Rattle.array_maps.specs.MapList.{MapList}
 use Rattle.bpf_insn_types.specs.Program.{Program}
 use Rattle.bpf_step_model.specs.State.{LoopCall}
 use Rattle.loop_core_undo.specs.declared.undo_log.UndoLog.{UndoLog}
-use Rattle.loop_core_sequential.specs.declared.progress.Progress.{Progress}
-use Rattle.loop_core_sequential.specs.declared.watched_loop.WatchedLoop.{WatchedLoop}
-use Rattle.loop_core_sequential.specs.declared.watched_loop.WatchedLoop.TheVariants as loops
-use Rattle.loop_core_sequential.specs.declared.watching.Watch.{Watch}
-use Rattle.loop_core_sequential.specs.declared.watching.Watch.TheVariants.{Completed, Broke, Dependent}
-use Rattle.loop_core_sequential.specs.Watched.{RanAndPasses}
-use Rattle.loop_core_sequential.specs.Noting.{CanRestore, GoesWatched}
+use Rattle.loop_core_sequential.specs.declared.{progress.Progress.{Progress}, watched_loop.WatchedLoop.{WatchedLoop}}
+use Rattle.loop_core_sequential.specs.declared.watching.Watch.{Watch, TheVariants.{Completed, Broke, Dependent}}
+use Rattle.loop_core_sequential.specs.{Watched.{RanAndPasses}, Noting.{CanRestore, GoesWatched}}
 use Rattle.loop_core_sequential.specs.Dependences.{RanSoFar, EndsDependent}
+use Rattle.loop_core_sequential.specs.declared.watched_loop.WatchedLoop.TheVariants as loops
 
 -- so many iterations ran in order from these start maps, which can be restored, and the last of them saw or reduced an
 -- element that was written

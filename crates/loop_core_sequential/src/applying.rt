@@ -13,7 +13,7 @@ pub(crate) struct FirstLanes<'a> {
 
 impl WordChange for FirstLanes<'_> {
     ghost use Rattle.std.specs.Prelude.{◌≡◌, length};
-    ghost use Rattle.loop_core_batch.specs.Effects.{words_after_each_lane};
+    ghost use Rattle.loop_core_model.specs.Effects.{words_after_each_lane};
     ghost use Rattle.row_run.specs.Batches.{batch_log};
     ghost use Rattle.loop_core_sequential.specs.Lanes.{MayApply};
 

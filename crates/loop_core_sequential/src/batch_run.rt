@@ -2,18 +2,16 @@
 
 ghost use Rattle.std.specs.Prelude.{◌≡◌, ◌+◌, ◌<◌, ◌≤◌, IfSome};
 ghost use Rattle.bpf_verify.specs.Rows.{AreRowsAt};
-ghost use Rattle.loop_core_sequential.specs.Lanes.{RanTogether};
-ghost use Rattle.loop_core_sequential.specs.LoopRuns.{IsLoopRun};
-ghost use Rattle.loop_core_sequential.specs.Rests.{RanOn};
+ghost use Rattle.loop_core_sequential.specs.{Lanes.{RanTogether}, LoopRuns.{IsLoopRun}, Rests.{RanOn}};
 
 use crate::applying::FirstLanes;
 use crate::batches::Batches;
 use crate::loop_run::LoopRun;
 use array_maps::Maps;
-use bpf_step_ir_sound::law_of_plain_iterations;
+use bpf_step::law_of_plain_iterations;
 use bpf_verify::CallbackRows;
 use bpf_verify_sound::{law_of_accepted_programs, law_of_accepted_runs};
-use loop_core_batch::law_of_batches;
+use loop_core_model::law_of_batches;
 
 impl Batches {
     /// Does iterations from an index on together, no more than up to another, as many as are the loop in order so.
@@ -60,7 +58,7 @@ impl Batches {
         ensures went { RanOn run.now.program.now run.now.call.now index (index + result) maps.old maps.new }
     {
         law_of_batches();
-        // It tells the proof that each of the words is one.
+        // Each of the words is one.
         let _words = maps.words();
         let Some(count) = self.ran_together(run, rows, index, lanes, maps) else {
             return 0;

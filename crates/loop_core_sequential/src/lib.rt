@@ -22,7 +22,7 @@ ghost use Rattle.loop_core_sequential.specs.FilledCalls.{FilledCallsAreOneLoop};
 use bpf_verify_sound::{law_of_accepted_programs, law_of_accepted_runs};
 pub use marked_loop::mark_iterations;
 pub use ordering::{in_order, range_in_order};
-pub use progress::{Progress, go_on_in_order};
+pub use progress::{Progress, resume_in_order};
 pub use watched_loop::{WatchedLoop, in_order_watched};
 
 /// The law of filled calls: a call that main made, and the same call with its frame filled, as `Main::next` gives it,

@@ -4,15 +4,13 @@ ghost use Rattle.std.specs.Prelude.{◌≡◌, ℕ, ◌+◌, ◌<◌, ◌≤◌,
 ghost use Rattle.bpf_verify.specs.Rows.{AreRowsAt};
 ghost use Rattle.bpf_verify_sound.specs.Soundness.{OverApproximatesCall};
 ghost use Rattle.shadow_marks.specs.Standing.{ArePlanes, StandFor, no_visits, test_of};
-ghost use Rattle.loop_core_sequential.specs.LoopRuns.{IsLoopRun};
-ghost use Rattle.loop_core_sequential.specs.Marked.{AreMarked, HaveVerdict, RanApart};
+ghost use Rattle.loop_core_sequential.specs.{LoopRuns.{IsLoopRun}, Marked.{AreMarked, HaveVerdict, RanApart}};
 
 use crate::batches::{Batches, MOST};
 use crate::loop_run::LoopRun;
 use crate::own::see_none_own;
 use array_maps::Maps;
-use bpf_step::LoopCall;
-use bpf_step_ir_sound::law_of_plain_iterations;
+use bpf_step::{LoopCall, law_of_plain_iterations};
 use bpf_verify::{CallbackRows, Verified};
 use bpf_verify_sound::{law_of_accepted_programs, law_of_accepted_runs};
 use loop_marks::{LoopMarks, law_of_marked_loops};

@@ -1,8 +1,7 @@
 //! Iterations of a loop in order, one after another.
 
 ghost use Rattle.std.specs.Prelude.{◌≡◌, ◌≤◌};
-ghost use Rattle.loop_core_sequential.specs.LoopRuns.{IsLoopRun};
-ghost use Rattle.loop_core_sequential.specs.Rests.{RanTo};
+ghost use Rattle.loop_core_sequential.specs.{LoopRuns.{IsLoopRun}, Rests.{RanTo}};
 
 use crate::loop_run::LoopRun;
 use array_maps::Maps;

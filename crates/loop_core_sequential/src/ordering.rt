@@ -3,9 +3,7 @@
 ghost use Rattle.std.specs.Prelude.{◌≡◌, ◌≤◌};
 ghost use Rattle.bpf_verify.specs.Rows.{AreRowsAt};
 ghost use Rattle.bpf_verify_sound.specs.Soundness.{OverApproximatesCall};
-ghost use Rattle.loop_core_sequential.specs.Loops.{RanLoopInOrder};
-ghost use Rattle.loop_core_sequential.specs.LoopRuns.{IsLoopRun};
-ghost use Rattle.loop_core_sequential.specs.Rests.{RanTo, answer_of};
+ghost use Rattle.loop_core_sequential.specs.{Loops.{RanLoopInOrder}, LoopRuns.{IsLoopRun}, Rests.{RanTo, answer_of}};
 
 use crate::batches::Batches;
 use crate::loop_run::LoopRun;
@@ -15,7 +13,7 @@ use bpf_step::LoopCall;
 use bpf_verify::{CallbackRows, Verified};
 
 /// The fewest iterations of a loop that is tried in batches: set-up clears 144 KB, which takes some 3 µs.
-pub(crate) const FEWEST: u32 = 512;
+pub(crate) const MIN_BATCHED_ITERATIONS: u32 = 512;
 
 /// Runs the iterations of a loop call that main of this program made, one after another on the maps, up
 /// to the first that returns 1, or all. Gives the loop's answer: how many ran. The maps are of the
@@ -46,7 +44,7 @@ pub fn range_in_order(
     ensures { RanTo program.now call.now from to maps.old maps.new result }
 {
     let mut run = LoopRun::new(program, call);
-    if to - from < FEWEST {
+    if to - from < MIN_BATCHED_ITERATIONS {
         return one_by_one(&mut run, from, to, maps);
     }
     let Some(rows) = program.rows(call.callback()) else {

@@ -1,9 +1,7 @@
 //! Lanes of a batch that load nothing that they left themselves.
 
-ghost use Rattle.std.specs.Prelude.{◌≡◌, ℕ, ◌<◌, ◌≤◌, true, false};
-ghost use Rattle.std.specs.List.{All, AllPairs};
-ghost use Rattle.lane_stamps.specs.Sites.{HasRows, shown};
-ghost use Rattle.lane_stamps.specs.Stamps.{LoadsNoOwn, WatchedOwn};
+ghost use Rattle.std.specs.{Prelude.{◌≡◌, ℕ, ◌<◌, ◌≤◌, true, false}, List.{All, AllPairs}};
+ghost use Rattle.lane_stamps.specs.{Sites.{HasRows, shown}, Stamps.{LoadsNoOwn, WatchedOwn}};
 
 use lane_stamps::{Lanes, Site, element_of, has, place_of};
 

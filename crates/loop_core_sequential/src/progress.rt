@@ -2,8 +2,7 @@
 
 ghost use Rattle.std.specs.Prelude.{◌≡◌};
 ghost use Rattle.bpf_verify_sound.specs.Soundness.{OverApproximatesCall};
-ghost use Rattle.loop_core_sequential.specs.Loops.{RanLoopInOrder};
-ghost use Rattle.loop_core_sequential.specs.Dependences.{IsAhead};
+ghost use Rattle.loop_core_sequential.specs.{Loops.{RanLoopInOrder}, Dependences.{IsAhead}};
 
 use crate::ordering::{answer, range_in_order};
 use array_maps::Maps;
@@ -20,10 +19,10 @@ pub struct Progress {
     pub broke: bool,
 }
 
-/// Runs the rest of a loop call that `in_order_watched` gave up, in order, and gives the loop's answer: how many
+/// Runs the rest of a loop call that `in_order_watched` stopped, in order, and gives the loop's answer: how many
 /// iterations ran. The maps and the log are as it left them; what the log has is the maps after the progress that it
-/// told.
-pub fn go_on_in_order(
+/// gave.
+pub fn resume_in_order(
     program: &Verified,
     call: &LoopCall,
     progress: Progress,

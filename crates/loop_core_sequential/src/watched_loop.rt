@@ -5,14 +5,12 @@ ghost use Rattle.array_maps.specs.MapList.{MapList};
 ghost use Rattle.bpf_verify.specs.Rows.{AreRowsAt};
 ghost use Rattle.bpf_verify_sound.specs.Soundness.{OverApproximatesCall};
 ghost use Rattle.loop_core_undo.specs.Undo.{log_elements, IsEmpty};
-ghost use Rattle.loop_core_sequential.specs.LoopRuns.{IsLoopRun};
-ghost use Rattle.loop_core_sequential.specs.Dependences.{CameOut};
-ghost use Rattle.loop_core_sequential.specs.Noting.{GoesWatched};
+ghost use Rattle.loop_core_sequential.specs.{LoopRuns.{IsLoopRun}, Dependences.{CameOut}, Noting.{GoesWatched}};
 ghost use Rattle.loop_core_sequential.specs.WatchedRuns.{WatchedToEnd, loop_by};
 
 use crate::batches::Batches;
 use crate::loop_run::LoopRun;
-use crate::ordering::FEWEST;
+use crate::ordering::MIN_BATCHED_ITERATIONS;
 use crate::progress::Progress;
 use crate::watching::{Watch, one_by_one_watched};
 use array_maps::Maps;
@@ -25,15 +23,15 @@ use loop_core_undo::UndoLog;
 pub enum WatchedLoop {
     /// It passes by the flow test, and its call answers this.
     Passed(u32),
-    /// It was given up after an iteration that saw or reduced an element that was written.
+    /// It was stopped after an iteration that saw or reduced an element that was written.
     Dependent(Progress),
 }
 
 /// Runs the iterations of a loop call that main of this program made as `in_order` does, and watches them: where none
 /// has an exposed read of an element that an earlier one wrote, the loop passes by the flow test, and its answer is
-/// given. Else it is given up after the first iteration that sees or reduces an element that an earlier one wrote, or
+/// given. Else it is stopped after the first iteration that sees or reduces an element that an earlier one wrote, or
 /// that it wrote itself before that: then the maps are as before, and the log has those after this iteration, from
-/// which `go_on_in_order` goes on. The maps are of the program's sizes, and the log is for as many elements.
+/// which `resume_in_order` goes on. The maps are of the program's sizes, and the log is for as many elements.
 pub fn in_order_watched(
     program: &Verified,
     call: &LoopCall,
@@ -64,7 +62,7 @@ fn watch(program: &Verified, call: &LoopCall, log: &mut UndoLog, maps: &mut Maps
 {
     let mut run = LoopRun::new(program, call);
     let n = call.n();
-    if n < FEWEST {
+    if n < MIN_BATCHED_ITERATIONS {
         let watch = one_by_one_watched(&mut run, 0, n, log, maps);
         return ended(watch, n);
     }

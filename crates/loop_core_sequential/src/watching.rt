@@ -4,9 +4,7 @@ ghost use Rattle.std.specs.Prelude.{◌≡◌, ◌+◌, ◌<◌, ◌≤◌, leng
 ghost use Rattle.array_maps.specs.MapList.{MapList};
 ghost use Rattle.bpf_verify.specs.Rows.{AreRowsAt};
 ghost use Rattle.loop_core_undo.specs.Undo.{log_elements};
-ghost use Rattle.loop_core_sequential.specs.LoopRuns.{IsLoopRun};
-ghost use Rattle.loop_core_sequential.specs.Noting.{GoesWatched};
-ghost use Rattle.loop_core_sequential.specs.WatchedRuns.{WatchedTo};
+ghost use Rattle.loop_core_sequential.specs.{LoopRuns.{IsLoopRun}, Noting.{GoesWatched}, WatchedRuns.{WatchedTo}};
 
 use crate::applying::FirstLanes;
 use crate::batches::Batches;
@@ -15,7 +13,7 @@ use crate::noting::{are_unread, note_writes};
 use crate::progress::Progress;
 use array_maps::Maps;
 use bpf_verify::CallbackRows;
-use loop_core_batch::law_of_batches;
+use loop_core_model::law_of_batches;
 use loop_core_undo::{UndoLog, Watched, law_of_watching, law_of_words_before};
 
 /// How watched iterations came out.
@@ -86,7 +84,7 @@ impl Batches {
     {
         law_of_batches();
         law_of_words_before();
-        // It tells the proof that each of the words is one.
+        // Each of the words is one.
         let _words = maps.words();
         let Some(count) = self.ran_together(run, rows, index, lanes, maps) else {
             return 0;
@@ -155,7 +153,7 @@ fn one_watched(run: &mut LoopRun<'_>, index: u32, log: &mut UndoLog, maps: &mut 
     let _sizes = maps.sizes();
     let mut watched = Watched::new(maps, log);
     let done = run.callback.run(index, &mut watched);
-    if watched.has_met() {
+    if watched.has_dependence() {
         return Watch::Dependent(Progress {
             done: index + 1,
             broke: done.ret == 1,

@@ -1,11 +1,8 @@
 -- What the bounds of a split keep.
-use Rattle.std.proofs.Common.{◌≡◌, ℕ, zero, suc, ◌+◌, ◌-◌, ◌<◌, ◌≤◌, List, [], ◌∷◌, length}
-use Rattle.std.proofs.Common.{None, Some, refl, sym, ◌∙◌, ap, subst, arith}
-use Rattle.std.specs.Prelude.{slice_index, slice_index_or}
-use Rattle.loop_core_model.specs.declared.faults.SplitFault.TheVariants.{Number}
-use Rattle.loop_core_model.specs.Split.{last_bound, split_fault, even_bounds}
-use Rattle.loop_core_model.proofs.EvenSplitLaws.{even_is_split}
-use Rattle.loop_core_model.specs.Intervals.{blocks_of}
+use Rattle.std.proofs.Common.{◌≡◌, ℕ, zero, suc, ◌+◌, ◌-◌, ◌<◌, ◌≤◌, List, [], ◌∷◌, length, None, Some, refl, sym, ◌∙◌}
+use Rattle.std.{proofs.Common.{ap, subst, arith}, specs.Prelude.{slice_index, slice_index_or}}
+use Rattle.loop_core_model.{specs.declared.faults.SplitFault.TheVariants.{Number}, proofs.EvenSplitLaws.{even_is_split}}
+use Rattle.loop_core_model.specs.{Split.{last_bound, split_fault, even_bounds}, Intervals.{blocks_of}}
 use Rattle.loop_core_model.proofs.SplitLaws.{faultless, rising}
 use Rattle.loop_core_split.specs.Splits.{IsSplit}
 

@@ -1,8 +1,7 @@
 //! Least breaks: of the indices at which blocks broke, the least that is known.
 
 ghost use Rattle.std.specs.Prelude.{◌≡◌, Some};
-ghost use Rattle.loop_core_model.specs.LeastBreak.{lesser as lesser_break};
-ghost use Rattle.loop_core_model.specs.Gather.{starts_late};
+ghost use Rattle.loop_core_model.specs.{LeastBreak.{lesser as lesser_break}, Gather.{starts_late}};
 
 /// The lesser of two breaks, of which each may be there or not.
 pub fn lesser(index: Option<u32>, other: Option<u32>) -> Option<u32>

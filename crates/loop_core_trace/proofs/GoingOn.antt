@@ -1,47 +1,30 @@
 -- How an iteration goes on, and how it ends.
-use Rattle.std.proofs.Common.{◌≡◌, ℕ, zero, suc, ◌+◌, ◌<◌, ◌≤◌, ◌^◌, List, [], ◌∷◌, ◌++◌, length}
-use Rattle.std.proofs.Common.{set, Option, Some, None, refl, sym, ap, subst, ◌∙◌, arith}
-use Rattle.std.specs.Prelude.{slice_get, slice_index}
-use Rattle.std.specs.List.{sum}
-use Rattle.std.proofs.lemmas.List.{append-nil}
-use Rattle.std.proofs.lemmas.Option.{slice_get-get_or}
-use Rattle.array_maps.specs.Accesses.{Access, words_after, left_by}
-use Rattle.array_maps.specs.MapList.{MapList, AreWords}
+use Rattle.std.proofs.Common.{◌≡◌, ℕ, zero, suc, ◌+◌, ◌<◌, ◌≤◌, ◌^◌, List, [], ◌∷◌, ◌++◌, length, set, Option, Some}
+use Rattle.std.{proofs.Common.{None, refl, sym, ap, subst, ◌∙◌, arith}, specs.Prelude.{slice_get, slice_index}}
+use Rattle.std.{specs.List.{sum}, proofs.lemmas.{List.{append-nil}, Option.{slice_get-get_or}}}
+use Rattle.array_maps.specs.{Accesses.{Access, words_after, left_by}, MapList.{MapList, AreWords}}
 use Rattle.bpf_insn_types.specs.Program.{Program}
-use Rattle.bpf_step_model.specs.declared.refused_call.RefusedCall.{RefusedCall}
-use Rattle.bpf_step_model.specs.State.{Machine, LoopCall, callback_entry}
+use Rattle.bpf_step_model.specs.{declared.refused_call.RefusedCall.{RefusedCall}, Iteration.{exited, iteration}}
+use Rattle.bpf_step_model.specs.{State.{Machine, LoopCall, callback_entry}, Steps.{access_of, GoesOn, EndsBy, Steps}}
 use Rattle.bpf_step_model.specs.Step.{Request, StepOutcome, NoStep, Next, Asks, Loops, Refuses, Exits, step}
 use Rattle.bpf_step_model.specs.Run.{Ended, Exit, action_of, after_request, followed, after_access, after_step, run}
-use Rattle.bpf_step_model.specs.Iteration.{exited, iteration}
-use Rattle.bpf_step_model.specs.Steps.{access_of, GoesOn, EndsBy, Steps}
 use Rattle.bpf_step_model.proofs.StateLists.{runs_states}
 use Rattle.bpf_verify_sound.specs.Soundness.{IsSoundProgram, AreMapWords, OverApproximatesCall, StepsOverApproximated}
 use Rattle.bpf_verify_sound.specs.Soundness.{ProgressAndPreservation, EachRunEnds, CallbacksExit, most_from}
 use Rattle.bpf_verify_sound.proofs.RunLaws.{word-at, words-known}
-use Rattle.bpf_step_ir.specs.declared.plain_op.PlainOp.{PlainOp}
-use Rattle.bpf_step_ir.specs.Plain.{Plain, PlainStepOutcome, Goes, Wants, CallsLoop, RefusesLoop}
-use Rattle.bpf_step_ir.specs.Plain.{Ends, plain_step, plain_after_request}
-use Rattle.bpf_step_ir.specs.PlainRun.{op_of}
+use Rattle.bpf_step_ir.specs.{declared.ir_op.IrOp.{IrOp}, Plain.{plain_after_request}, PlainRun.{op_of}}
+use Rattle.bpf_step_ir.specs.Plain.{Plain, PlainStepOutcome, Goes, Wants, CallsLoop, RefusesLoop, Ends, plain_step}
 use Rattle.bpf_step_ir.specs.Translation.{AreOps}
-use Rattle.bpf_step_ir_sound.specs.Standing.{Simulates, SimulatesStep}
-use Rattle.bpf_step_ir_sound.specs.Laws.{BeginsCallback, EntrySimulates, EachOpSimulates}
-use Rattle.bpf_step_plain.specs.declared.outcome.Outcome.{Outcome}
-use Rattle.bpf_step_plain.specs.declared.outcome.Outcome.TheVariants.{On, End, Call, Refusal}
-use Rattle.bpf_step_plain.specs.Machine.{plain}
-use Rattle.bpf_step_plain.specs.Moving.{DidStep}
-use Rattle.loop_core_trace.specs.declared.touch.Touch.{Touch}
-use Rattle.loop_core_trace.specs.declared.journal.Note.{Note}
-use Rattle.loop_core_trace.specs.declared.slots.Slots.{Slots}
+use Rattle.bpf_step.specs.{Standing.{Simulates, SimulatesStep}, Laws.{BeginsCallback, EntrySimulates, EachOpSimulates}}
 use Rattle.bpf_step.proofs.Limits.{few_steps}
-use Rattle.loop_core_trace.specs.Touches.{touched_by, no_slots, slots_here, noted}
-use Rattle.loop_core_trace.specs.Journals.{Undoes}
-use Rattle.loop_core_trace.specs.Places.{AccessesAt}
-use Rattle.loop_core_trace.specs.Traced.{AreSlots, IsTraceOf}
-use Rattle.loop_core_trace.proofs.TouchLaws.{AsTouched, TouchIs, as_touched}
-use Rattle.loop_core_trace.proofs.SlotLaws.{no_slots_yet, slots_next}
-use Rattle.loop_core_trace.proofs.JournalLaws.{undoes_next}
-use Rattle.loop_core_trace.proofs.Underway.{EndsByExit, ends_by_exit, later, steps_more}
-use Rattle.loop_core_trace.proofs.Underway.{requested, Underway, over, simulated}
+use Rattle.bpf_step_plain.specs.declared.outcome.Outcome.{Outcome, TheVariants.{On, End, Call, Refusal}}
+use Rattle.bpf_step_plain.specs.{Machine.{plain}, Moving.{DidStep}}
+use Rattle.loop_core_trace.specs.declared.{touch.Touch.{Touch}, journal.Note.{Note}, slots.Slots.{Slots}}
+use Rattle.loop_core_trace.specs.{Touches.{touched_by, no_slots, slots_here, noted}, Journals.{Undoes}}
+use Rattle.loop_core_trace.{specs.{Places.{AccessesAt}, Traced.{AreSlots, IsTraceOf}}, proofs.JournalLaws.{undoes_next}}
+use Rattle.loop_core_trace.proofs.{TouchLaws.{AsTouched, TouchIs, as_touched}, SlotLaws.{no_slots_yet, slots_next}}
+use Rattle.loop_core_trace.proofs.Underway.{EndsByExit, ends_by_exit, later, steps_more, requested, Underway, over}
+use Rattle.loop_core_trace.proofs.Underway.{simulated}
 
 -- maps as a store
 abbrev pub words_of : MapList → List ℕ
@@ -51,7 +34,7 @@ abbrev pub map_effect : MapList → Access → MapList → Type 0
 map_effect old access new = new ≡ record { sizes = old.sizes; words = words_after access old.words }
 
 module _ (steps_law : ProgressAndPreservation) (ops_law : EachOpSimulates) {program : Program}
-    (sound : IsSoundProgram program) {ops : List PlainOp} (are : AreOps program ops)
+    (sound : IsSoundProgram program) {ops : List IrOp} (are : AreOps program ops)
     {call : LoopCall} {index element : ℕ} {first : MapList} {steps : ℕ} {p : Plain} {maps : MapList}
     {journal : List Note} {slots : Slots}
     (under : Underway program call index element first steps p maps journal slots) where
@@ -137,7 +120,7 @@ module _ (steps_law : ProgressAndPreservation) (ops_law : EachOpSimulates) {prog
           machine = under.machine;
           between = maps.words;
           steps = under.came;
-          stands = sym under.stands.slot;
+          slot_is = sym under.stands.slot;
         };
         next = next;
         after = words_after access maps.words;
@@ -205,11 +188,11 @@ module _ (steps_law : ProgressAndPreservation) (ops_law : EachOpSimulates) {prog
   by_move move plain_move touched moves sim known agrees slot registers frame caller after did = absurd sim
 
   -- what was noted of an access
-  pub record IsNoted (op : PlainOp) (notes : List Note) (seen : Slots) : Type 0 where
+  pub record IsNoted (op : IrOp) (notes : List Note) (seen : Slots) : Type 0 where
     pub notes_are : notes ≡ noted (touched_by op p.registers) maps.words journal
     pub seen_are : seen ≡ slots_here (touched_by op p.registers) element p.slot slots
 
-  pub is_noted : (op : PlainOp) (touched : Option Touch) (words : List ℕ) (notes : List Note) (seen : Slots)
+  pub is_noted : (op : IrOp) (touched : Option Touch) (words : List ℕ) (notes : List Note) (seen : Slots)
       → touched ≡ touched_by op p.registers → words ≡ maps.words →
       notes ≡ noted touched words journal → seen ≡ slots_here touched element p.slot slots → IsNoted op notes seen
   is_noted op touched words notes seen same there notes_are seen_are = record {
@@ -218,7 +201,7 @@ module _ (steps_law : ProgressAndPreservation) (ops_law : EachOpSimulates) {prog
     seen_are = seen_are ∙ ap (λ (t : Option Touch). slots_here t element p.slot slots) same;
   }
 
-  pub goes_on : (op : PlainOp) → op_of ops p.slot ≡ op → (notes : List Note) (seen : Slots) → IsNoted op notes seen
+  pub goes_on : (op : IrOp) → op_of ops p.slot ≡ op → (notes : List Note) (seen : Slots) → IsNoted op notes seen
       → (slot : ℕ) (registers frame caller : List ℕ) (after : MapList) →
       DidStep words_of map_effect p.slot (plain_step op p) maps (On slot) registers frame caller after
       → Then (steps + 1) (plain slot registers frame caller) after notes seen
@@ -232,7 +215,7 @@ module _ (steps_law : ProgressAndPreservation) (ops_law : EachOpSimulates) {prog
       (as_touched op p) slot registers frame caller after did))
 
   -- it calls no loop
-  pub calls_none : (op : PlainOp) → op_of ops p.slot ≡ op → (outcome : Outcome) (registers frame caller : List ℕ)
+  pub calls_none : (op : IrOp) → op_of ops p.slot ≡ op → (outcome : Outcome) (registers frame caller : List ℕ)
       (after : MapList) →
       DidStep words_of map_effect p.slot (plain_step op p) maps outcome registers frame caller after →
       ((callback n : ℕ) (ctx : Option ℕ) → outcome ≡ Call callback n ctx → ⊥)
@@ -254,7 +237,7 @@ module _ (steps_law : ProgressAndPreservation) (ops_law : EachOpSimulates) {prog
           never o s at = s
       go move plain_move moves sim called = called
 
-  pub refuses_none : (op : PlainOp) → op_of ops p.slot ≡ op → (outcome : Outcome) (registers frame caller : List ℕ)
+  pub refuses_none : (op : IrOp) → op_of ops p.slot ≡ op → (outcome : Outcome) (registers frame caller : List ℕ)
       (after : MapList) →
       DidStep words_of map_effect p.slot (plain_step op p) maps outcome registers frame caller after
       → ((call : RefusedCall) → outcome ≡ Refusal call → ⊥)
@@ -304,7 +287,7 @@ module _ (steps_law : ProgressAndPreservation) (ops_law : EachOpSimulates) {prog
   returned n ret after moves same left few = (
     record {
       iterated = record { ret = ret; steps = suc steps; accesses = under.accesses; words = maps.words };
-      told = iterated under.machine under.accesses maps.words ret few under.came moves;
+      ended = iterated under.machine under.accesses maps.words ret few under.came moves;
       ret = same;
       returns = record {
         before = under.accesses;
@@ -313,7 +296,7 @@ module _ (steps_law : ProgressAndPreservation) (ops_law : EachOpSimulates) {prog
           machine = under.machine;
           between = maps.words;
           steps = under.came;
-          stands = sym under.stands.slot;
+          slot_is = sym under.stands.slot;
         };
         returns = moves ∙ ap Exits (sym same);
       };
@@ -340,7 +323,7 @@ module _ (steps_law : ProgressAndPreservation) (ops_law : EachOpSimulates) {prog
       absurd did
   end_by move plain_move touched moves sim known agrees n registers frame caller after few did = absurd sim
 
-  ends_so : (op : PlainOp) → op_of ops p.slot ≡ op → steps < 4096 → (n : ℕ) (registers frame caller : List ℕ)
+  ends_so : (op : IrOp) → op_of ops p.slot ≡ op → steps < 4096 → (n : ℕ) (registers frame caller : List ℕ)
       (after : MapList) →
       DidStep words_of map_effect p.slot (plain_step op p) maps (End n) registers frame caller after
       → Returned (touched_by op p.registers) n after
@@ -349,7 +332,7 @@ module _ (steps_law : ProgressAndPreservation) (ops_law : EachOpSimulates) {prog
       (simulated steps_law ops_law sound are under op is) (over steps_law ops_law sound are under)
       (as_touched op p) n registers frame caller after few did
 
-  pub ended : (op : PlainOp) → op_of ops p.slot ≡ op → (notes : List Note) (seen : Slots) → IsNoted op notes seen
+  pub ended : (op : IrOp) → op_of ops p.slot ≡ op → (notes : List Note) (seen : Slots) → IsNoted op notes seen
       → steps < 4096 → (n : ℕ) (registers frame caller : List ℕ) (after : MapList) →
       DidStep words_of map_effect p.slot (plain_step op p) maps (End n) registers frame caller after →
       IsTraceOf program call index first.words element (record { ret = n; exit = p.slot; slots = seen })

@@ -1,10 +1,8 @@
 -- Journals that undo one access more.
 use Rattle.std.proofs.Common.{◌≡◌, ℕ, ◌<◌, List, [], ◌∷◌, ◌++◌, length, get_or, set, refl, sym, ap, subst, ◌∙◌}
-use Rattle.std.proofs.lemmas.List.{set-set, set-get_or, length-set}
-use Rattle.std.specs.List.{AllByRecursion}
+use Rattle.std.{proofs.lemmas.List.{set-set, set-get_or, length-set}, specs.List.{AllByRecursion}}
 use Rattle.array_maps.specs.MapList.{MapList}
-use Rattle.loop_core_trace.specs.declared.journal.Note.{Note}
-use Rattle.loop_core_trace.specs.Journals.{unwound, Undoes}
+use Rattle.loop_core_trace.specs.{declared.journal.Note.{Note}, Journals.{unwound, Undoes}}
 
 -- the last is put back first
 pub unwound_last : (notes : List Note) (note : Note) (words : List ℕ) → unwound (notes ++ note ∷ []) words

@@ -1,20 +1,15 @@
 -- The reduces of an element after one access more.
-use Rattle.std.proofs.Common.{◌≡◌, ℕ, Bool, true, false, List, [], ◌∷◌, ◌++◌}
-use Rattle.std.proofs.Common.{Option, Some, None, refl, sym, ap, subst, ◌∙◌}
-use Rattle.std.specs.Prelude.{◌&&◌, if◌then◌else◌}
-use Rattle.std.specs.List.{list_all}
+use Rattle.std.proofs.Common.{◌≡◌, ℕ, Bool, true, false, List, [], ◌∷◌, ◌++◌, Option, Some, None, refl, sym, ap, subst}
+use Rattle.std.{proofs.Common.{◌∙◌}, specs.{Prelude.{◌&&◌, if◌then◌else◌}, List.{list_all}}}
 use Rattle.std.proofs.lemmas.List.Folds.{list_all-append}
 use Rattle.array_maps.specs.declared.access.Op.{Op}
 use Rattle.array_maps.specs.Accesses.{Action, Read, Write, ReadWrite, Reduce, Access, actions_at}
 use Rattle.bpf_insn_types.specs.Program.{Program}
 use Rattle.bpf_step_model.specs.State.{LoopCall}
-use Rattle.loop_core_model.specs.Actions.{reduces_by, only_operator}
-use Rattle.loop_core_model.proofs.OneElement.{same_op, only_reduces}
-use Rattle.loop_core_trace.specs.declared.slots.FirstReduce.{FirstReduce}
-use Rattle.loop_core_trace.specs.Operators.{operator_of, reduces_alike, AreAlike}
+use Rattle.loop_core_model.{specs.Actions.{reduces_by, only_operator}, proofs.OneElement.{same_op, only_reduces}}
+use Rattle.loop_core_trace.specs.{declared.slots.FirstReduce.{FirstReduce}, Places.{AccessesAt, OtherAccessAt}}
+use Rattle.loop_core_trace.specs.{Operators.{operator_of, reduces_alike, AreAlike}, Traced.{ReduceIs, OtherIs}}
 use Rattle.loop_core_trace.specs.Touches.{reduce_at, first_reduce_after, other_after}
-use Rattle.loop_core_trace.specs.Places.{AccessesAt, OtherAccessAt}
-use Rattle.loop_core_trace.specs.Traced.{ReduceIs, OtherIs}
 
 -- one action
 pub of_one : (a : Action) → only_operator (a ∷ []) ≡ operator_of a

@@ -1,19 +1,13 @@
 -- The slots at an element after one access more.
-use Rattle.std.proofs.Common.{◌≡◌, ℕ, Bool, true, false, ◌||◌, List, [], ◌∷◌, ◌++◌}
-use Rattle.std.proofs.Common.{Option, Some, None, refl, sym, ap, ◌∙◌, eqb-true}
-use Rattle.std.specs.Prelude.{◌==◌, not, if◌then◌else◌}
-use Rattle.std.proofs.lemmas.List.{append-nil}
+use Rattle.std.proofs.Common.{◌≡◌, ℕ, Bool, true, false, ◌||◌, List, [], ◌∷◌, ◌++◌, Option, Some, None, refl, sym, ap}
+use Rattle.std.{proofs.{Common.{◌∙◌, eqb-true}, lemmas.List.{append-nil}}, specs.Prelude.{◌==◌, not, if◌then◌else◌}}
 use Rattle.array_maps.specs.Accesses.{Action, Read, Write, ReadWrite, Reduce, Access, actions_at}
 use Rattle.bpf_insn_types.specs.Program.{Program}
 use Rattle.bpf_step_model.specs.State.{LoopCall}
-use Rattle.loop_core_model.specs.Actions.{is_write, writes, is_plain_write, exposed}
-use Rattle.loop_core_model.proofs.Turns.{actions_at-append}
-use Rattle.loop_core_trace.specs.declared.touch.Touch.{Touch}
-use Rattle.loop_core_trace.specs.declared.slots.Slots.{Slots}
+use Rattle.loop_core_model.{specs.Actions.{is_write, writes, is_plain_write, exposed}, proofs.Turns.{actions_at-append}}
+use Rattle.loop_core_trace.specs.{declared.{touch.Touch.{Touch}, slots.Slots.{Slots}}, Operators.{operator_of}}
 use Rattle.loop_core_trace.specs.Touches.{no_slots, first_write_after, exposed_read_after, slots_after, slots_here}
-use Rattle.loop_core_trace.specs.Operators.{operator_of}
-use Rattle.loop_core_trace.specs.Places.{AccessesAt}
-use Rattle.loop_core_trace.specs.Traced.{WriteIs, ReadIs, AreSlots}
+use Rattle.loop_core_trace.specs.{Places.{AccessesAt}, Traced.{WriteIs, ReadIs, AreSlots}}
 use Rattle.loop_core_trace.proofs.OperatorLaws.{reduce_next, other_next, other_same}
 
 -- an action more

@@ -1,30 +1,22 @@
 -- What a step asks of an element is what was seen of its operation.
 use Rattle.std.proofs.Common.{◌≡◌, ℕ, ◌+◌, ◌%◌, Bool, true, false, nat_le, Option, Some, None, refl}
 use Rattle.std.specs.Prelude.{◌==◌, not, if◌then◌else◌}
-use Rattle.bpf_insn_types.specs.Sizes.{bytes_of, atomic_bytes}
-use Rattle.bpf_insn_types.specs.declared.insn.Width.{Width}
-use Rattle.bpf_insn_types.specs.declared.insn.Width.TheVariants.{W32, W64}
-use Rattle.bpf_insn_types.specs.declared.insn.SimpleOp.{SimpleOp}
-use Rattle.bpf_insn_types.specs.declared.insn.AtomicOp.{AtomicOp}
+use Rattle.bpf_insn_types.specs.{Sizes.{bytes_of, atomic_bytes}, declared.insn.Width.{Width, TheVariants.{W32, W64}}}
+use Rattle.bpf_insn_types.specs.{declared.insn.{SimpleOp.{SimpleOp}, AtomicOp.{AtomicOp}}, Words.{holds}}
 use Rattle.bpf_insn_types.specs.declared.insn.AtomicOp.TheVariants.{Simple, Fetch as FetchOp, Xchg as XchgOp, Cmpxchg}
-use Rattle.bpf_insn_types.specs.Words.{holds}
-use Rattle.array_maps.specs.declared.access.Half.TheVariants.{Low, High}
-use Rattle.array_maps.specs.declared.access.Part.{Part}
-use Rattle.array_maps.specs.declared.access.Part.TheVariants.{Whole, Half as Of}
-use Rattle.bpf_step_model.specs.LoopCalls.{Validity, RefusedAs, Valid, call_validity}
+use Rattle.array_maps.specs.declared.access.{Half.TheVariants.{Low, High}, Part.{Part, TheVariants.{Whole, Half as Of}}}
+use Rattle.bpf_step_model.specs.{LoopCalls.{Validity, RefusedAs, Valid, call_validity}, Run.{action_of}}
 use Rattle.bpf_step_model.specs.Step.{Request, extended, store_of, half_operator, update_of, request_of}
-use Rattle.bpf_step_model.specs.Run.{action_of}
-use Rattle.bpf_step_ir.specs.declared.plain_op.PlainOp.{PlainOp}
-use Rattle.bpf_step_ir.specs.declared.plain_op.PlainOp.TheVariants.{Stop, Alu, Neg, Movsx, Endian, SetWide, Jump}
-use Rattle.bpf_step_ir.specs.declared.plain_op.PlainOp.TheVariants.{JumpIf, Exit, LoadFrame, StoreFrame, ChangeFrame}
-use Rattle.bpf_step_ir.specs.declared.plain_op.PlainOp.TheVariants.{LoadElement, StoreElement, ChangeElement}
-use Rattle.bpf_step_ir.specs.declared.plain_op.PlainOp.TheVariants.{Lookup, CallLoop}
+use Rattle.bpf_step_model.specs.AreaWords.{looked_up_word, byte_named, part_named}
+use Rattle.bpf_step_ir.specs.declared.ir_op.IrOp.{IrOp, TheVariants.{CallLoop}}
+use Rattle.bpf_step_ir.specs.declared.ir_op.IrOp.TheVariants.{Stop, Alu, Neg, Movsx, Endian, SetWide, Jump}
+use Rattle.bpf_step_ir.specs.declared.ir_op.IrOp.TheVariants.{JumpIf, Exit, LoadFrame, StoreFrame, ChangeFrame}
+use Rattle.bpf_step_ir.specs.declared.ir_op.IrOp.TheVariants.{LoadElement, StoreElement, ChangeElement, Lookup}
 use Rattle.bpf_step_ir.specs.Plain.{Plain, word, plain_operand, further, landed, with_bytes, PlainStepOutcome, Halts}
-use Rattle.bpf_step_ir.specs.Plain.{Goes, Wants, writes_word, bytes_in, plain_number_at, plain_written_at, plain_found}
-use Rattle.bpf_step_ir.specs.Plain.{changes_number, byte_named, part_named, plain_loop_call_step, plain_step}
+use Rattle.bpf_step_ir.specs.Plain.{Goes, Wants, writes_word, bytes_in, plain_number_at, plain_written_at}
+use Rattle.bpf_step_ir.specs.Plain.{changes_number, plain_loop_call_step, plain_step}
 use Rattle.loop_core_model.specs.Actions.{is_write, is_plain_write}
-use Rattle.loop_core_trace.specs.declared.touch.Touch.{Touch}
-use Rattle.loop_core_trace.specs.Operators.{operator_of}
+use Rattle.loop_core_trace.specs.{declared.touch.Touch.{Touch}, Operators.{operator_of}}
 use Rattle.loop_core_trace.specs.Touches.{is_half, operator_of_change, touched_by}
 
 -- a request of an element is what was seen
@@ -112,7 +104,7 @@ changed_reduces width byte (FetchOp op) src operand compare word = refl
 changed_reduces width byte XchgOp src operand compare word = refl
 changed_reduces width byte Cmpxchg src operand compare word = refl
 
-pub as_touched : (op : PlainOp) (p : Plain) → AsTouched (plain_step op p) (touched_by op p.registers)
+pub as_touched : (op : IrOp) (p : Plain) → AsTouched (plain_step op p) (touched_by op p.registers)
 unfolding plain_step
 as_touched Stop p = tt
 as_touched (Alu width op dst operand) p = tt
@@ -156,5 +148,5 @@ as_touched (ChangeElement width op base offset src) p = record {
 }
 as_touched (Lookup first count frame position) p =
     either_way (nat_le (position + 4) 512)
-    (writes_word p 0 (plain_found first count (plain_number_at (bytes_in p frame) position 4))) Halts tt tt
+    (writes_word p 0 (looked_up_word first count (plain_number_at (bytes_in p frame) position 4))) Halts tt tt
 as_touched (CallLoop callback ctx) p = called p callback ctx (call_validity (word p 1) (word p 4))

@@ -1,37 +1,23 @@
 -- An iteration under way, operation by operation.
-use Rattle.std.proofs.Common.{◌≡◌, ℕ, zero, suc, ◌+◌, ◌<◌, Bool, true, false, nat_lt, List, [], ◌++◌}
-use Rattle.std.proofs.Common.{length, Option, Some, None, refl, sym, ap, subst, ◌∙◌, arith}
-use Rattle.std.specs.List.{sum}
-use Rattle.std.proofs.lemmas.Bool.{ltb-true, ltb-false}
-use Rattle.std.proofs.lemmas.List.{append-nil, append_assoc, get_or_past}
-use Rattle.array_maps.specs.Accesses.{Access}
-use Rattle.array_maps.specs.MapList.{MapList}
-use Rattle.array_maps.specs.Halves.{part_of}
+use Rattle.std.proofs.Common.{◌≡◌, ℕ, zero, suc, ◌+◌, ◌<◌, Bool, true, false, nat_lt, List, [], ◌++◌, length, Option}
+use Rattle.std.{proofs.Common.{Some, None, refl, sym, ap, subst, ◌∙◌, arith}, specs.List.{sum}}
+use Rattle.std.proofs.lemmas.{Bool.{ltb-true, ltb-false}, List.{append-nil, append_assoc, get_or_past}}
+use Rattle.array_maps.specs.{Accesses.{Access}, MapList.{MapList}, Halves.{part_of}}
 use Rattle.bpf_insn_types.specs.Program.{Program}
-use Rattle.bpf_step_model.specs.State.{Word, Machine, LoopCall, callback_entry}
-use Rattle.bpf_step_model.specs.Step.{Request, Load, Store, StoreHalf, Update, Fetch, StepOutcome}
-use Rattle.bpf_step_model.specs.Step.{NoStep, Next, Asks, Loops, Refuses, Exits, extended, step}
-use Rattle.bpf_step_model.specs.Run.{BoundedResult, Ended, Stuck, Unfinished, RunSegment, part_bytes}
-use Rattle.bpf_step_model.specs.Run.{after_request, mapped, with_first_step, run}
-use Rattle.bpf_step_model.specs.Steps.{GoesOn, Steps}
+use Rattle.bpf_step_model.specs.{State.{Word, Machine, LoopCall, callback_entry}, Run.{mapped, with_first_step, run}}
+use Rattle.bpf_step_model.specs.Step.{Request, Load, Store, StoreHalf, Update, Fetch, StepOutcome, NoStep, Next, Asks}
+use Rattle.bpf_step_model.specs.{Step.{Loops, Refuses, Exits, extended, step}, Steps.{GoesOn, Steps}}
+use Rattle.bpf_step_model.specs.Run.{BoundedResult, Ended, Stuck, Unfinished, RunSegment, part_bytes, after_request}
 use Rattle.bpf_verify_sound.specs.Soundness.{IsSoundProgram, AreMapWords, OverApproximates, StepsOverApproximated}
 use Rattle.bpf_verify_sound.specs.Soundness.{ProgressAndPreservation, EndsWithin, IsExit, EndsAtExit}
-use Rattle.bpf_step_ir.specs.declared.plain_op.PlainOp.{PlainOp}
-use Rattle.bpf_step_ir.specs.declared.plain_op.PlainOp.TheVariants.{Stop}
-use Rattle.bpf_step_ir.specs.Plain.{Plain, PlainStepOutcome, Halts, Goes, Wants, CallsLoop}
-use Rattle.bpf_step_ir.specs.Plain.{RefusesLoop, Ends, plain_step, plain_after_request}
-use Rattle.bpf_step_ir.specs.PlainRun.{op_of}
-use Rattle.bpf_step_ir.specs.Translation.{op_at, AreOps}
-use Rattle.bpf_step_ir_sound.specs.Standing.{Simulates, SimulatesStep}
-use Rattle.bpf_step_ir_sound.specs.Laws.{EachOpSimulates}
-use Rattle.bpf_step_ir_sound.proofs.MachineLaws.{set-stands}
+use Rattle.bpf_step_ir.specs.{declared.ir_op.IrOp.{IrOp, TheVariants.{Stop}}, PlainRun.{op_of}}
+use Rattle.bpf_step_ir.specs.Plain.{Plain, PlainStepOutcome, Halts, Goes, Wants, CallsLoop, RefusesLoop, Ends}
+use Rattle.bpf_step_ir.specs.{Plain.{plain_step, plain_after_request}, Translation.{op_at, AreOps}}
+use Rattle.bpf_step.specs.{Standing.{Simulates, SimulatesStep}, Laws.{EachOpSimulates}}
+use Rattle.bpf_step.proofs.MachineLaws.{set-stands}
 use Rattle.bpf_step_plain.specs.Moving.{CanStep}
-use Rattle.loop_core_trace.specs.declared.touch.Touch.{Touch}
-use Rattle.loop_core_trace.specs.declared.journal.Note.{Note}
-use Rattle.loop_core_trace.specs.declared.slots.Slots.{Slots}
-use Rattle.loop_core_trace.specs.Touches.{touched_by}
-use Rattle.loop_core_trace.specs.Journals.{Undoes}
-use Rattle.loop_core_trace.specs.Traced.{AreSlots}
+use Rattle.loop_core_trace.specs.declared.{touch.Touch.{Touch}, journal.Note.{Note}, slots.Slots.{Slots}}
+use Rattle.loop_core_trace.specs.{Touches.{touched_by}, Journals.{Undoes}, Traced.{AreSlots}}
 use Rattle.loop_core_trace.proofs.TouchLaws.{AsTouched, as_touched}
 
 -- a run ends at an exit
@@ -142,19 +128,19 @@ touch_within count (RefusesLoop call next) None touch agrees can same = absurd c
 touch_within count (Ends ret) None touch agrees can same = absurd cc
 
 module _ (steps_law : ProgressAndPreservation) (ops_law : EachOpSimulates) {program : Program}
-    (sound : IsSoundProgram program) {ops : List PlainOp} (are : AreOps program ops)
+    (sound : IsSoundProgram program) {ops : List IrOp} (are : AreOps program ops)
     {call : LoopCall} {index element : ℕ} {first : MapList} where
   module _ {steps : ℕ} {p : Plain} {maps : MapList} {journal : List Note} {slots : Slots} (under : Underway program call
       index element first steps p maps journal slots) where
     pub over : StepsOverApproximated program (step program under.machine)
     over = steps_law program sound under.machine under.known
 
-    pub simulated : (op : PlainOp) → op_of ops p.slot ≡ op → SimulatesStep program.sizes (step program under.machine)
+    pub simulated : (op : IrOp) → op_of ops p.slot ≡ op → SimulatesStep program.sizes (step program under.machine)
         (plain_step op p)
     simulated op is =
         let same : op_at program under.machine.slot ≡ op = ap (op_at program) (sym under.stands.slot)
         ∙ sym (are.at p.slot) ∙ is in
-        subst (λ (o : PlainOp). SimulatesStep program.sizes (step program under.machine) (plain_step o p)) same
+        subst (λ (o : IrOp). SimulatesStep program.sizes (step program under.machine) (plain_step o p)) same
         (ops_law program sound under.machine p under.known under.stands)
 
     halted : op_of ops p.slot ≡ Stop → ⊥
@@ -169,11 +155,11 @@ module _ (steps_law : ProgressAndPreservation) (ops_law : EachOpSimulates) {prog
         go true is = ltb-true p.slot (length ops) is
         go false is = absurd (halted (get_or_past ops p.slot Stop (ltb-false p.slot (length ops) is)))
 
-    pub can : (op : PlainOp) → op_of ops p.slot ≡ op → CanStep (length maps.words) (plain_step op p)
+    pub can : (op : IrOp) → op_of ops p.slot ≡ op → CanStep (length maps.words) (plain_step op p)
     can op is = can_by program (length maps.words) under.fit.count (step program under.machine) (plain_step op p) over
         (simulated op is)
 
-    pub touched_within : (op : PlainOp) → op_of ops p.slot ≡ op → (touch : Touch) → touched_by op p.registers
+    pub touched_within : (op : IrOp) → op_of ops p.slot ≡ op → (touch : Touch) → touched_by op p.registers
         ≡ Some touch → touch.element < length maps.words
     touched_within op is touch same = touch_within (length maps.words) (plain_step op p) (touched_by op p.registers)
         touch (as_touched op p) (can op is) same

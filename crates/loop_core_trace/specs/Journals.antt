@@ -1,6 +1,5 @@
 -- How a journal of words undoes an iteration.
-use Rattle.std.specs.Prelude.{◌≡◌, ℕ, ◌<◌, List, [], ◌∷◌, length, slice_set}
-use Rattle.std.specs.List.{AllByRecursion}
+use Rattle.std.specs.{Prelude.{◌≡◌, ℕ, ◌<◌, List, [], ◌∷◌, length, slice_set}, List.{AllByRecursion}}
 use Rattle.array_maps.specs.MapList.{MapList}
 use Rattle.loop_core_trace.specs.declared.journal.Note.{Note}
 

@@ -1,7 +1,6 @@
 -- The operator by which an iteration reduces an element.
 use Rattle.std.specs.Prelude.{◌≡◌, Bool, true, false, List, [], Option, Some, None}
-use Rattle.array_maps.specs.declared.access.Op.{Op}
-use Rattle.array_maps.specs.Accesses.{Action, Read, Write, ReadWrite, Reduce}
+use Rattle.array_maps.specs.{declared.access.Op.{Op}, Accesses.{Action, Read, Write, ReadWrite, Reduce}}
 use Rattle.loop_core_model.specs.Actions.{is_same, only_operator}
 use Rattle.loop_core_trace.specs.declared.slots.FirstReduce.{FirstReduce}
 

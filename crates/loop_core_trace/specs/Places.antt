@@ -2,9 +2,7 @@
 use Rattle.std.specs.Prelude.{◌≡◌, ℕ, true, false, List, [], ◌∷◌, Option, Some}
 use Rattle.array_maps.specs.Accesses.{Access, actions_at}
 use Rattle.bpf_insn_types.specs.Program.{Program}
-use Rattle.bpf_step_model.specs.State.{Machine, LoopCall, callback_entry}
-use Rattle.bpf_step_model.specs.Step.{Exits, step}
-use Rattle.bpf_step_model.specs.Steps.{GoesOn, Steps}
+use Rattle.bpf_step_model.specs.{State.{Machine, LoopCall, callback_entry}, Step.{Exits, step}, Steps.{GoesOn, Steps}}
 use Rattle.loop_core_model.specs.Actions.{is_write, writes, is_plain_write}
 use Rattle.loop_core_trace.specs.declared.slots.FirstReduce.{FirstReduce}
 use Rattle.loop_core_trace.specs.Operators.{operator_of, reduces_alike, AreAlike}
@@ -16,7 +14,7 @@ pub record ComesTo (program : Program) (call : LoopCall) (index : ℕ) (words : 
   pub machine : Machine
   pub between : List ℕ
   pub steps : Steps program count (callback_entry call index) words before machine between
-  pub stands : machine.slot ≡ slot
+  pub slot_is : machine.slot ≡ slot
 
 -- and that instruction makes this access
 pub record AccessesAt (program : Program) (call : LoopCall) (index : ℕ) (words : List ℕ) (slot : ℕ)

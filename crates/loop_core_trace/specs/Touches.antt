@@ -1,21 +1,13 @@
 -- Which element an operation accesses, and what comes of it.
-use Rattle.std.specs.Prelude.{ℕ, ℤ, ◌/◌, Bool, true, false, ◌==◌, if◌then◌else◌, List}
-use Rattle.std.specs.Prelude.{[], ◌∷◌, ◌++◌, slice_index, Option, Some, None}
-use Rattle.bpf_insn_types.specs.declared.insn.Width.{Width}
-use Rattle.bpf_insn_types.specs.declared.insn.Width.TheVariants.{W32, W64}
-use Rattle.bpf_insn_types.specs.declared.insn.SimpleOp.{SimpleOp}
-use Rattle.bpf_insn_types.specs.declared.insn.AtomicOp.{AtomicOp}
-use Rattle.bpf_insn_types.specs.declared.insn.AtomicOp.TheVariants.{Simple, Fetch, Xchg, Cmpxchg}
+use Rattle.std.specs.Prelude.{ℕ, ℤ, ◌/◌, Bool, true, false, ◌==◌, if◌then◌else◌, List, [], ◌∷◌, ◌++◌, slice_index}
+use Rattle.std.specs.Prelude.{Option, Some, None}
+use Rattle.bpf_insn_types.specs.declared.insn.{Width.{Width, TheVariants.{W32, W64}}, SimpleOp.{SimpleOp}}
+use Rattle.bpf_insn_types.specs.declared.insn.AtomicOp.{AtomicOp, TheVariants.{Simple, Fetch, Xchg, Cmpxchg}}
 use Rattle.array_maps.specs.declared.access.Op.{Op}
-use Rattle.bpf_step_model.specs.Step.{map_operator, half_operator}
-use Rattle.bpf_step_ir.specs.declared.plain_op.PlainOp.{PlainOp}
-use Rattle.bpf_step_ir.specs.declared.plain_op.PlainOp.TheVariants.{LoadElement, StoreElement, ChangeElement}
-use Rattle.bpf_step_ir.specs.Plain.{byte_named}
-use Rattle.loop_core_trace.specs.declared.touch.Touch.{Touch}
-use Rattle.loop_core_trace.specs.declared.slots.FirstReduce.{FirstReduce}
-use Rattle.loop_core_trace.specs.declared.slots.Slots.{Slots}
-use Rattle.loop_core_trace.specs.declared.journal.Note.{Note}
-use Rattle.loop_core_trace.specs.Operators.{reduces_alike}
+use Rattle.bpf_step_model.specs.{Step.{map_operator, half_operator}, AreaWords.{byte_named}}
+use Rattle.bpf_step_ir.specs.declared.ir_op.IrOp.{IrOp, TheVariants.{LoadElement, StoreElement, ChangeElement}}
+use Rattle.loop_core_trace.specs.declared.{touch.Touch.{Touch}, slots.{FirstReduce.{FirstReduce}, Slots.{Slots}}}
+use Rattle.loop_core_trace.specs.{declared.journal.Note.{Note}, Operators.{reduces_alike}}
 
 -- an access of this width is of a half
 abbrev pub is_half : Width → Bool
@@ -45,7 +37,7 @@ touch_at registers base offset looks writes reduces =
     }
 
 -- the access that an operation makes; a half is stored by a read and a write of its word
-abbrev pub touched_by : PlainOp → List ℕ → Option Touch
+abbrev pub touched_by : IrOp → List ℕ → Option Touch
 touched_by (LoadElement width extension dst base offset) registers =
     Some (touch_at registers base offset true false None)
 touched_by (StoreElement width base offset value) registers =

@@ -2,13 +2,9 @@
 use Rattle.std.specs.Prelude.{◌≡◌, ℕ, true, false, List, Option, Some, None}
 use Rattle.array_maps.specs.Accesses.{Access, actions_at}
 use Rattle.bpf_insn_types.specs.Program.{Program}
-use Rattle.bpf_step_model.specs.State.{LoopCall}
-use Rattle.bpf_step_model.specs.Run.{Ended}
-use Rattle.bpf_step_model.specs.Iteration.{Iterated, iteration}
+use Rattle.bpf_step_model.specs.{State.{LoopCall}, Run.{Ended}, Iteration.{Iterated, iteration}}
 use Rattle.loop_core_model.specs.Actions.{writes, exposed}
-use Rattle.loop_core_trace.specs.declared.following.Trace.{Trace}
-use Rattle.loop_core_trace.specs.declared.slots.FirstReduce.{FirstReduce}
-use Rattle.loop_core_trace.specs.declared.slots.Slots.{Slots}
+use Rattle.loop_core_trace.specs.declared.{following.Trace.{Trace}, slots.{FirstReduce.{FirstReduce}, Slots.{Slots}}}
 use Rattle.loop_core_trace.specs.Operators.{AreAlike}
 use Rattle.loop_core_trace.specs.Places.{FirstWriteAt, ExposedReadAt, FirstReduceAt, OtherAccessAt, ReturnsAt}
 
@@ -48,7 +44,7 @@ pub record AreSlots (program : Program) (call : LoopCall) (index : ℕ) (words :
 pub record IsTraceOf (program : Program) (call : LoopCall) (index : ℕ) (words : List ℕ) (element : ℕ)
     (trace : Trace) : Type 0 where
   pub iterated : Iterated
-  pub told : iteration program 4096 call index words ≡ Ended iterated
+  pub ended : iteration program 4096 call index words ≡ Ended iterated
   pub ret : trace.ret ≡ iterated.ret
   pub returns : ReturnsAt program call index words trace.exit trace.ret
   pub slots : AreSlots program call index words element iterated.accesses trace.slots

@@ -2,15 +2,13 @@
 
 ghost use Rattle.std.specs.Prelude.{◌≡◌, ◌<◌, List, [], OnOk, IfOk};
 ghost use Rattle.bpf_verify_sound.specs.Soundness.{OverApproximatesCall};
-ghost use Rattle.loop_core_trace.specs.Traced.{IsTraceOf};
-ghost use Rattle.loop_core_trace.specs.Journals.{unwound, Undoes};
+ghost use Rattle.loop_core_trace.specs.{Traced.{IsTraceOf}, Journals.{unwound, Undoes}};
 
 use crate::journal::{Note, note_access, undo};
 use crate::slots::Slots;
 use crate::touch::touch_of;
 use array_maps::{Maps, Store};
-use bpf_step::LoopCall;
-use bpf_step_ir_sound::law_of_operations;
+use bpf_step::{LoopCall, law_of_operations};
 use bpf_step_plain::{Outcome, execute};
 use bpf_verify::Verified;
 use bpf_verify_sound::{law_of_accepted_runs, law_of_steps};

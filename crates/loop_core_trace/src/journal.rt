@@ -1,9 +1,7 @@
 //! A journal of words, by which an iteration is undone.
 
-ghost use Rattle.std.specs.Prelude.{◌≡◌, ◌<◌, ℕ, length, Some, OnOk, IfOk};
-ghost use Rattle.std.specs.List.{AllByRecursion};
-ghost use Rattle.loop_core_trace.specs.Touches.{noted, slots_here};
-ghost use Rattle.loop_core_trace.specs.Journals.{unwound};
+ghost use Rattle.std.specs.{Prelude.{◌≡◌, ◌<◌, ℕ, length, Some, OnOk, IfOk}, List.{AllByRecursion}};
+ghost use Rattle.loop_core_trace.specs.{Touches.{noted, slots_here}, Journals.{unwound}};
 
 use crate::slots::Slots;
 use crate::touch::Touch;

@@ -1,9 +1,8 @@
 //! The slots at which an iteration accesses one element.
 
 ghost use Rattle.std.specs.Prelude.{◌≡◌, if◌then◌else◌, Some, None};
-ghost use Rattle.loop_core_trace.specs.Operators.{reduces_alike};
-ghost use Rattle.loop_core_trace.specs.Touches.{first_write_after, exposed_read_after, reduce_at};
-ghost use Rattle.loop_core_trace.specs.Touches.{first_reduce_after, other_after};
+ghost use Rattle.loop_core_trace.specs.{Operators.{reduces_alike}, Touches.{other_after}};
+ghost use Rattle.loop_core_trace.specs.Touches.{first_write_after, exposed_read_after, reduce_at, first_reduce_after};
 
 use crate::touch::Touch;
 use array_maps::Op;

@@ -1,13 +1,10 @@
 -- Words that are exchanged with those that were saved, page after page.
-use Rattle.std.proofs.Common.{◌≡◌, ℕ, ◌+◌, ◌/◌, ◌<◌, ◌≤◌, true, false, length, get_or}
-use Rattle.std.proofs.Common.{inl, inr, refl, sym, ◌∙◌, ap, arith}
-use Rattle.std.proofs.lemmas.Bool.{cases_eq, cases_Bool, both_ways}
+use Rattle.std.proofs.Common.{◌≡◌, ℕ, ◌+◌, ◌/◌, ◌<◌, ◌≤◌, true, false, length, get_or, inl, inr, refl, sym, ◌∙◌, ap}
+use Rattle.std.proofs.{Common.{arith}, lemmas.{Bool.{cases_eq, cases_Bool, both_ways}, Grind.{same_number_lists}}}
 use Rattle.std.proofs.lemmas.List.FromFn.{get_or-map-range_with_len, length-map-range_with_len}
-use Rattle.std.proofs.lemmas.Grind.{same_number_lists}
 use Rattle.array_maps.specs.MapList.{MapList}
-use Rattle.loop_core_undo.specs.declared.undo_log.UndoLog.{UndoLog}
+use Rattle.loop_core_undo.specs.{declared.undo_log.UndoLog.{UndoLog}, Pages.{PageIsBack, PageIsExchanged}}
 use Rattle.loop_core_undo.specs.Undo.{log_elements, is_saved, word_before, words_before}
-use Rattle.loop_core_undo.specs.Pages.{PageIsBack, PageIsExchanged}
 use Rattle.loop_core_undo.proofs.RestoreLaws.{AreBack, none_back, page_stored, page_passed}
 use Rattle.loop_core_undo.proofs.UndoLaws.{from_saved, from_now}
 

@@ -1,18 +1,12 @@
 -- Words that are put back, page after page.
-use Rattle.std.proofs.Common.{◌≡◌, ℕ, ◌+◌, ◌*◌, ◌-◌, ◌/◌, ◌<◌, ◌≤◌, true, false, List, length, get_or}
-use Rattle.std.proofs.Common.{drop, inl, inr, refl, sym, ◌∙◌, ap, arith, length-drop}
-use Rattle.std.specs.Prelude.{min, slice_range}
-use Rattle.std.proofs.lemmas.Bool.{cases_eq, cases_lt}
-use Rattle.std.proofs.lemmas.List.{get_or-take, get_or-drop, length-take}
+use Rattle.std.proofs.Common.{◌≡◌, ℕ, ◌+◌, ◌*◌, ◌-◌, ◌/◌, ◌<◌, ◌≤◌, true, false, List, length, get_or, drop, inl, inr}
+use Rattle.std.{proofs.Common.{refl, sym, ◌∙◌, ap, arith, length-drop}, specs.Prelude.{min, slice_range}}
+use Rattle.std.proofs.lemmas.{Bool.{cases_eq, cases_lt}, List.{get_or-take, get_or-drop, length-take}}
 use Rattle.std.proofs.lemmas.List.FromFn.{get_or-map-range_with_len, length-map-range_with_len}
 use Rattle.std.proofs.lemmas.Grind.{same_number_lists}
-use Rattle.array_maps.specs.Accesses.{Write, words_after_run}
-use Rattle.array_maps.specs.MapList.{MapList}
-use Rattle.loop_core_undo.specs.declared.undo_log.UndoLog.{UndoLog}
-use Rattle.loop_core_undo.specs.Undo.{log_elements, word_before, words_before}
-use Rattle.loop_core_undo.specs.Pages.{PageIsBack}
-use Rattle.loop_core_undo.proofs.RunLaws.{stored_run}
-use Rattle.loop_core_undo.proofs.UndoLaws.{from_saved, from_now}
+use Rattle.array_maps.specs.{Accesses.{Write, words_after_run}, MapList.{MapList}}
+use Rattle.loop_core_undo.specs.{declared.undo_log.UndoLog.{UndoLog}, Undo.{log_elements, word_before, words_before}}
+use Rattle.loop_core_undo.{specs.Pages.{PageIsBack}, proofs.{RunLaws.{stored_run}, UndoLaws.{from_saved, from_now}}}
 
 -- a part of a list
 pub part_length : (xs : List ℕ) (first end : ℕ) → end ≤ length xs → length (slice_range xs first end) ≡ end - first

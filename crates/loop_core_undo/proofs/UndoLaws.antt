@@ -1,15 +1,11 @@
 -- What an undo log keeps.
 use Rattle.std.proofs.Common.{◌≡◌, ℕ, ◌+◌, ◌*◌, ◌/◌, ◌<◌, ◌≤◌, not, Bool, true, false, List, length, get_or, inl, inr}
-use Rattle.std.proofs.Common.{refl, sym, subst, ◌∙◌, ap, arith}
+use Rattle.std.proofs.{Common.{refl, sym, subst, ◌∙◌, ap, arith}, lemmas.Bool.{not-true, not_from_false}}
 use Rattle.std.proofs.lemmas.Bool.{cases_Bool, cases_lt, both_ways, false_from_ne_true, or_parts, cond-true, cond-false}
-use Rattle.std.proofs.lemmas.Bool.{not-true, not_from_false}
-use Rattle.std.proofs.lemmas.List.{get_or_past}
-use Rattle.std.proofs.Math.Nat.{mul-div_cancel}
-use Rattle.std.proofs.lemmas.Grind.{same_number_lists}
+use Rattle.std.proofs.{lemmas.{List.{get_or_past}, Grind.{same_number_lists}}, Math.Nat.{mul-div_cancel}}
 use Rattle.std.proofs.lemmas.List.FromFn.{get_or-map-range_with_len, length-map-range_with_len}
-use Rattle.loop_core_undo.specs.declared.undo_log.UndoLog.{UndoLog}
+use Rattle.loop_core_undo.specs.{declared.undo_log.UndoLog.{UndoLog}, Pages.{KeepsBefore}}
 use Rattle.loop_core_undo.specs.Undo.{log_elements, is_written, is_saved, word_before, words_before, MarksMore}
-use Rattle.loop_core_undo.specs.Pages.{KeepsBefore}
 
 -- an element whose page isn't saved isn't told written
 pub unwritten : (log : UndoLog) (e : ℕ) → is_saved log e ≡ false → is_written log e ≡ false

@@ -3,13 +3,10 @@ use Rattle.std.proofs.Common.{◌≡◌, ℕ, ◌<◌, Bool, true, false, ◌||�
 use Rattle.std.proofs.Common.{length, get_or, set, inl, inr, refl, sym, ◌∙◌, ap, subst, arith, get_or-set_other}
 use Rattle.std.proofs.lemmas.Bool.{cases_eq, cases_lt, cases_Bool, both_ways, or_parts, or_left, eq-eqb, ne_eqb}
 use Rattle.std.proofs.lemmas.List.{get_or_past, set-get_or}
-use Rattle.array_maps.specs.Accesses.{Access, Action, Read, Write, ReadWrite, Reduce, actions_at}
-use Rattle.array_maps.specs.Accesses.{left_by, words_after, words_after_all}
-use Rattle.array_maps.specs.MapList.{MapList}
-use Rattle.array_maps.specs.Store.{Effects}
+use Rattle.array_maps.specs.Accesses.{Access, Action, Read, Write, ReadWrite, Reduce, actions_at, left_by, words_after}
+use Rattle.array_maps.specs.{Accesses.{words_after_all}, MapList.{MapList}, Store.{Effects}}
 use Rattle.loop_core_model.specs.Actions.{is_write, is_plain_write, writes, exposed}
-use Rattle.loop_core_undo.specs.declared.watched.Watched.{Watched}
-use Rattle.loop_core_undo.specs.Undo.{log_elements, is_written}
+use Rattle.loop_core_undo.specs.{declared.watched.Watched.{Watched}, Undo.{log_elements, is_written}}
 use Rattle.loop_core_undo.specs.Watching.{IsWatched, MeetsWritten, WatchedAll}
 
 -- an action that leaves no word

@@ -1,10 +1,9 @@
 -- Pages of an undo log: 64 elements each.
 use Rattle.std.specs.Prelude.{◌≡◌, ◌≢◌, ℕ, ◌<◌, ◌/◌, true, false, List, length, slice_index, slice_index_or}
 use Rattle.array_maps.specs.MapList.{MapList}
-use Rattle.loop_core_undo.specs.declared.undo_log.UndoLog.{UndoLog}
-use Rattle.loop_core_undo.specs.Undo.{log_elements, word_before}
+use Rattle.loop_core_undo.specs.{declared.undo_log.UndoLog.{UndoLog}, Undo.{log_elements, word_before}}
 
--- pages may have been saved: what is told written is the same, and so are the words from when the log was empty
+-- pages may have been saved: what is noted as written is the same, and so are the words from when the log was empty
 pub record KeepsBefore (now : List ℕ) (old new : UndoLog) : Type 0 where
   pub written : new.written.items ≡ old.written.items
   pub saved : (page : ℕ) → slice_index_or old.saved.items page false ≡ true

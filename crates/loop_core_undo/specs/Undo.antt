@@ -1,7 +1,6 @@
 -- What an undo log keeps: which elements were written since it was empty, and the words from before.
-use Rattle.std.specs.Prelude.{◌≡◌, ℕ, ◌<◌, ◌/◌, Bool, false, ◌||◌, if◌then◌else◌}
-use Rattle.std.specs.Prelude.{List, map, length, slice_index, slice_index_or}
-use Rattle.std.specs.List.{range_with_len}
+use Rattle.std.specs.Prelude.{◌≡◌, ℕ, ◌<◌, ◌/◌, Bool, false, ◌||◌, if◌then◌else◌, List, map, length, slice_index}
+use Rattle.std.specs.{Prelude.{slice_index_or}, List.{range_with_len}}
 use Rattle.loop_core_undo.specs.declared.undo_log.UndoLog.{UndoLog}
 
 -- for how many elements it is
@@ -31,13 +30,13 @@ pub record IsEmpty (elements : ℕ) (log : UndoLog) : Type 0 where
   pub unwritten : (e : ℕ) → is_written log e ≡ false
   pub unsaved : (e : ℕ) → is_saved log e ≡ false
 
--- some elements more are told written, before they are: the words from when the log was empty are the same
+-- some elements more are noted as written, before they are: the words from when the log was empty are the same
 pub record MarksMore (which : ℕ → Bool) (now : List ℕ) (old new : UndoLog) : Type 0 where
   pub count : log_elements new ≡ log_elements old
   pub written : (e : ℕ) → e < log_elements old → is_written new e ≡ (is_written old e || which e)
   pub before : (e : ℕ) → e < log_elements old → word_before new now e ≡ word_before old now e
 
--- where words change only at elements that are told written, the words from when the log was empty are the same
+-- where words change only at elements that are noted as written, the words from when the log was empty are the same
 abbrev pub WordsBeforeAreKept : Type 0
 WordsBeforeAreKept = (log : UndoLog) (now later : List ℕ)
     → ((e : ℕ) → is_written log e ≡ false → slice_index later e ≡ slice_index now e)

@@ -1,14 +1,12 @@
 -- What accesses do to maps that are watched.
 use Rattle.std.specs.Prelude.{◌≡◌, ℕ, ◌<◌, Bool, true, false, ◌||◌, ◌&&◌, ◌==◌, if◌then◌else◌, List, ◌∷◌, ◌++◌}
 use Rattle.std.specs.Prelude.{slice_index}
-use Rattle.array_maps.specs.Accesses.{Access, words_after, words_after_all, actions_at}
-use Rattle.array_maps.specs.Store.{Effects}
+use Rattle.array_maps.specs.{Accesses.{Access, words_after, words_after_all, actions_at}, Store.{Effects}}
 use Rattle.loop_core_model.specs.Actions.{is_write, is_plain_write, writes, exposed}
-use Rattle.loop_core_undo.specs.declared.watched.Watched.{Watched}
-use Rattle.loop_core_undo.specs.Undo.{log_elements, is_written, word_before}
+use Rattle.loop_core_undo.specs.{declared.watched.Watched.{Watched}, Undo.{log_elements, is_written, word_before}}
 
--- the maps after an access; its element is told written where it leaves a word there, and the words from when the log
--- was empty are the same; a plain write meets nothing, and any other access does where its element was written; so
+-- the maps after an access; its element is noted as written where it leaves a word there, and the words from when the
+-- log was empty are the same; a plain write meets nothing, and any other access does where its element was written; so
 -- where nothing was met, nothing was met before, and it is a plain write, or its element wasn't written
 pub record IsWatched (old : Watched) (access : Access) (new : Watched) : Type 0 where
   pub maps : new.maps.now ≡ record { sizes = old.maps.now.sizes; words = words_after access old.maps.now.words }
@@ -25,7 +23,7 @@ pub record IsWatched (old : Watched) (access : Access) (new : Watched) : Type 0 
   pub unmet : new.met ≡ false → is_plain_write access.action ≡ false → is_written old.log.now access.element ≡ false
 
 -- one of a list of accesses isn't a plain write, and is of an element that was written: before them all, by what is
--- told written, or by those before it
+-- noted as written, or by those before it
 pub record MeetsWritten (written : ℕ → Bool) (accesses : List Access) : Type 0 where
   pub front : List Access
   pub access : Access
@@ -43,10 +41,10 @@ pub record WatchedAll (old : Watched) (accesses : List Access) (new : Watched) :
   pub sizes : new.maps.now.sizes ≡ old.maps.now.sizes
   pub words : new.maps.now.words ≡ words_after_all accesses old.maps.now.words
   pub count : log_elements new.log.now ≡ log_elements old.log.now
-  -- an element is told written where it was, or where they write it
+  -- an element is noted as written where it was, or where they write it
   pub written : (e : ℕ) → e < log_elements old.log.now → is_written new.log.now e
       ≡ (is_written old.log.now e || writes (actions_at e accesses))
-  -- the word of an element that isn't told written is the same
+  -- the word of an element that isn't noted as written is the same
   pub unwritten : (e : ℕ) → e < log_elements old.log.now → is_written new.log.now e ≡ false
       → slice_index new.maps.now.words e ≡ slice_index old.maps.now.words e
   -- so are the words from when the log was empty

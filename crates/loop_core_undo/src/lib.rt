@@ -6,7 +6,7 @@
 //! let mut watched = Watched::new(&mut maps, &mut log);
 //! watched.store(3, 7);
 //! watched.load(3);
-//! watched.has_met();                                  // true: element 3 was read after it was written
+//! watched.has_dependence();                                  // true: element 3 was read after it was written
 //! log.restore(&mut maps);                             // all are zero again
 //! ```
 #![tactic(auto)]
@@ -16,13 +16,12 @@ mod runs;
 mod undo_log;
 mod watched;
 
-ghost use Rattle.loop_core_undo.specs.Undo.{WordsBeforeAreKept};
-ghost use Rattle.loop_core_undo.specs.Watching.{AccessesAreWatched};
+ghost use Rattle.loop_core_undo.specs.{Undo.{WordsBeforeAreKept}, Watching.{AccessesAreWatched}};
 
 pub use undo_log::UndoLog;
 pub use watched::Watched;
 
-/// The law of undo logs: the words from before are the same after changes at elements that are told written.
+/// The law of undo logs: the words from before are the same after changes at elements that are noted as written.
 pub fn law_of_words_before()
     ensures { WordsBeforeAreKept }
 {}

@@ -1,8 +1,7 @@
 //! The pages of an undo log.
 
 ghost use Rattle.std.specs.Prelude.{◌≡◌, ℕ, ◌+◌, ◌*◌, ◌<◌, ◌≤◌, true, false, length, slice_index_or};
-ghost use Rattle.loop_core_undo.specs.Undo.{log_elements, is_saved};
-ghost use Rattle.loop_core_undo.specs.Pages.{KeepsBefore, PageIsBack, PageIsExchanged};
+ghost use Rattle.loop_core_undo.specs.{Undo.{log_elements, is_saved}, Pages.{KeepsBefore, PageIsBack, PageIsExchanged}};
 
 use crate::runs::{copy_words, exchange_words, set_flags};
 use crate::undo_log::UndoLog;

@@ -1,7 +1,7 @@
 //! An undo log.
 
-ghost use Rattle.std.specs.Prelude.{◌≡◌, ℕ, ◌+◌, ◌/◌, ◌<◌, ◌≤◌, ◌↔◌, ◌&&◌, ◌==◌, true, false};
-ghost use Rattle.std.specs.Prelude.{nat_le, nat_lt, length, slice_index_or, IfOk};
+ghost use Rattle.std.specs.Prelude.{◌≡◌, ℕ, ◌+◌, ◌/◌, ◌<◌, ◌≤◌, ◌↔◌, ◌&&◌, ◌==◌, true, false, nat_le, nat_lt, length};
+ghost use Rattle.std.specs.Prelude.{slice_index_or, IfOk};
 
 use crate::runs::{is_any_set, set_flags};
 use array_maps::Maps;

@@ -6,7 +6,7 @@ ghost use Rattle.loop_core_undo.specs.Undo.{log_elements};
 use crate::undo_log::UndoLog;
 use array_maps::{Half, Maps, Op, Part, Rmw, Store};
 
-/// Maps whose accesses are noted in an undo log. It tells whether one of them met an element that was written before:
+/// Maps whose accesses are noted in an undo log. It knows whether one of them met an element that was written before:
 /// whether it saw or reduced it.
 #[derive(Drop)]
 pub struct Watched<'w> {
@@ -34,7 +34,7 @@ impl<'w> Watched<'w> {
     }
 
     /// Whether an access saw or reduced an element that was written before it.
-    pub fn has_met(&self) -> bool
+    pub fn has_dependence(&self) -> bool
         ensures { result ≡ self.now.met }
     {
         self.met

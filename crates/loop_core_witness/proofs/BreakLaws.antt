@@ -1,24 +1,17 @@
 -- The iteration at which a loop breaks.
-use Rattle.std.proofs.Common.{◌≡◌, ℕ, ◌≤◌, ◌<◌, List, length, Option}
-use Rattle.std.proofs.Common.{Some, None, refl, sym, ap, subst, ◌∙◌, arith}
-use Rattle.std.specs.Prelude.{◌==◌, Bool, true}
-use Rattle.std.proofs.lemmas.Bool.Decides.{nat_tests}
-use Rattle.std.specs.List.{sum}
+use Rattle.std.proofs.Common.{◌≡◌, ℕ, ◌≤◌, ◌<◌, List, length, Option, Some, None, refl, sym, ap, subst, ◌∙◌, arith}
+use Rattle.std.{specs.{Prelude.{◌==◌, Bool, true}, List.{sum}}, proofs.lemmas.Bool.Decides.{nat_tests}}
 use Rattle.array_maps.specs.MapList.{MapList, AreWords}
 use Rattle.bpf_insn_types.specs.Program.{Program}
-use Rattle.bpf_verify_sound.specs.Soundness.{IsSoundProgram, OverApproximatesCall, IterationEnds}
-use Rattle.bpf_verify_sound.specs.Soundness.{callback_count, EachProgramEnds, EachCountIsSmall}
+use Rattle.bpf_verify_sound.specs.Soundness.{IsSoundProgram, OverApproximatesCall, IterationEnds, callback_count}
+use Rattle.bpf_verify_sound.specs.Soundness.{EachProgramEnds, EachCountIsSmall}
 use Rattle.bpf_step.proofs.Limits.{iterations_end, map_words}
-use Rattle.bpf_step_model.specs.State.{LoopCall}
-use Rattle.bpf_step_model.specs.Run.{BoundedResult, Ended, Stuck, Unfinished}
+use Rattle.bpf_step_model.specs.{State.{LoopCall}, Run.{BoundedResult, Ended, Stuck, Unfinished}}
 use Rattle.bpf_step_model.specs.Iteration.{Iterated, iteration}
 use Rattle.loop_core_model.specs.LeastBreak.{is_break, least_break, count_to, counted}
 use Rattle.loop_core_model.proofs.Least.{IsLeast, LeastIs, least_is, counts_to}
-use Rattle.loop_core_trace.specs.declared.following.Trace.{Trace}
-use Rattle.loop_core_trace.specs.Places.{ReturnsAt}
-use Rattle.loop_core_trace.specs.Traced.{IsTraceOf}
-use Rattle.loop_core_witness.specs.declared.place.Place.{Place}
-use Rattle.loop_core_witness.specs.Breaks.{index_of, IsBreak, AreCounted}
+use Rattle.loop_core_trace.specs.{declared.following.Trace.{Trace}, Places.{ReturnsAt}, Traced.{IsTraceOf}}
+use Rattle.loop_core_witness.specs.{declared.place.Place.{Place}, Breaks.{index_of, IsBreak, AreCounted}}
 
 is_one : (n : ℕ) → (n == 1) ≡ true → n ≡ 1
 is_one n h = grind (arith, nat_tests)
@@ -39,7 +32,7 @@ module _ (program : Program) (call : LoopCall) (words : List ℕ) where
       → IsTraceOf program call index words element trace →
       IsBreak program call words (Some (record { index = index; slot = trace.exit }))
   breaks_here index element trace is it =
-      let passes : (it.iterated.ret == 1) ≡ true = sym (ap is_break it.told) ∙ (least_there index is).passes in
+      let passes : (it.iterated.ret == 1) ≡ true = sym (ap is_break it.ended) ∙ (least_there index is).passes in
       let one : trace.ret ≡ 1 = it.ret ∙ is_one it.iterated.ret passes in
       (is, subst (λ (ret : ℕ). ReturnsAt program call index words trace.exit ret) one it.returns)
 

@@ -1,30 +1,18 @@
 -- The access by which an element isn't reduction-only.
 use Rattle.std.proofs.Common.{◌≡◌, ℕ, zero, suc, ◌+◌, ◌-◌, ◌≤◌, ◌<◌, Bool, true, false, List, [], ◌++◌, map, take}
-use Rattle.std.proofs.Common.{Option, Some, None, refl, sym, ap, subst, ◌∙◌, arith}
-use Rattle.std.specs.Prelude.{if◌then◌else◌, slice_index_or}
-use Rattle.std.specs.List.{range_with_len}
-use Rattle.std.proofs.lemmas.List.{append-nil, take_all}
-use Rattle.array_maps.specs.declared.access.Op.{Op}
-use Rattle.array_maps.specs.Accesses.{Action, Access, actions_at}
+use Rattle.std.{proofs.Common.{Option, Some, None, refl, sym, ap, subst, ◌∙◌, arith}, specs.List.{range_with_len}}
+use Rattle.std.{specs.Prelude.{if◌then◌else◌, slice_index_or}, proofs.lemmas.List.{append-nil, take_all}}
+use Rattle.array_maps.specs.{declared.access.Op.{Op}, Accesses.{Action, Access, actions_at}}
 use Rattle.bpf_insn_types.specs.Program.{Program}
-use Rattle.bpf_step_model.specs.State.{LoopCall}
-use Rattle.bpf_step_model.specs.Run.{BoundedResult, Ended, mapped}
-use Rattle.bpf_step_model.specs.Iteration.{Iterated, iteration}
-use Rattle.loop_core_model.specs.Actions.{is_same, reduces_by, joined, only_operator}
-use Rattle.loop_core_model.specs.Conflict.{at_element}
-use Rattle.loop_core_model.specs.LeastBreak.{all_ended, accesses_of_each}
-use Rattle.loop_core_model.proofs.OneElement.{same_op}
-use Rattle.loop_core_trace.specs.declared.following.Trace.{Trace}
-use Rattle.loop_core_trace.specs.declared.slots.FirstReduce.{FirstReduce}
-use Rattle.loop_core_trace.specs.Operators.{AreAlike}
-use Rattle.loop_core_trace.specs.Places.{AccessesAt, FirstReduceAt, OtherAccessAt}
-use Rattle.loop_core_trace.specs.Traced.{ReduceIs, OtherIs, IsTraceOf}
-use Rattle.loop_core_trace.proofs.OperatorLaws.{by_more}
-use Rattle.loop_core_witness.specs.declared.place.Place.{Place}
-use Rattle.loop_core_witness.specs.Breaks.{AreCounted}
-use Rattle.loop_core_witness.specs.Reductions.{are_reduces, GoOn, AreQuiet, EndsReduction, IsEnd, TellsEnd}
+use Rattle.bpf_step_model.specs.{State.{LoopCall}, Run.{BoundedResult, Ended, mapped}, Iteration.{Iterated, iteration}}
+use Rattle.loop_core_model.specs.{Actions.{is_same, reduces_by, joined, only_operator}, Conflict.{at_element}}
+use Rattle.loop_core_model.{specs.LeastBreak.{all_ended, accesses_of_each}, proofs.OneElement.{same_op}}
+use Rattle.loop_core_trace.specs.declared.{following.Trace.{Trace}, slots.FirstReduce.{FirstReduce}}
+use Rattle.loop_core_trace.specs.{Operators.{AreAlike}, Places.{AccessesAt, FirstReduceAt, OtherAccessAt}}
+use Rattle.loop_core_trace.{specs.Traced.{ReduceIs, OtherIs, IsTraceOf}, proofs.OperatorLaws.{by_more}}
+use Rattle.loop_core_witness.{specs.{declared.place.Place.{Place}, Breaks.{AreCounted}}, proofs.Runs.{AllRan, all_ran}}
+use Rattle.loop_core_witness.specs.Reductions.{are_reduces, GoOn, AreQuiet, EndsReduction, IsEnd, HasEnd}
 use Rattle.loop_core_witness.specs.Reductions.{operator_after, end_slot}
-use Rattle.loop_core_witness.proofs.Runs.{AllRan, all_ran}
 use Rattle.loop_core_witness.proofs.ReductionLaws.{joined-take, IsKept, IsOff, off_alike, off_first, off_none}
 use Rattle.loop_core_witness.proofs.ReductionLaws.{off_other, kept_reduces, kept_ends, kept_on, kept_quiet}
 
@@ -57,7 +45,7 @@ module _ (program : Program) (call : LoopCall) (words : List ℕ) (element : ℕ
       let from_zero : index ≡ 0 + index = omega arith in
       let one : suc index ≡ next = omega (arith, is) in
       let here : slice_index_or (Iterations ran) index [] ≡ actions_at element it.iterated.accesses =
-      ran.at index index below from_zero it.iterated it.told element in
+      ran.at index index below from_zero it.iterated it.ended element in
       let split : joined (take next (Iterations ran)) ≡ joined (take index (Iterations ran))
       ++ actions_at element it.iterated.accesses =
       ap (λ (n : ℕ). joined (take n (Iterations ran))) (sym one) ∙ joined-take (Iterations ran) index
@@ -194,11 +182,11 @@ module _ (program : Program) (call : LoopCall) (words : List ℕ) (element : ℕ
         counts.ends index below)
 
     tells : (told : Option Place) → IsEnd program call words element (Iterations all_counted) told
-        → TellsEnd program call words element told
+        → HasEnd program call words element told
     tells told is = record {
       runs = accesses_of_each all_counted.its;
       counted = ap (λ (n : ℕ). mapped accesses_of_each (all_ended (map Iterate (range_with_len 0 n)))) (sym counts.all)
-          ∙ ap (mapped accesses_of_each) all_counted.told;
+          ∙ ap (mapped accesses_of_each) all_counted.ended;
       end = is;
     }
 
@@ -206,7 +194,7 @@ module _ (program : Program) (call : LoopCall) (words : List ℕ) (element : ℕ
     pub found : (kept : Option Op) (index slot : ℕ) (trace : Trace) → index < count
         → IsTraceOf program call index words element trace → KeptUpTo count kept index
         → end_slot kept trace.slots.reduce trace.slots.other ≡ Some slot →
-        TellsEnd program call words element (Some (record { index = index; slot = slot }))
+        HasEnd program call words element (Some (record { index = index; slot = slot }))
     found kept index slot trace below it so_far is =
         tells (Some (record { index = index; slot = slot }))
         (ended_here all_counted kept index slot below trace.slots.reduce trace.slots.other it.iterated.accesses
@@ -214,7 +202,7 @@ module _ (program : Program) (call : LoopCall) (words : List ℕ) (element : ℕ
 
     -- or in none
     pub found_none : (kept : Option Op) (index : ℕ) → count ≤ index → KeptUpTo count kept index
-        → TellsEnd program call words element None
+        → HasEnd program call words element None
     found_none kept index past so_far =
         let long = all_counted.long element in
         let all : take index (Iterations all_counted) ≡ Iterations all_counted =

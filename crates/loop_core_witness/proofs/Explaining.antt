@@ -1,29 +1,18 @@
 -- What is told of an element.
-use Rattle.std.proofs.Common.{◌≡◌, ◌≢◌, ℕ, ◌+◌, ◌<◌, ◌≤◌, List, map, Option, Some}
-use Rattle.std.proofs.Common.{None, refl, sym, ap, subst, ◌∙◌, arith}
-use Rattle.std.specs.Prelude.{Bool, true, false}
-use Rattle.std.specs.List.{range_with_len}
+use Rattle.std.proofs.Common.{◌≡◌, ◌≢◌, ℕ, ◌+◌, ◌<◌, ◌≤◌, List, map, Option, Some, None, refl, sym, ap, subst, ◌∙◌}
+use Rattle.std.{proofs.Common.{arith}, specs.{Prelude.{Bool, true, false}, List.{range_with_len}}}
 use Rattle.array_maps.specs.Accesses.{Action}
 use Rattle.bpf_insn_types.specs.Program.{Program}
-use Rattle.bpf_step_model.specs.State.{LoopCall}
-use Rattle.bpf_step_model.specs.Run.{BoundedResult, mapped}
-use Rattle.bpf_step_model.specs.Iteration.{Iterated, iteration}
-use Rattle.loop_core_model.specs.declared.loop_test.Test.{Test}
-use Rattle.loop_core_model.specs.declared.loop_test.Test.TheVariants.{Lrpd, Flow}
-use Rattle.loop_core_model.specs.Conflict.{fails, FailingPair}
-use Rattle.loop_core_model.specs.LeastBreak.{all_ended, accesses_of_each}
+use Rattle.bpf_step_model.specs.{State.{LoopCall}, Run.{BoundedResult, mapped}, Iteration.{Iterated, iteration}}
+use Rattle.loop_core_model.specs.declared.loop_test.Test.{Test, TheVariants.{Lrpd, Flow}}
+use Rattle.loop_core_model.specs.{Conflict.{fails, FailingPair}, LeastBreak.{all_ended, accesses_of_each}}
 use Rattle.loop_core_model.proofs.FailingPairs.{fails_by_pair}
-use Rattle.loop_core_witness.specs.declared.kind.Kind.{Kind}
-use Rattle.loop_core_witness.specs.declared.kind.Kind.TheVariants.{FirstWrite, ExposedRead}
-use Rattle.loop_core_witness.specs.declared.place.Place.{Place}
-use Rattle.loop_core_witness.specs.declared.witness.Witness.{Witness}
-use Rattle.loop_core_witness.specs.Breaks.{AreCounted}
-use Rattle.loop_core_witness.specs.Firsts.{NoneDoes, FirstAt, FirstIs}
-use Rattle.loop_core_witness.specs.Witnesses.{IsTold, Explains}
-use Rattle.loop_core_witness.proofs.BreakLaws.{counted_within}
-use Rattle.loop_core_witness.proofs.Runs.{AllRan, all_ran}
-use Rattle.loop_core_witness.proofs.PairLaws.{iterations, none_writes, none_reads, flow_none, flow_found}
-use Rattle.loop_core_witness.proofs.PairLaws.{two_found, writer_found, lrpd_none, reader_found}
+use Rattle.loop_core_witness.specs.declared.kind.Kind.{Kind, TheVariants.{FirstWrite, ExposedRead}}
+use Rattle.loop_core_witness.specs.{declared.{place.Place.{Place}, witness.Witness.{Witness}}, Breaks.{AreCounted}}
+use Rattle.loop_core_witness.specs.{Firsts.{NoneDoes, FirstAt, FirstIs}, Witnesses.{WitnessIs, Explains}}
+use Rattle.loop_core_witness.proofs.{BreakLaws.{counted_within}, Runs.{AllRan, all_ran}}
+use Rattle.loop_core_witness.proofs.PairLaws.{iterations, none_writes, none_reads, flow_none, flow_found, two_found}
+use Rattle.loop_core_witness.proofs.PairLaws.{writer_found, lrpd_none, reader_found}
 
 -- without a pair the test doesn't fail
 no_pair : (test : Test) (its : List (List Action)) → (FailingPair test its → ⊥) → fails test its ≡ false
@@ -50,12 +39,12 @@ module _ {program : Program} {call : LoopCall} {words : List ℕ} {count : ℕ} 
   abbrev Iterations : List (List Action)
   Iterations = iterations program call words element count all_counted
 
-  explains : (test : Test) (told : Option Witness) → IsTold test program call words element Iterations told
+  explains : (test : Test) (told : Option Witness) → WitnessIs test program call words element Iterations told
       → Explains test program call words element told
   explains test told is = record {
     runs = accesses_of_each all_counted.its;
     counted = ap (λ (n : ℕ). mapped accesses_of_each (all_ended (map Iterate (range_with_len 0 n)))) (sym counts.all)
-        ∙ ap (mapped accesses_of_each) all_counted.told;
+        ∙ ap (mapped accesses_of_each) all_counted.ended;
     pair = is;
   }
 

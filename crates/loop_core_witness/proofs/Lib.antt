@@ -6,3 +6,6 @@ pub mod PairLaws
 pub mod Explaining
 pub mod ReductionLaws
 pub mod EndLaws
+pub mod GridLaws
+pub mod SpanLaws
+pub mod TouchLaws

@@ -1,23 +1,15 @@
 -- Pairs of iterations that fail a test.
-use Rattle.std.proofs.Common.{◌≡◌, ◌≢◌, ℕ, ◌+◌, ◌≤◌, ◌<◌, ◌⊎◌, inl, inr, List, []}
-use Rattle.std.proofs.Common.{length, Option, Some, None, refl, ap, ◌∙◌, arith}
-use Rattle.std.specs.Prelude.{Bool, true, false, is_some, slice_index_or}
+use Rattle.std.proofs.Common.{◌≡◌, ◌≢◌, ℕ, ◌+◌, ◌≤◌, ◌<◌, ◌⊎◌, inl, inr, List, [], length, Option, Some, None, refl, ap}
+use Rattle.std.{proofs.Common.{◌∙◌, arith}, specs.Prelude.{Bool, true, false, is_some, slice_index_or}}
 use Rattle.std.proofs.lemmas.Bool.{cases_lt}
 use Rattle.array_maps.specs.Accesses.{Action, Access, actions_at}
 use Rattle.bpf_insn_types.specs.Program.{Program}
-use Rattle.bpf_step_model.specs.State.{LoopCall}
-use Rattle.bpf_step_model.specs.Iteration.{iteration}
-use Rattle.loop_core_model.specs.declared.loop_test.Test.{Test}
-use Rattle.loop_core_model.specs.declared.loop_test.Test.TheVariants.{Lrpd, Flow}
-use Rattle.loop_core_model.specs.Conflict.{at_element, FailingPair, Opposed}
-use Rattle.loop_core_model.specs.LeastBreak.{accesses_of_each}
-use Rattle.loop_core_model.proofs.FirstBreak.{NoneIn}
-use Rattle.loop_core_witness.specs.declared.kind.Kind.{Kind}
-use Rattle.loop_core_witness.specs.declared.kind.Kind.TheVariants.{FirstWrite, ExposedRead}
-use Rattle.loop_core_witness.specs.declared.place.Place.{Place}
-use Rattle.loop_core_witness.specs.Firsts.{does, IsAt, Does, NoneDoes, FirstAt}
-use Rattle.loop_core_witness.specs.Witnesses.{IsWitness}
-use Rattle.loop_core_witness.proofs.Runs.{AllRan}
+use Rattle.bpf_step_model.specs.{State.{LoopCall}, Iteration.{iteration}}
+use Rattle.loop_core_model.{specs.declared.loop_test.Test.{Test, TheVariants.{Lrpd, Flow}}, proofs.FirstBreak.{NoneIn}}
+use Rattle.loop_core_model.specs.{Conflict.{at_element, FailingPair, Opposed}, LeastBreak.{accesses_of_each}}
+use Rattle.loop_core_witness.specs.declared.kind.Kind.{Kind, TheVariants.{FirstWrite, ExposedRead}}
+use Rattle.loop_core_witness.specs.{declared.place.Place.{Place}, Firsts.{does, IsAt, Does, NoneDoes, FirstAt}}
+use Rattle.loop_core_witness.{specs.Witnesses.{IsWitness}, proofs.Runs.{AllRan}}
 
 -- where none from one number up to another passes, one that does isn't below
 pub not_below : (test : ℕ → Bool) (from past k : ℕ) → NoneIn test from past → from ≤ k → test k ≡ true → past ≤ k
@@ -48,7 +40,7 @@ module _ (program : Program) (call : LoopCall) (words : List ℕ) (element count
       slot → Passes kind index ≡ is_some slot
   does_is kind index below slot it =
       let from_zero : index ≡ 0 + index = omega arith in
-      ap (does kind) (all.at index index below from_zero it.iterated it.told element)
+      ap (does kind) (all.at index index below from_zero it.iterated it.ended element)
       ∙ by_kind kind index it.iterated.accesses slot it.seen
 
   none_is : (kind : Kind) (from past : ℕ) → past ≤ count → NoneDoes kind program call words element from past
@@ -130,7 +122,7 @@ module _ (program : Program) (call : LoopCall) (words : List ℕ) (element count
         IsWitness Flow program call words element iterations (record { writer = w; reader = r })
     flow_found r first_reader =
         witnessed Flow 0 (w.index + 1) w r first_writer first_reader
-        (let behind = first_reader.behind in omega (arith, behind))
+        (let behind = first_reader.after in omega (arith, behind))
         (λ other.
         let low = writer_low Flow other in
         let order : other.writer < other.reader = other.opposed in
@@ -157,7 +149,7 @@ module _ (program : Program) (call : LoopCall) (words : List ℕ) (element count
             IsWitness Lrpd program call words element iterations (record { writer = v; reader = r })
         writer_found v next_writer =
             witnessed Lrpd (w.index + 1) 0 v r next_writer first_reader
-            (let behind = next_writer.behind in omega (arith, behind, one)) (λ other. reader_low Lrpd other)
+            (let behind = next_writer.after in omega (arith, behind, one)) (λ other. reader_low Lrpd other)
             (λ other same.
             let low = writer_low Lrpd other in
             let apart : other.writer ≢ other.reader = other.opposed in
@@ -198,7 +190,7 @@ module _ (program : Program) (call : LoopCall) (words : List ℕ) (element count
               IsWitness Lrpd program call words element iterations (record { writer = w; reader = v })
           reader_found v next_reader =
               witnessed Lrpd 0 (w.index + 1) w v first_writer next_reader
-              (let behind = next_reader.behind in omega (arith, behind))
+              (let behind = next_reader.after in omega (arith, behind))
               (λ other.
               not_below (Passes ExposedRead) (w.index + 1) v.index other.reader (before ExposedRead (w.index + 1) v
               next_reader)

@@ -1,14 +1,9 @@
 -- Reductions by one operator, and the action that ends one.
-use Rattle.std.proofs.Common.{◌≡◌, ℕ, zero, suc, Bool, true, false, List, [], ◌∷◌, ◌++◌, take}
-use Rattle.std.proofs.Common.{Option, Some, None, refl, sym, ap, subst, ◌∙◌}
-use Rattle.std.specs.Prelude.{◌&&◌, if◌then◌else◌, is_some, slice_index_or}
-use Rattle.std.specs.List.{list_all}
-use Rattle.std.proofs.lemmas.List.{append-nil, append_assoc}
-use Rattle.std.proofs.lemmas.List.Folds.{list_all-append}
-use Rattle.array_maps.specs.declared.access.Op.{Op}
-use Rattle.array_maps.specs.Accesses.{Action, Read, Write, ReadWrite, Reduce}
-use Rattle.loop_core_model.specs.Actions.{is_same, reduces_by, joined, only_operator}
-use Rattle.loop_core_model.proofs.OneElement.{same_op}
+use Rattle.std.proofs.Common.{◌≡◌, ℕ, zero, suc, Bool, true, false, List, [], ◌∷◌, ◌++◌, take, Option, Some, None, refl}
+use Rattle.std.{proofs.Common.{sym, ap, subst, ◌∙◌}, specs.Prelude.{◌&&◌, if◌then◌else◌, is_some, slice_index_or}}
+use Rattle.std.{specs.List.{list_all}, proofs.lemmas.List.{append-nil, append_assoc, Folds.{list_all-append}}}
+use Rattle.array_maps.specs.{declared.access.Op.{Op}, Accesses.{Action, Read, Write, ReadWrite, Reduce}}
+use Rattle.loop_core_model.{specs.Actions.{is_same, reduces_by, joined, only_operator}, proofs.OneElement.{same_op}}
 use Rattle.loop_core_trace.specs.declared.slots.FirstReduce.{FirstReduce}
 use Rattle.loop_core_trace.specs.Operators.{operator_of, reduces_alike, AreAlike}
 use Rattle.loop_core_trace.proofs.OperatorLaws.{of_one, chosen, by_more}

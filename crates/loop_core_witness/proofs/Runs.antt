@@ -1,17 +1,14 @@
 -- Iterations that all end, and what each did at an element.
 use Rattle.std.proofs.Common.{◌≡◌, ℕ, zero, suc, ◌+◌, ◌≤◌, ◌<◌, List, [], ◌∷◌, length, map, refl, sym, ap, ◌∙◌, arith}
-use Rattle.std.specs.Prelude.{slice_index_or}
-use Rattle.std.specs.List.{range_with_len}
+use Rattle.std.specs.{Prelude.{slice_index_or}, List.{range_with_len}}
 use Rattle.array_maps.specs.Accesses.{actions_at}
-use Rattle.bpf_step_model.specs.Run.{BoundedResult, Ended, followed}
-use Rattle.bpf_step_model.specs.Iteration.{Iterated}
-use Rattle.loop_core_model.specs.Conflict.{at_element}
-use Rattle.loop_core_model.specs.LeastBreak.{in_front_of, all_ended, accesses_of_each}
+use Rattle.bpf_step_model.specs.{Run.{BoundedResult, Ended, followed}, Iteration.{Iterated}}
+use Rattle.loop_core_model.specs.{Conflict.{at_element}, LeastBreak.{in_front_of, all_ended, accesses_of_each}}
 
 -- a number of iterations from a first index on ended
 pub record AllRan (iterate : ℕ → BoundedResult Iterated) (first count : ℕ) : Type 0 where
   pub its : List Iterated
-  pub told : all_ended (map iterate (range_with_len first count)) ≡ Ended its
+  pub ended : all_ended (map iterate (range_with_len first count)) ≡ Ended its
   pub long : (e : ℕ) → length (at_element e (accesses_of_each its)) ≡ count
   pub at : (k index : ℕ) → k < count → index ≡ first + k → (it : Iterated) → iterate index ≡ Ended it → (e : ℕ) →
       slice_index_or (at_element e (accesses_of_each its)) k [] ≡ actions_at e it.accesses
@@ -22,8 +19,8 @@ one_more : (iterate : ℕ → BoundedResult Iterated) (first count : ℕ) (here 
     AllRan iterate first (suc count)
 one_more iterate first count here is rest = record {
   its = here ∷ rest.its;
-  told = ap (followed (in_front_of (all_ended (map iterate (range_with_len (first + 1) count))))) is
-      ∙ ap (λ (others : BoundedResult (List Iterated)). in_front_of others here) rest.told;
+  ended = ap (followed (in_front_of (all_ended (map iterate (range_with_len (first + 1) count))))) is
+      ∙ ap (λ (others : BoundedResult (List Iterated)). in_front_of others here) rest.ended;
   long = λ e. ap suc (rest.long e);
   at = at;
 }
@@ -45,7 +42,7 @@ pub all_ran : (iterate : ℕ → BoundedResult Iterated) (first count : ℕ) →
     → AllRan iterate first count
 all_ran iterate first zero each = record {
   its = [];
-  told = refl;
+  ended = refl;
   long = λ e. refl;
   at = λ k index below is it ends e. absurd (omega (arith, below));
 }

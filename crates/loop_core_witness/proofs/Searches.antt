@@ -1,14 +1,10 @@
 -- Searching iterations in order.
 use Rattle.std.proofs.Common.{◌≡◌, ℕ, ◌+◌, ◌≤◌, ◌<◌, ◌⊎◌, inl, inr, List, Option, None, sym, subst, arith, eqb}
-use Rattle.std.specs.Prelude.{true, false}
-use Rattle.std.proofs.lemmas.Bool.{cases_lt}
-use Rattle.std.proofs.lemmas.Bool.Decides.{eqb_tells}
+use Rattle.std.{specs.Prelude.{true, false}, proofs.lemmas.Bool.{cases_lt, Decides.{eqb_tells}}}
 use Rattle.bpf_insn_types.specs.Program.{Program}
 use Rattle.bpf_step_model.specs.State.{LoopCall}
-use Rattle.loop_core_trace.specs.declared.following.Trace.{Trace}
-use Rattle.loop_core_trace.specs.Traced.{IsTraceOf}
-use Rattle.loop_core_witness.specs.declared.kind.Kind.{Kind}
-use Rattle.loop_core_witness.specs.declared.kind.Kind.TheVariants.{FirstWrite, ExposedRead}
+use Rattle.loop_core_trace.specs.{declared.following.Trace.{Trace}, Traced.{IsTraceOf}}
+use Rattle.loop_core_witness.specs.declared.kind.Kind.{Kind, TheVariants.{FirstWrite, ExposedRead}}
 use Rattle.loop_core_witness.specs.Firsts.{slot_of, IsAt, Does, NoneDoes}
 
 module _ (kind : Kind) (program : Program) (call : LoopCall) (words : List ℕ) (element : ℕ) where
@@ -23,7 +19,7 @@ module _ (kind : Kind) (program : Program) (call : LoopCall) (words : List ℕ) 
       Does kind program call words element index slot
   traced index trace it slot is =
       subst (Does kind program call words element index) (sym is)
-      (record { iterated = it.iterated; told = it.told; seen = at_slot kind index trace it })
+      (record { iterated = it.iterated; ended = it.ended; seen = at_slot kind index trace it })
 
   -- none yet
   pub none_yet : (from : ℕ) → NoneDoes kind program call words element from from

@@ -1,34 +1,22 @@
 -- What the planes of a stretch tell of its iterations.
 use Rattle.std.proofs.Common.{◌≡◌, ℕ, zero, suc, ◌+◌, ◌-◌, ◌≤◌, ◌<◌, Bool, true, false, not, ◌&&◌, ◌||◌, ◌⊎◌, inl, inr}
 use Rattle.std.proofs.Common.{◌/◌, List, [], ◌∷◌, length, Option, Some, None, refl, sym, ap, subst, ◌∙◌, arith, eqb}
-use Rattle.std.specs.Prelude.{if◌then◌else◌, ◌==◌, nat_lt}
-use Rattle.std.specs.List.{list_any, list_all}
+use Rattle.std.specs.{Prelude.{if◌then◌else◌, ◌==◌, nat_lt}, List.{list_any, list_all}}
 use Rattle.std.proofs.lemmas.Bool.Decides.{eqb_tells, nat_tests}
-use Rattle.array_maps.specs.declared.access.Op.{Op}
-use Rattle.array_maps.specs.declared.access.Op.TheVariants.{Add, Or, And, Xor, AddH}
+use Rattle.array_maps.specs.declared.access.Op.{Op, TheVariants.{Add, Or, And, Xor, AddH}}
 use Rattle.array_maps.specs.Accesses.{Action, Read, Write, ReadWrite, Reduce, Access, actions_at}
 use Rattle.bpf_insn_types.specs.Program.{Program}
-use Rattle.bpf_step_model.specs.State.{LoopCall}
-use Rattle.bpf_step_model.specs.Run.{BoundedResult, Ended, Stuck, Unfinished, followed}
-use Rattle.bpf_step_model.specs.Iteration.{Iterated, iteration}
-use Rattle.bpf_step_model.proofs.Endings.{mapped_from}
-use Rattle.loop_core_model.specs.Actions.{is_same, writes, exposed, reduces_by}
-use Rattle.loop_core_model.specs.Block.{break_from}
-use Rattle.loop_core_model.specs.Conflict.{at_element}
-use Rattle.loop_core_model.specs.Flags.{is_plain}
-use Rattle.loop_core_model.specs.LeastBreak.{in_front_of, accesses_of_each}
-use Rattle.loop_core_model.specs.Marks.{actions_of, numbered, marks_of}
-use Rattle.loop_core_model.specs.Planes.{bit_of}
-use Rattle.loop_core_model.specs.Scan.{up_to_break, scan}
+use Rattle.bpf_step_model.specs.{State.{LoopCall}, Run.{BoundedResult, Ended, Stuck, Unfinished, followed}}
+use Rattle.bpf_step_model.{specs.Iteration.{Iterated, iteration}, proofs.Endings.{mapped_from}}
+use Rattle.loop_core_model.specs.{Actions.{is_same, writes, exposed, reduces_by}, Block.{break_from}, Flags.{is_plain}}
+use Rattle.loop_core_model.specs.{Conflict.{at_element}, LeastBreak.{in_front_of, accesses_of_each}, Planes.{bit_of}}
+use Rattle.loop_core_model.specs.{Marks.{actions_of, numbered, marks_of}, Scan.{up_to_break, scan}}
 use Rattle.loop_core_model.proofs.OneElement.{is_same-refl}
-use Rattle.shadow_marks.specs.declared.planes.OperatorPlanes.{OperatorPlanes}
-use Rattle.shadow_marks.specs.declared.planes.Tested.{Tested}
+use Rattle.shadow_marks.specs.declared.planes.{OperatorPlanes.{OperatorPlanes}, Tested.{Tested}}
 use Rattle.shadow_marks.specs.declared.planes.Tested.TheVariants.{Lrpd, Flow}
 use Rattle.shadow_marks.specs.Standing.{IsBitPlane, plane_by, TestedStandAt}
-use Rattle.loop_core_witness.specs.declared.kind.Kind.{Kind}
-use Rattle.loop_core_witness.specs.declared.kind.Kind.TheVariants.{FirstWrite, ExposedRead}
-use Rattle.loop_core_witness.specs.declared.survey.Stretch.{Stretch}
-use Rattle.loop_core_witness.specs.Firsts.{does, IsAt, NoneDoes}
+use Rattle.loop_core_witness.specs.declared.kind.Kind.{Kind, TheVariants.{FirstWrite, ExposedRead}}
+use Rattle.loop_core_witness.specs.{declared.survey.Stretch.{Stretch}, Firsts.{does, IsAt, NoneDoes}}
 use Rattle.loop_core_witness.specs.Reductions.{GoOn, AreQuiet}
 use Rattle.loop_core_witness.specs.Surveys.{lacks_tested, lacks, reduces_by_other, reduces_alone, is_quiet, IsStretch}
 
@@ -62,7 +50,7 @@ word_there elements e words is below = let count = is.count in omega (arith, cou
 -- an iteration that was run: what none of those that were run does, it doesn't
 pub record RanAt (iterate : ℕ → BoundedResult Iterated) (ran : List Iterated) (index : ℕ) : Type 0 where
   pub it : Iterated
-  pub told : iterate index ≡ Ended it
+  pub ended : iterate index ≡ Ended it
   pub none : (p : List Access → Bool) → list_any p (accesses_of_each ran) ≡ false → p it.accesses ≡ false
 
 module _ (iterate : ℕ → BoundedResult Iterated) where
@@ -70,7 +58,7 @@ module _ (iterate : ℕ → BoundedResult Iterated) where
       → ran ≡ it ∷ others → index ≡ first → RanAt iterate ran index
   at_front index first it others ran told is same = record {
     it = it;
-    told = ap iterate same ∙ told;
+    ended = ap iterate same ∙ told;
     none = λ p none.
         or_left (p it.accesses) (list_any p (accesses_of_each others))
         (subst (λ (its : List Iterated). list_any p (accesses_of_each its) ≡ false) is none);
@@ -80,7 +68,7 @@ module _ (iterate : ℕ → BoundedResult Iterated) where
       → RanAt iterate ran index
   behind index it others ran is later = record {
     it = later.it;
-    told = later.told;
+    ended = later.ended;
     none = λ p none.
         later.none p (or_right (p it.accesses) (list_any p (accesses_of_each others))
         (subst (λ (its : List Iterated). list_any p (accesses_of_each its) ≡ false) is none));
@@ -239,7 +227,7 @@ module _ (program : Program) (call : LoopCall) (words : List ℕ) (element : ℕ
 
     at : (index : ℕ) → stretch.first ≤ index → index < stretch.past → RanAt Iterate is.ran index
     at index low high =
-        ran_at Iterate (stretch.past - stretch.first) stretch.first is.ran is.told is.unbroken index low
+        ran_at Iterate (stretch.past - stretch.first) stretch.first is.ran is.ended is.unbroken index low
         (omega (arith, low, high))
 
     lacks_does : (kind : Kind) → lacks kind stretch.planes element ≡ true → (accesses : List Access)
@@ -261,7 +249,7 @@ module _ (program : Program) (call : LoopCall) (words : List ℕ) (element : ℕ
         let ran = at index (omega (arith, begun, low)) high in
         record {
           iterated = ran.it;
-          told = ran.told;
+          ended = ran.ended;
           seen = is_at kind index ran.it.accesses (lacks_does kind lack ran.it.accesses ran.none);
         }
 
@@ -310,4 +298,4 @@ module _ (program : Program) (call : LoopCall) (words : List ℕ) (element : ℕ
         → AreQuiet program call words element op from stretch.past
     quiet op told from begun index low high =
         let ran = at index (omega (arith, begun, low)) high in
-        (ran.it, ran.told, goes op told ran.it.accesses ran.none)
+        (ran.it, ran.ended, goes op told ran.it.accesses ran.none)

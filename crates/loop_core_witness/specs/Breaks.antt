@@ -1,9 +1,7 @@
 -- The iteration that breaks a loop.
 use Rattle.std.specs.Prelude.{◌≡◌, ℕ, ◌<◌, List, Option, Some, None}
 use Rattle.bpf_insn_types.specs.Program.{Program}
-use Rattle.bpf_step_model.specs.State.{LoopCall}
-use Rattle.bpf_step_model.specs.Run.{Ended}
-use Rattle.bpf_step_model.specs.Iteration.{Iterated, iteration}
+use Rattle.bpf_step_model.specs.{State.{LoopCall}, Run.{Ended}, Iteration.{Iterated, iteration}}
 use Rattle.loop_core_model.specs.LeastBreak.{least_break, counted}
 use Rattle.loop_core_trace.specs.Places.{ReturnsAt}
 use Rattle.loop_core_witness.specs.declared.place.Place.{Place}

@@ -2,14 +2,10 @@
 use Rattle.std.specs.Prelude.{◌≡◌, ℕ, ◌≤◌, ◌<◌, Bool, List, Option, Some, None}
 use Rattle.array_maps.specs.Accesses.{Action, Access}
 use Rattle.bpf_insn_types.specs.Program.{Program}
-use Rattle.bpf_step_model.specs.State.{LoopCall}
-use Rattle.bpf_step_model.specs.Run.{Ended}
-use Rattle.bpf_step_model.specs.Iteration.{Iterated, iteration}
+use Rattle.bpf_step_model.specs.{State.{LoopCall}, Run.{Ended}, Iteration.{Iterated, iteration}}
 use Rattle.loop_core_model.specs.Actions.{writes, exposed}
-use Rattle.loop_core_trace.specs.declared.slots.Slots.{Slots}
-use Rattle.loop_core_trace.specs.Traced.{WriteIs, ReadIs}
-use Rattle.loop_core_witness.specs.declared.kind.Kind.{Kind}
-use Rattle.loop_core_witness.specs.declared.kind.Kind.TheVariants.{FirstWrite, ExposedRead}
+use Rattle.loop_core_trace.specs.{declared.slots.Slots.{Slots}, Traced.{WriteIs, ReadIs}}
+use Rattle.loop_core_witness.specs.declared.kind.Kind.{Kind, TheVariants.{FirstWrite, ExposedRead}}
 use Rattle.loop_core_witness.specs.declared.place.Place.{Place}
 
 -- an iteration with these actions at an element does what is looked for
@@ -31,7 +27,7 @@ IsAt ExposedRead program call index words element accesses slot = ReadIs program
 pub record Does (kind : Kind) (program : Program) (call : LoopCall) (words : List ℕ) (element index : ℕ)
     (slot : Option ℕ) : Type 0 where
   pub iterated : Iterated
-  pub told : iteration program 4096 call index words ≡ Ended iterated
+  pub ended : iteration program 4096 call index words ≡ Ended iterated
   pub seen : IsAt kind program call index words element iterated.accesses slot
 
 -- none from an index up to another does
@@ -42,7 +38,7 @@ NoneDoes kind program call words element from past =
 -- this is the first of them that does, and its slot
 pub record FirstAt (kind : Kind) (program : Program) (call : LoopCall) (words : List ℕ) (element from past : ℕ)
     (place : Place) : Type 0 where
-  pub behind : from ≤ place.index
+  pub after : from ≤ place.index
   pub within : place.index < past
   pub here : Does kind program call words element place.index (Some place.slot)
   pub before : NoneDoes kind program call words element from place.index

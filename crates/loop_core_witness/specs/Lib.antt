@@ -4,3 +4,6 @@ pub mod Witnesses
 pub mod Reductions
 pub mod Surveys
 pub mod Searches
+pub mod Choosing
+pub mod Touching
+pub mod Grids

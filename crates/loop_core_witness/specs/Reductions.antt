@@ -1,18 +1,12 @@
 -- The access by which an element isn't reduction-only.
 use Rattle.std.specs.Prelude.{◌≡◌, ℕ, ◌≤◌, ◌<◌, Bool, true, false, List, [], ◌∷◌, ◌++◌, length, take, is_some}
-use Rattle.std.specs.Prelude.{if◌then◌else◌, Option, Some, None}
-use Rattle.std.specs.List.{list_all}
-use Rattle.array_maps.specs.declared.access.Op.{Op}
-use Rattle.array_maps.specs.Accesses.{Action, Access, actions_at}
+use Rattle.std.specs.{Prelude.{if◌then◌else◌, Option, Some, None}, List.{list_all}}
+use Rattle.array_maps.specs.{declared.access.Op.{Op}, Accesses.{Action, Access, actions_at}}
 use Rattle.bpf_insn_types.specs.Program.{Program}
-use Rattle.bpf_step_model.specs.State.{LoopCall}
-use Rattle.bpf_step_model.specs.Run.{Ended}
-use Rattle.bpf_step_model.specs.Iteration.{Iterated, iteration}
-use Rattle.loop_core_model.specs.Actions.{is_same, reduces_by, joined, only_operator}
-use Rattle.loop_core_model.specs.Conflict.{at_element}
+use Rattle.bpf_step_model.specs.{State.{LoopCall}, Run.{Ended}, Iteration.{Iterated, iteration}}
+use Rattle.loop_core_model.specs.{Actions.{is_same, reduces_by, joined, only_operator}, Conflict.{at_element}}
 use Rattle.loop_core_model.specs.LeastBreak.{counted_runs}
-use Rattle.loop_core_trace.specs.declared.slots.FirstReduce.{FirstReduce}
-use Rattle.loop_core_trace.specs.Places.{AccessesAt}
+use Rattle.loop_core_trace.specs.{declared.slots.FirstReduce.{FirstReduce}, Places.{AccessesAt}}
 use Rattle.loop_core_witness.specs.declared.place.Place.{Place}
 
 -- there are no actions, or each is a reduce, all by one operator
@@ -41,11 +35,11 @@ IsEnd program call words element iterations None = are_reduces (joined iteration
 IsEnd program call words element iterations (Some place) = EndsReduction program call words element iterations place
 
 -- so it is of the counted iterations of a loop call on these words
-pub record TellsEnd (program : Program) (call : LoopCall) (words : List ℕ) (element : ℕ) (told : Option Place) : Type 0
+pub record HasEnd (program : Program) (call : LoopCall) (words : List ℕ) (element : ℕ) (place : Option Place) : Type 0
   where
     pub runs : List (List Access)
     pub counted : counted_runs program 4096 call words ≡ Ended runs
-    pub end : IsEnd program call words element (at_element element runs) told
+    pub end : IsEnd program call words element (at_element element runs) place
 
 -- the operator of the reduces at an element, where there were any, after an iteration that began with this one
 abbrev pub operator_after : Option Op → Option FirstReduce → Option Op

@@ -3,15 +3,9 @@ use Rattle.std.specs.Prelude.{◌≡◌, ℕ, ◌≤◌, Option}
 use Rattle.array_maps.specs.declared.access.Op.{Op}
 use Rattle.bpf_verify_sound.specs.Soundness.{OverApproximatesCall}
 use Rattle.loop_core_model.specs.declared.loop_test.Test.{Test}
-use Rattle.loop_core_witness.specs.declared.finding.Search.{Search}
-use Rattle.loop_core_witness.specs.declared.kind.Kind.{Kind}
-use Rattle.loop_core_witness.specs.declared.place.Place.{Place}
-use Rattle.loop_core_witness.specs.declared.witness.Witness.{Witness}
-use Rattle.loop_core_witness.specs.Breaks.{AreCounted}
-use Rattle.loop_core_witness.specs.Firsts.{NoneDoes, FirstIs}
-use Rattle.loop_core_witness.specs.Reductions.{AreQuiet, TellsEnd}
-use Rattle.loop_core_witness.specs.Surveys.{IsSurvey}
-use Rattle.loop_core_witness.specs.Witnesses.{Explains}
+use Rattle.loop_core_witness.specs.declared.{finding.Search.{Search}, kind.Kind.{Kind}, place.Place.{Place}}
+use Rattle.loop_core_witness.specs.{declared.witness.Witness.{Witness}, Breaks.{AreCounted}, Firsts.{NoneDoes, FirstIs}}
+use Rattle.loop_core_witness.specs.{Reductions.{AreQuiet, HasEnd}, Surveys.{IsSurvey}, Witnesses.{Explains}}
 
 -- main of the program made the call, the start maps are of its sizes, it is the call's count of iterations, and the
 -- survey is of the call
@@ -43,4 +37,4 @@ FindsPair search test found = Explains test search.program.now search.call.now s
 
 -- the access by which the element isn't reduction-only, where there is one
 abbrev pub FindsEnd : Search → Option Place → Type 0
-FindsEnd search found = TellsEnd search.program.now search.call.now search.start.now.words search.element found
+FindsEnd search found = HasEnd search.program.now search.call.now search.start.now.words search.element found

@@ -1,28 +1,16 @@
 -- What the iterations of a loop did, stretch by stretch.
 use Rattle.std.specs.Prelude.{◌≡◌, ℕ, ◌<◌, Bool, false, not, ◌&&◌, ◌||◌, nat_lt, List, length, Option, Some, None}
 use Rattle.std.specs.List.{All}
-use Rattle.array_maps.specs.declared.access.Op.{Op}
-use Rattle.array_maps.specs.declared.access.Op.TheVariants.{Add, Or, And, Xor, AddH}
+use Rattle.array_maps.specs.declared.access.Op.{Op, TheVariants.{Add, Or, And, Xor, AddH}}
 use Rattle.bpf_insn_types.specs.Program.{Program}
-use Rattle.bpf_step_model.specs.State.{LoopCall}
-use Rattle.bpf_step_model.specs.Run.{Ended}
-use Rattle.bpf_step_model.specs.Iteration.{Iterated}
-use Rattle.loop_core_model.specs.Actions.{is_same}
-use Rattle.loop_core_model.specs.Block.{block_run, break_from}
-use Rattle.loop_core_model.specs.Conflict.{at_element}
-use Rattle.loop_core_model.specs.LeastBreak.{accesses_of_each}
-use Rattle.loop_core_model.specs.Marks.{numbered}
-use Rattle.loop_core_model.specs.Planes.{bit_of}
-use Rattle.shadow_marks.specs.declared.planes.LrpdPlanes.{LrpdPlanes}
-use Rattle.shadow_marks.specs.declared.planes.OperatorPlanes.{OperatorPlanes}
-use Rattle.shadow_marks.specs.declared.planes.Planes.{Planes}
-use Rattle.shadow_marks.specs.declared.planes.Tested.{Tested}
-use Rattle.shadow_marks.specs.declared.planes.Tested.TheVariants.{Lrpd, Flow}
+use Rattle.bpf_step_model.specs.{State.{LoopCall}, Run.{Ended}, Iteration.{Iterated}}
+use Rattle.loop_core_model.specs.{Actions.{is_same}, Block.{block_run, break_from}, Conflict.{at_element}}
+use Rattle.loop_core_model.specs.{LeastBreak.{accesses_of_each}, Marks.{numbered}, Planes.{bit_of}}
+use Rattle.shadow_marks.specs.declared.planes.{LrpdPlanes.{LrpdPlanes}, OperatorPlanes.{OperatorPlanes}}
+use Rattle.shadow_marks.specs.declared.planes.{Planes.{Planes}, Tested.{Tested, TheVariants.{Lrpd, Flow}}}
 use Rattle.shadow_marks.specs.Standing.{StandFor}
-use Rattle.loop_core_witness.specs.declared.kind.Kind.{Kind}
-use Rattle.loop_core_witness.specs.declared.kind.Kind.TheVariants.{FirstWrite, ExposedRead}
-use Rattle.loop_core_witness.specs.declared.survey.Stretch.{Stretch}
-use Rattle.loop_core_witness.specs.declared.survey.Survey.{Survey}
+use Rattle.loop_core_witness.specs.declared.kind.Kind.{Kind, TheVariants.{FirstWrite, ExposedRead}}
+use Rattle.loop_core_witness.specs.declared.survey.{Stretch.{Stretch}, Survey.{Survey}}
 
 -- no iteration does what is looked for at an element, as planes for the LRPD test show: none writes it; none has an
 -- exposed read of it
@@ -61,7 +49,7 @@ is_quiet (Some op) planes e = reduces_alone op planes e
 -- the iterations of a stretch, each run on these words: all of them end, none breaks, and the planes represent them
 pub record IsStretch (program : Program) (call : LoopCall) (words : List ℕ) (stretch : Stretch) : Type 0 where
   pub ran : List Iterated
-  pub told : block_run program 4096 call words stretch.first stretch.past ≡ Ended ran
+  pub ended : block_run program 4096 call words stretch.first stretch.past ≡ Ended ran
   pub unbroken : break_from stretch.first ran ≡ None
   pub elements : stretch.planes.elements ≡ length words
   pub planes : StandFor stretch.planes (λ e. numbered stretch.first (at_element e (accesses_of_each ran)))

@@ -2,10 +2,8 @@
 use Rattle.std.specs.Prelude.{◌≡◌, ℕ, ◌≤◌, false, List, Option, Some, None}
 use Rattle.array_maps.specs.Accesses.{Action, Access}
 use Rattle.bpf_insn_types.specs.Program.{Program}
-use Rattle.bpf_step_model.specs.State.{LoopCall}
-use Rattle.bpf_step_model.specs.Run.{Ended}
-use Rattle.loop_core_model.specs.declared.loop_test.Test.{Test}
-use Rattle.loop_core_model.specs.Conflict.{fails, at_element, FailingPair}
+use Rattle.bpf_step_model.specs.{State.{LoopCall}, Run.{Ended}}
+use Rattle.loop_core_model.specs.{declared.loop_test.Test.{Test}, Conflict.{fails, at_element, FailingPair}}
 use Rattle.loop_core_model.specs.LeastBreak.{counted_runs}
 use Rattle.loop_core_trace.specs.Places.{FirstWriteAt, ExposedReadAt}
 use Rattle.loop_core_witness.specs.declared.witness.Witness.{Witness}
@@ -28,14 +26,14 @@ pub record IsWitness (test : Test) (program : Program) (call : LoopCall) (words 
   pub read : ExposedReadAt program call witness.reader.index words element witness.reader.slot
 
 -- a witness, or none where the test doesn't fail
-abbrev pub IsTold : Test → Program → LoopCall → List ℕ → (element : ℕ) → List (List Action) → Option Witness → Type 0
-IsTold test program call words element iterations None = fails test iterations ≡ false
-IsTold test program call words element iterations (Some witness) = IsWitness test program call words element iterations
-    witness
+abbrev pub WitnessIs : Test → Program → LoopCall → List ℕ → (element : ℕ) → List (List Action) → Option Witness → Type 0
+WitnessIs test program call words element iterations None = fails test iterations ≡ false
+WitnessIs test program call words element iterations (Some witness) =
+    IsWitness test program call words element iterations witness
 
 -- so it is of the counted iterations of a loop call on these words
 pub record Explains (test : Test) (program : Program) (call : LoopCall) (words : List ℕ) (element : ℕ)
-    (told : Option Witness) : Type 0 where
+    (witness : Option Witness) : Type 0 where
   pub runs : List (List Access)
   pub counted : counted_runs program 4096 call words ≡ Ended runs
-  pub pair : IsTold test program call words element (at_element element runs) told
+  pub pair : WitnessIs test program call words element (at_element element runs) witness

@@ -3,8 +3,7 @@
 ghost use Rattle.std.specs.Prelude.{◌≡◌, ◌<◌, Some};
 ghost use Rattle.bpf_verify_sound.specs.Soundness.{OverApproximatesCall};
 ghost use Rattle.loop_core_model.specs.LeastBreak.{count_to};
-ghost use Rattle.loop_core_witness.specs.Breaks.{index_of, AreCounted, IsBreak};
-ghost use Rattle.loop_core_witness.specs.declared.place.Place.{Place as At};
+ghost use Rattle.loop_core_witness.specs.{Breaks.{index_of, AreCounted, IsBreak}, declared.place.Place.{Place as At}};
 
 use crate::place::Place;
 use array_maps::{Maps, Store};

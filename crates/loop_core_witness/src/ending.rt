@@ -2,10 +2,8 @@
 
 ghost use Rattle.std.specs.Prelude.{◌≡◌, IfOk};
 ghost use Rattle.bpf_verify_sound.specs.Soundness.{OverApproximatesCall};
-ghost use Rattle.loop_core_witness.specs.Breaks.{IsBreak};
-ghost use Rattle.loop_core_witness.specs.Reductions.{operator_after, end_slot, TellsEnd};
-ghost use Rattle.loop_core_witness.specs.Searches.{IsSearch, FindsEnd};
-ghost use Rattle.loop_core_witness.specs.Surveys.{IsSurvey};
+ghost use Rattle.loop_core_witness.specs.{Breaks.{IsBreak}, Reductions.{operator_after, end_slot, HasEnd}};
+ghost use Rattle.loop_core_witness.specs.{Searches.{IsSearch, FindsEnd}, Surveys.{IsSurvey}};
 
 use crate::counting::counted_by;
 use crate::finding::Search;
@@ -95,7 +93,7 @@ pub fn find_end_of_reduction(
     requires sizes { start.now.sizes ≡ program.now.sizes }
     requires broke { IsBreak program.now call.now start.now.words broke }
     requires survey { IsSurvey program.now call.now start.now.words survey.now }
-    ensures end { IfOk result (TellsEnd program.now call.now start.now.words element) }
+    ensures end { IfOk result (HasEnd program.now call.now start.now.words element) }
 {
     let search = Search {
         alloc,

@@ -30,8 +30,7 @@ pub(crate) struct Search<'a> {
 
 impl Search<'_> {
     ghost use Rattle.std.specs.Prelude.{◌≤◌, ◌<◌, IfSome};
-    ghost use Rattle.loop_core_witness.specs.Searches.{LacksUpTo, IsQuietUpTo};
-    ghost use Rattle.loop_core_witness.specs.Surveys.{IsStretch};
+    ghost use Rattle.loop_core_witness.specs.{Searches.{LacksUpTo, IsQuietUpTo}, Surveys.{IsStretch}};
 
     /// The stretch that an index is in, where the survey has it.
     fn around(&self, index: u32) -> Option<&Stretch>

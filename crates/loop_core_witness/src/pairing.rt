@@ -3,9 +3,7 @@
 ghost use Rattle.std.specs.Prelude.{◌≡◌, IfOk};
 ghost use Rattle.bpf_verify_sound.specs.Soundness.{OverApproximatesCall};
 ghost use Rattle.loop_core_model.specs.declared.loop_test.Test.TheVariants.{Lrpd, Flow};
-ghost use Rattle.loop_core_witness.specs.Breaks.{IsBreak};
-ghost use Rattle.loop_core_witness.specs.Searches.{IsSearch, FindsPair};
-ghost use Rattle.loop_core_witness.specs.Surveys.{IsSurvey};
+ghost use Rattle.loop_core_witness.specs.{Breaks.{IsBreak}, Searches.{IsSearch, FindsPair}, Surveys.{IsSurvey}};
 ghost use Rattle.loop_core_witness.specs.Witnesses.{Explains};
 
 use crate::counting::counted_by;
@@ -49,11 +47,11 @@ fn lrpd_pair(search: &Search<'_>) -> Result<Option<Witness>, AllocError>
     if writer.index != reader.index {
         return Ok(Some(Witness { writer, reader }));
     }
-    let behind = writer.index + 1;
-    if let Some(writer) = search.first(Kind::FirstWrite, behind)? {
+    let next = writer.index + 1;
+    if let Some(writer) = search.first(Kind::FirstWrite, next)? {
         return Ok(Some(Witness { writer, reader }));
     }
-    let Some(reader) = search.first(Kind::ExposedRead, behind)? else {
+    let Some(reader) = search.first(Kind::ExposedRead, next)? else {
         return Ok(None);
     };
     Ok(Some(Witness { writer, reader }))

@@ -1,8 +1,7 @@
 //! What the iterations of a loop did, stretch by stretch.
 
 ghost use Rattle.std.specs.Prelude.{◌≡◌, ◌/◌, ◌<◌, length};
-ghost use Rattle.shadow_marks.specs.Standing.{EachPlane};
-ghost use Rattle.shadow_marks.specs.Ending.{LrpdHave};
+ghost use Rattle.shadow_marks.specs.{Standing.{EachPlane}, Ending.{LrpdHave}};
 ghost use Rattle.loop_core_witness.specs.Surveys.{lacks_kind, reduces_by_other};
 
 use crate::kind::Kind;

@@ -1,27 +1,15 @@
 -- What lanes touch, as flags, and what planes keep.
-use Rattle.std.proofs.Common.{◌≡◌, ℕ, ◌==◌, if◌then◌else◌, Bool, true, false, List, []}
-use Rattle.std.proofs.Common.{◌∷◌, ◌++◌, refl, sym, ◌∙◌, ap, append_assoc}
-use Rattle.std.specs.List.{filter, range_with_len}
-use Rattle.std.proofs.lemmas.List.{append-nil}
-use Rattle.array_maps.specs.declared.access.Half.{Half}
-use Rattle.array_maps.specs.Accesses.{Action, Access, actions_at}
-use Rattle.array_maps.specs.MapList.{AreWords}
-use Rattle.loop_core_model.specs.declared.verdict.Verdict.{Verdict}
-use Rattle.loop_core_model.specs.Flags.{Flags, flags_of, flagged, kind_of}
-use Rattle.loop_core_model.specs.Marks.{Visit, marked_conflict, marks_of}
+use Rattle.std.proofs.Common.{◌≡◌, ℕ, ◌==◌, if◌then◌else◌, Bool, true, false, List, [], ◌∷◌, ◌++◌, refl, sym, ◌∙◌, ap}
+use Rattle.std.{proofs.{Common.{append_assoc}, lemmas.List.{append-nil}}, specs.List.{filter, range_with_len}}
+use Rattle.array_maps.specs.{declared.access.Half.{Half}, Accesses.{Action, Access, actions_at}, MapList.{AreWords}}
+use Rattle.loop_core_model.specs.{declared.verdict.Verdict.{Verdict}, Flags.{Flags, flags_of, flagged, kind_of}}
+use Rattle.loop_core_model.specs.{Marks.{Visit, marked_conflict, marks_of}, Report.{judged}, Effects.{kind_of_deed}}
 use Rattle.loop_core_model.specs.Planes.{PlaneJudges, elements_in_plane, plane_verdict}
-use Rattle.loop_core_model.specs.Report.{judged}
 use Rattle.loop_core_model.proofs.FlagLaws.{flags_follow_kinds}
-use Rattle.loop_core_batch.specs.Effects.{kind_of_deed}
-use Rattle.lane_stamps.specs.declared.kind.Kind.{Kind}
-use Rattle.lane_stamps.specs.declared.kind.Kind.TheVariants.{Load, LoadHalf, Store, Fetch, Replace, FetchHalf}
-use Rattle.lane_stamps.specs.declared.kind.Kind.TheVariants.{AddHalf, Apply}
-use Rattle.lane_stamps.specs.Sites.{deed_by}
-use Rattle.shadow_marks.specs.declared.planes.Planes.{Planes}
-use Rattle.shadow_marks.specs.Ending.{KeepsShape}
-use Rattle.shadow_marks.specs.Standing.{StandFor, test_of}
-use Rattle.loop_marks.specs.Touches.{flags_after, touches_of}
-use Rattle.loop_marks.specs.MarkedVerdicts.{visits_below}
+use Rattle.lane_stamps.specs.{declared.kind.Kind.{Kind, TheVariants.{Apply}}, Sites.{deed_by}}
+use Rattle.lane_stamps.specs.declared.kind.Kind.TheVariants.{Load, LoadHalf, Store, Fetch, Replace, FetchHalf, AddHalf}
+use Rattle.shadow_marks.specs.{declared.planes.Planes.{Planes}, Ending.{KeepsShape}, Standing.{StandFor, test_of}}
+use Rattle.loop_marks.specs.{Touches.{flags_after, touches_of}, MarkedVerdicts.{visits_below}}
 use Rattle.loop_marks.specs.LaneMarks.{IsMarkedVerdict, access_kind}
 
 -- the flags of actions at an element, by what is touched

@@ -2,12 +2,10 @@
 use Rattle.std.proofs.Common.{◌≡◌, ℕ, ◌+◌, ◌<◌, ◌&&◌, ◌==◌, if◌then◌else◌, min, max, Bool, true, false, List}
 use Rattle.std.proofs.Common.{slice_index, refl, sym, ◌∙◌, arith}
 use Rattle.loop_core_model.specs.Planes.{bit_of}
-use Rattle.lane_rows.specs.declared.mask.Mask.{Mask}
-use Rattle.lane_rows.specs.Rows.{is_in}
+use Rattle.lane_rows.specs.{declared.mask.Mask.{Mask}, Rows.{is_in}}
 use Rattle.shadow_marks.specs.Bits.{ChangesNumber, OrsBit}
 use Rattle.loop_marks.specs.SiteMarks.{IsEnd, KeepsNumbers, SetsBits, is_at, kept, over_lanes, set_by_lane}
-use Rattle.loop_marks.proofs.UnseenLaws.{or_if}
-use Rattle.loop_marks.proofs.OverLaws.{IsMerge, kept_merges, over_covered, over_none, set_merges}
+use Rattle.loop_marks.proofs.{UnseenLaws.{or_if}, OverLaws.{IsMerge, kept_merges, over_covered, over_none, set_merges}}
 
 module _ (mask : Mask) (at lanes : ℕ) where
   over_one : {A : Type 0} → (change : A → ℕ → A) → IsMerge change → (end : ℕ) → is_in mask end ≡ true → end < lanes

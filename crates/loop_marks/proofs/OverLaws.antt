@@ -1,6 +1,5 @@
 -- Values after lanes that change them one after another.
-use Rattle.std.proofs.Common.{◌≡◌, ℕ, zero, suc, ◌+◌, ◌<◌, ◌||◌, min, max, Bool, true, false, refl}
-use Rattle.std.proofs.Common.{inl, inr, arith}
+use Rattle.std.proofs.Common.{◌≡◌, ℕ, zero, suc, ◌+◌, ◌<◌, ◌||◌, min, max, Bool, true, false, refl, inl, inr, arith}
 use Rattle.std.proofs.lemmas.Bool.{cases_eq}
 use Rattle.loop_marks.specs.SiteMarks.{kept, over_lanes, set_by_lane}
 

@@ -1,18 +1,12 @@
 -- Bits of elements that run on one after another.
-use Rattle.std.proofs.Common.{◌≡◌, ◌≢◌, ℕ, zero, suc, ◌+◌, ◌-◌, ◌*◌, ◌/◌, ◌%◌, ◌^◌, ◌<◌, ◌≤◌, ◌==◌, ◌||◌}
-use Rattle.std.proofs.Common.{eqb, max, Bool, false, List, length, set, get_or, sym, ◌∙◌, ap, inl, inr, arith}
-use Rattle.std.proofs.Common.{get_or-set_same, get_or-set_other}
-use Rattle.std.specs.Prelude.{bit_or}
-use Rattle.std.specs.Int.{bit_at}
-use Rattle.std.proofs.Math.Bool.{or_assoc, or-false}
-use Rattle.std.proofs.lemmas.Bool.{cases_eq, cases_lt}
-use Rattle.std.proofs.lemmas.Bool.Decides.{nat_tests}
+use Rattle.std.proofs.Common.{◌≡◌, ◌≢◌, ℕ, zero, suc, ◌+◌, ◌-◌, ◌*◌, ◌/◌, ◌%◌, ◌^◌, ◌<◌, ◌≤◌, ◌==◌, ◌||◌, eqb, max}
+use Rattle.std.proofs.Common.{Bool, false, List, length, set, get_or, sym, ◌∙◌, ap, inl, inr, arith, get_or-set_same}
+use Rattle.std.{proofs.Common.{get_or-set_other}, specs.{Prelude.{bit_or}, Int.{bit_at}}}
+use Rattle.std.proofs.{Math.Bool.{or_assoc, or-false}, lemmas.Bool.{cases_eq, cases_lt, Decides.{nat_tests}}}
 use Rattle.std.proofs.lemmas.Nat.Bits.{bit_at_or, bit_at-lt, bit_at_mask_above, bit_at_mask_below, bit_at_mask_inside}
 use Rattle.loop_core_model.specs.Planes.{bit_of}
-use Rattle.shadow_marks.specs.Runs.{is_between}
-use Rattle.shadow_marks.proofs.BetweenLaws.{between_above, between_below, between_in}
-use Rattle.loop_marks.specs.SiteMarks.{SetsBits, over_lanes, runs_to, set_by_lane}
-use Rattle.loop_marks.proofs.UnseenLaws.{or_if}
+use Rattle.shadow_marks.{specs.Runs.{is_between}, proofs.BetweenLaws.{between_above, between_below, between_in}}
+use Rattle.loop_marks.{specs.SiteMarks.{SetsBits, over_lanes, runs_to, set_by_lane}, proofs.UnseenLaws.{or_if}}
 
 max_tested : (x y : ℕ) → x < 2 → y < 2 → eqb (max x y) 1 ≡ (eqb x 1 || eqb y 1)
 max_tested x y h k = grind (arith, nat_tests)

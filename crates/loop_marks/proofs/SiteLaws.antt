@@ -1,36 +1,23 @@
 -- Marks of lanes, site by site.
-use Rattle.std.proofs.Common.{◌≡◌, ℕ, ◌+◌, ◌*◌, ◌<◌, ◌≤◌, ◌==◌, ◌&&◌, ◌||◌, if◌then◌else◌}
-use Rattle.std.proofs.Common.{Bool, true, false, List, [], ◌∷◌, length, drop, slice_index_or, refl, sym, subst}
-use Rattle.std.proofs.Common.{◌∙◌, ap, arith, map, Option, Some, None}
-use Rattle.std.proofs.Math.Bool.{or-false}
-use Rattle.std.proofs.lemmas.List.{drop_all, drop_more}
+use Rattle.std.proofs.Common.{◌≡◌, ℕ, ◌+◌, ◌*◌, ◌<◌, ◌≤◌, ◌==◌, ◌&&◌, ◌||◌, if◌then◌else◌, Bool, true, false, List, []}
+use Rattle.std.proofs.Common.{◌∷◌, length, drop, slice_index_or, refl, sym, subst, ◌∙◌, ap, arith, map, Option, Some}
+use Rattle.std.proofs.{Common.{None}, Math.Bool.{or-false}, lemmas.List.{drop_all, drop_more}}
 use Rattle.array_maps.specs.declared.access.Op.{Op}
-use Rattle.loop_core_model.specs.declared.access.Access.{Access as AccessKind}
-use Rattle.loop_core_model.specs.declared.loop_test.Test.TheVariants.{Flow}
-use Rattle.loop_core_model.specs.Planes.{bit_of}
-use Rattle.loop_core_batch.specs.Effects.{Effect, EffectLog, effects_of, with_effect}
-use Rattle.lane_rows.specs.declared.mask.Mask.{Mask}
-use Rattle.lane_rows.specs.declared.places.Places.{Places}
-use Rattle.lane_rows.specs.Lanes.{MaskHas}
+use Rattle.loop_core_model.specs.declared.{access.Access.{Access as AccessKind}, loop_test.Test.TheVariants.{Flow}}
+use Rattle.loop_core_model.specs.{Planes.{bit_of}, Effects.{Effect, EffectLog, effects_of, with_effect}}
+use Rattle.lane_rows.specs.{declared.{mask.Mask.{Mask}, places.Places.{Places}}, Lanes.{MaskHas}}
 use Rattle.lane_rows.specs.Rows.{is_in, place_at}
-use Rattle.lane_stamps.specs.declared.kind.Kind.{Kind}
-use Rattle.lane_stamps.specs.declared.site.Site.{Site}
+use Rattle.lane_stamps.specs.{declared.{kind.Kind.{Kind}, site.Site.{Site}}, Sites.{log_of}}
 use Rattle.lane_stamps.specs.Sites.{LaneRows, effect_at, effect_by, effect_if, element_named, half_named, is_of_halves}
-use Rattle.lane_stamps.specs.Sites.{log_of}
-use Rattle.shadow_marks.specs.declared.planes.Planes.{Planes}
-use Rattle.shadow_marks.specs.declared.planes.Tested.{Tested}
+use Rattle.shadow_marks.specs.declared.planes.{Planes.{Planes}, Tested.{Tested}}
 use Rattle.shadow_marks.specs.declared.planes.Tested.TheVariants.{Lrpd as ByLrpd, Flow as ByFlow}
 use Rattle.shadow_marks.specs.Standing.{ArePlanes, AreTested, IsBitPlane, plane_by, test_of}
-use Rattle.loop_marks.specs.declared.by_site.Elements.{Elements}
-use Rattle.loop_marks.specs.declared.by_site.Elements.TheVariants.{One, Run, Any}
-use Rattle.loop_marks.specs.declared.by_site.Reached.{Reached}
-use Rattle.loop_marks.specs.Touches.{touch_by}
-use Rattle.loop_marks.specs.LaneMarks.{access_kind, lane_touches}
+use Rattle.loop_marks.specs.declared.by_site.{Elements.{Elements, TheVariants.{One, Run, Any}}, Reached.{Reached}}
+use Rattle.loop_marks.specs.{Touches.{touch_by}, LaneMarks.{access_kind, lane_touches}}
 use Rattle.loop_marks.specs.SiteMarks.{AreBelow, AreElements, AreReached, BitsMarked, FlowKeeps, HaveNumbers, IsOne}
-use Rattle.loop_marks.specs.SiteMarks.{IsRun, KeepsNumbers, SetsBits, reached_by, reaches}
-use Rattle.loop_marks.specs.SiteMarks.{SitesMarked, TestedMarked, gets_to, is_touched_by, kept, kind_is_plain}
-use Rattle.loop_marks.specs.SiteMarks.{kind_looks, kind_reduces_by, kind_writes, over_lanes, set_by_lane}
-use Rattle.loop_marks.proofs.LaneLaws.{kinds_are, shape_both}
+use Rattle.loop_marks.specs.SiteMarks.{IsRun, KeepsNumbers, SetsBits, reached_by, reaches, SitesMarked, TestedMarked}
+use Rattle.loop_marks.specs.SiteMarks.{gets_to, is_touched_by, kept, kind_is_plain, kind_looks, kind_reduces_by}
+use Rattle.loop_marks.{specs.SiteMarks.{kind_writes, over_lanes, set_by_lane}, proofs.LaneLaws.{kinds_are, shape_both}}
 use Rattle.loop_marks.proofs.OverLaws.{IsMerge, kept_merges, over_alike, over_both, over_none, set_merges}
 
 -- what a lane touches by accesses of one kind

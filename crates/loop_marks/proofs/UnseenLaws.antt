@@ -1,30 +1,21 @@
 -- Lanes that look nowhere where they stored before: their marks are those of their touches in any order.
 use Rattle.std.proofs.Common.{◌≡◌, ℕ, zero, suc, ◌+◌, ◌<◌, ◌≤◌, ◌==◌, ◌&&◌, ◌||◌, not, if◌then◌else◌, min, max, Bool}
-use Rattle.std.proofs.Common.{true, false, List, [], ◌∷◌, length, drop, slice_index_or, refl, sym}
-use Rattle.std.proofs.Common.{subst, ◌∙◌, ap, arith, map, ne_eqb, eqb-true, Option, Some, None}
-use Rattle.std.proofs.Math.Bool.{or_assoc, or-false}
+use Rattle.std.proofs.Common.{true, false, List, [], ◌∷◌, length, drop, slice_index_or, refl, sym, subst, ◌∙◌, ap}
+use Rattle.std.proofs.{Common.{arith, map, ne_eqb, eqb-true, Option, Some, None}, Math.Bool.{or_assoc, or-false}}
 use Rattle.std.proofs.lemmas.List.{drop_more}
-use Rattle.array_maps.specs.declared.access.Op.{Op}
-use Rattle.array_maps.specs.Accesses.{Access, actions_at}
-use Rattle.loop_core_model.specs.declared.access.Access.{Access as AccessKind}
-use Rattle.loop_core_model.specs.declared.access.Access.TheVariants.{Read, Write, Both, Reduce}
-use Rattle.loop_core_model.specs.Flags.{Flags, flags_of, flagged, no_flags}
-use Rattle.loop_core_model.specs.LeastBreak.{lesser}
+use Rattle.array_maps.specs.{declared.access.Op.{Op}, Accesses.{Access, actions_at}}
+use Rattle.loop_core_model.specs.declared.access.Access.{Access as AccessKind, TheVariants.{Read, Write, Both, Reduce}}
+use Rattle.loop_core_model.specs.{Flags.{Flags, flags_of, flagged, no_flags}, LeastBreak.{lesser}}
 use Rattle.loop_core_model.specs.Marks.{Marks, Visit, first_number, marks_of, marks_of_one, merged}
-use Rattle.loop_core_model.proofs.MarkLaws.{marks_merge}
-use Rattle.loop_core_batch.specs.Effects.{EffectLog, effects_of, with_effect}
+use Rattle.loop_core_model.{proofs.MarkLaws.{marks_merge}, specs.Effects.{EffectLog, effects_of, with_effect}}
 use Rattle.lane_stamps.specs.declared.site.Site.{Site}
 use Rattle.lane_stamps.specs.Sites.{LaneRows, done_by, has, half_named, log_of, place_of, value_of}
-use Rattle.shadow_marks.specs.declared.planes.Planes.{Planes}
-use Rattle.shadow_marks.specs.declared.planes.Tested.{Tested}
+use Rattle.shadow_marks.specs.{declared.planes.{Planes.{Planes}, Tested.{Tested}}, Standing.{StandAt, TestedStandAt}}
 use Rattle.shadow_marks.specs.declared.planes.Tested.TheVariants.{Lrpd as ByLrpd, Flow as ByFlow}
-use Rattle.shadow_marks.specs.Standing.{StandAt, TestedStandAt}
-use Rattle.loop_marks.specs.Touches.{Touch, flags_after, touch_by}
-use Rattle.loop_marks.specs.MarkedVerdicts.{visits_below}
+use Rattle.loop_marks.specs.{Touches.{Touch, flags_after, touch_by}, MarkedVerdicts.{visits_below}}
 use Rattle.loop_marks.specs.LaneMarks.{LanesMarked, LanesTouch, access_kind, lane_touches}
-use Rattle.loop_marks.specs.SiteMarks.{AreUnseen, IsApart, IsUnseen, SitesMarked, TestedMarked}
-use Rattle.loop_marks.specs.SiteMarks.{is_touched_by, kept, kind_is_plain, kind_looks, kind_reduces_by, kind_writes}
-use Rattle.loop_marks.specs.SiteMarks.{over_lanes, set_by_lane}
+use Rattle.loop_marks.specs.SiteMarks.{AreUnseen, IsApart, IsUnseen, SitesMarked, TestedMarked, is_touched_by, kept}
+use Rattle.loop_marks.specs.SiteMarks.{kind_is_plain, kind_looks, kind_reduces_by, kind_writes, over_lanes, set_by_lane}
 use Rattle.loop_marks.proofs.LaneLaws.{flags_more, kinds_are}
 
 -- one site more, of those that were compared

@@ -1,25 +1,16 @@
 -- The verdict on a loop by marks of its iterations.
-use Rattle.std.proofs.Common.{◌≡◌, ℕ, zero, suc, ◌+◌, ◌<◌, ◌==◌, if◌then◌else◌, List, [], ◌∷◌, ◌++◌}
-use Rattle.std.proofs.Common.{map, length, slice_index, refl, ◌∙◌, ap, arith}
-use Rattle.std.specs.List.{filter, range_with_len}
+use Rattle.std.proofs.Common.{◌≡◌, ℕ, zero, suc, ◌+◌, ◌<◌, ◌==◌, if◌then◌else◌, List, [], ◌∷◌, ◌++◌, map, length}
+use Rattle.std.{proofs.Common.{slice_index, refl, ◌∙◌, ap, arith}, specs.List.{filter, range_with_len}}
 use Rattle.array_maps.specs.Accesses.{Access, actions_at}
 use Rattle.bpf_insn_types.specs.Program.{Program}
-use Rattle.bpf_step_model.specs.State.{LoopCall}
-use Rattle.bpf_step_model.specs.Run.{BoundedResult, Ended, mapped, followed}
+use Rattle.bpf_step_model.specs.{State.{LoopCall}, Run.{BoundedResult, Ended, mapped, followed}}
 use Rattle.bpf_step_model.specs.Iteration.{Iterated, iteration}
-use Rattle.loop_core_model.specs.declared.access.Access.{Access as Kind}
-use Rattle.loop_core_model.specs.declared.loop_test.Test.{Test}
-use Rattle.loop_core_model.specs.Conflict.{at_element, conflicting}
-use Rattle.loop_core_model.specs.Flags.{kind_of}
-use Rattle.loop_core_model.specs.LeastBreak.{in_front_of, accesses_of_each}
-use Rattle.loop_core_model.specs.Marks.{Visit, marks_of, marked_conflict, numbered}
-use Rattle.loop_core_model.specs.Report.{judged, verdict}
-use Rattle.loop_core_model.specs.Scan.{up_to_break, scan}
-use Rattle.loop_core_model.proofs.MarkLaws.{marks_tell}
-use Rattle.loop_core_model.proofs.ScanLaws.{counted_are_scanned}
-use Rattle.loop_core_batch.specs.Effects.{Deed, Load, Store, Fetch, Replace, Apply, Effect, accesses_on}
-use Rattle.loop_core_batch.specs.Effects.{action_on, kind_of_deed, words_after_effect}
-use Rattle.loop_core_batch.specs.LoopByEffects.{EndsInZero}
+use Rattle.loop_core_model.specs.{declared.{access.Access.{Access as Kind}, loop_test.Test.{Test}}, Flags.{kind_of}}
+use Rattle.loop_core_model.specs.{Conflict.{at_element, conflicting}, LeastBreak.{in_front_of, accesses_of_each}}
+use Rattle.loop_core_model.specs.{Marks.{Visit, marks_of, marked_conflict, numbered}, Report.{judged, verdict}}
+use Rattle.loop_core_model.{specs.{Scan.{up_to_break, scan}, LoopByEffects.{EndsInZero}}, proofs.MarkLaws.{marks_tell}}
+use Rattle.loop_core_model.{proofs.ScanLaws.{counted_are_scanned}, specs.Effects.{kind_of_deed, words_after_effect}}
+use Rattle.loop_core_model.specs.Effects.{Deed, Load, Store, Fetch, Replace, Apply, Effect, accesses_on, action_on}
 use Rattle.loop_marks.specs.Touches.{Touch, touch_by, touches_of}
 use Rattle.loop_marks.specs.MarkedVerdicts.{VerdictByMarks, marked_elements, visits_below}
 

@@ -1,19 +1,12 @@
 -- Marks of the lanes of a batch, which are iterations from an index on.
 use Rattle.std.specs.Prelude.{◌≡◌, ℕ, ◌+◌, ◌<◌, List, map}
-use Rattle.array_maps.specs.declared.access.Op.TheVariants.{AddH}
-use Rattle.array_maps.specs.Accesses.{Access}
-use Rattle.loop_core_model.specs.declared.access.Access.{Access as AccessKind}
-use Rattle.loop_core_model.specs.declared.access.Access.TheVariants.{Read, Write, Both, Reduce}
-use Rattle.loop_core_model.specs.declared.verdict.Verdict.{Verdict}
-use Rattle.loop_core_model.specs.Report.{judged}
-use Rattle.loop_core_batch.specs.Effects.{EffectLog, effects_of}
-use Rattle.lane_stamps.specs.declared.kind.Kind.{Kind}
-use Rattle.lane_stamps.specs.declared.kind.Kind.TheVariants.{Load, LoadHalf, Store, Fetch, Replace, FetchHalf}
-use Rattle.lane_stamps.specs.declared.kind.Kind.TheVariants.{AddHalf, Apply}
-use Rattle.shadow_marks.specs.declared.planes.Planes.{Planes}
-use Rattle.shadow_marks.specs.Standing.{StandFor, test_of}
-use Rattle.loop_marks.specs.Touches.{Touch, touch_by, touches_of}
-use Rattle.loop_marks.specs.MarkedVerdicts.{marked_elements, visits_below}
+use Rattle.array_maps.specs.{declared.access.Op.TheVariants.{AddH}, Accesses.{Access}}
+use Rattle.loop_core_model.specs.declared.access.Access.{Access as AccessKind, TheVariants.{Read, Write, Both, Reduce}}
+use Rattle.loop_core_model.specs.{declared.verdict.Verdict.{Verdict}, Report.{judged}, Effects.{EffectLog, effects_of}}
+use Rattle.lane_stamps.specs.declared.kind.Kind.{Kind, TheVariants.{Apply}}
+use Rattle.lane_stamps.specs.declared.kind.Kind.TheVariants.{Load, LoadHalf, Store, Fetch, Replace, FetchHalf, AddHalf}
+use Rattle.shadow_marks.specs.{declared.planes.Planes.{Planes}, Standing.{StandFor, test_of}}
+use Rattle.loop_marks.specs.{Touches.{Touch, touch_by, touches_of}, MarkedVerdicts.{marked_elements, visits_below}}
 
 -- what is done at a site of a kind, as far as marks go: where a half is replaced its word is read and written
 abbrev pub access_kind : Kind → AccessKind

@@ -1,14 +1,10 @@
 -- The verdict on a loop by the marks of its iterations, each on the start words.
-use Rattle.std.specs.Prelude.{◌≡◌, ℕ, zero, suc, ◌<◌, List, [], ◌∷◌, ◌++◌, length}
-use Rattle.std.specs.List.{filter, range_with_len}
+use Rattle.std.specs.{Prelude.{◌≡◌, ℕ, zero, suc, ◌<◌, List, [], ◌∷◌, ◌++◌, length}, List.{filter, range_with_len}}
 use Rattle.array_maps.specs.Accesses.{Access, actions_at}
 use Rattle.bpf_insn_types.specs.Program.{Program}
-use Rattle.bpf_step_model.specs.State.{LoopCall}
-use Rattle.bpf_step_model.specs.Run.{Ended}
-use Rattle.loop_core_model.specs.declared.loop_test.Test.{Test}
-use Rattle.loop_core_model.specs.Marks.{Visit, marks_of, marked_conflict}
-use Rattle.loop_core_model.specs.Report.{judged, verdict}
-use Rattle.loop_core_batch.specs.LoopByEffects.{EndsInZero}
+use Rattle.bpf_step_model.specs.{State.{LoopCall}, Run.{Ended}}
+use Rattle.loop_core_model.specs.{declared.loop_test.Test.{Test}, Marks.{Visit, marks_of, marked_conflict}}
+use Rattle.loop_core_model.specs.{Report.{judged, verdict}, LoopByEffects.{EndsInZero}}
 
 -- at an element, what the first n iterations did of which these are the accesses
 abbrev pub visits_below : (made : ℕ → List Access) → (n e : ℕ) → List Visit

@@ -1,29 +1,17 @@
 -- Marks of lanes for the flow test, site by site.
 use Rattle.std.specs.Prelude.{◌≡◌, ◌≢◌, ℕ, zero, suc, ◌+◌, ◌<◌, ◌≤◌, ◌==◌, ◌&&◌, Bool, true, false, List, [], ◌∷◌}
-use Rattle.std.specs.Prelude.{length, slice_index, if◌then◌else◌, min, max}
-use Rattle.std.specs.List.{list_any}
+use Rattle.std.specs.{Prelude.{length, slice_index, if◌then◌else◌, min, max}, List.{list_any}}
 use Rattle.array_maps.specs.declared.access.Op.{Op}
-use Rattle.loop_core_model.specs.declared.access.Access.{Access as AccessKind}
-use Rattle.loop_core_model.specs.declared.access.Access.TheVariants.{Read, Write, Both, Reduce}
-use Rattle.loop_core_model.specs.Actions.{is_same}
-use Rattle.loop_core_model.specs.Planes.{bit_of}
-use Rattle.loop_core_batch.specs.Effects.{EffectLog}
-use Rattle.lane_rows.specs.declared.mask.Mask.{Mask}
-use Rattle.lane_rows.specs.declared.places.Places.{Places}
-use Rattle.lane_rows.specs.Rows.{is_in, place_at}
+use Rattle.loop_core_model.specs.declared.access.Access.{Access as AccessKind, TheVariants.{Read, Write, Both, Reduce}}
+use Rattle.loop_core_model.specs.{Actions.{is_same}, Planes.{bit_of}, Effects.{EffectLog}}
+use Rattle.lane_rows.specs.{declared.{mask.Mask.{Mask}, places.Places.{Places}}, Rows.{is_in, place_at}}
 use Rattle.lane_stamps.specs.declared.site.Site.{Site}
 use Rattle.lane_stamps.specs.Sites.{LaneRows, LiesBelow, element_named, has, is_of_halves, place_of}
-use Rattle.shadow_marks.specs.declared.planes.FlowPlanes.{FlowPlanes}
-use Rattle.shadow_marks.specs.declared.planes.Planes.{Planes}
-use Rattle.shadow_marks.specs.declared.planes.Tested.{Tested}
-use Rattle.shadow_marks.specs.declared.planes.Tested.TheVariants.{Lrpd as ByLrpd, Flow as ByFlow}
-use Rattle.shadow_marks.specs.Ending.{KeepsShape}
+use Rattle.shadow_marks.specs.declared.planes.{FlowPlanes.{FlowPlanes}, Planes.{Planes}, Tested.{Tested}}
+use Rattle.shadow_marks.specs.{declared.planes.Tested.TheVariants.{Lrpd as ByLrpd, Flow as ByFlow}, Ending.{KeepsShape}}
 use Rattle.shadow_marks.specs.Standing.{plane_by}
-use Rattle.loop_marks.specs.declared.by_site.Elements.{Elements}
-use Rattle.loop_marks.specs.declared.by_site.Elements.TheVariants.{One, Run, Any}
-use Rattle.loop_marks.specs.declared.by_site.Reached.{Reached}
-use Rattle.loop_marks.specs.Touches.{Touch}
-use Rattle.loop_marks.specs.LaneMarks.{access_kind, lane_touches}
+use Rattle.loop_marks.specs.declared.by_site.{Elements.{Elements, TheVariants.{One, Run, Any}}, Reached.{Reached}}
+use Rattle.loop_marks.specs.{Touches.{Touch}, LaneMarks.{access_kind, lane_touches}}
 
 -- whether an access of a kind writes; looks; is plain; reduces by an operator
 abbrev pub kind_writes : AccessKind → Bool

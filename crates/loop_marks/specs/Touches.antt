@@ -1,9 +1,8 @@
 -- What iterations touch: their accesses but for the words that they see and leave.
 use Rattle.std.specs.Prelude.{ℕ, ◌==◌, if◌then◌else◌, List, [], ◌∷◌, map}
 use Rattle.array_maps.specs.Accesses.{Access}
-use Rattle.loop_core_model.specs.declared.access.Access.{Access as Kind}
-use Rattle.loop_core_model.specs.Flags.{Flags, flagged, kind_of}
-use Rattle.loop_core_batch.specs.Effects.{Effect, kind_of_deed}
+use Rattle.loop_core_model.specs.{declared.access.Access.{Access as Kind}, Flags.{Flags, flagged, kind_of}}
+use Rattle.loop_core_model.specs.Effects.{Effect, kind_of_deed}
 
 -- an element, and the kind of an access of it
 pub record Touch : Type 0 where

@@ -1,15 +1,12 @@
 //! Marks of the lanes of a batch for the flow test, site by site.
 
 ghost use Rattle.std.specs.Prelude.{◌≡◌, ℕ, ◌+◌, ◌-◌, ◌*◌, ◌%◌, ◌^◌, ◌<◌, ◌≤◌, ◌∷◌, [], true, false, length};
-ghost use Rattle.std.specs.Prelude.{slice_index, IfNone, IfSome};
-ghost use Rattle.std.specs.List.{All};
+ghost use Rattle.std.specs.{Prelude.{slice_index, IfNone, IfSome}, List.{All}};
 ghost use Rattle.array_maps.specs.declared.access.Op.{Op as Operator};
 ghost use Rattle.lane_rows.specs.Lanes.{MaskHas};
-ghost use Rattle.lane_stamps.specs.Sites.{HasRows, IsWithin, effect_at, effect_if, is_of_halves, log_of};
-ghost use Rattle.lane_stamps.specs.Sites.{shown};
+ghost use Rattle.lane_stamps.specs.Sites.{HasRows, IsWithin, effect_at, effect_if, is_of_halves, log_of, shown};
 ghost use Rattle.loop_core_model.specs.declared.loop_test.Test.TheVariants.{Flow};
-ghost use Rattle.shadow_marks.specs.Bits.{ChangesNumber, OrsBit};
-ghost use Rattle.shadow_marks.specs.Standing.{ArePlanes, EachPlane, plane_by, test_of};
+ghost use Rattle.shadow_marks.specs.{Bits.{ChangesNumber, OrsBit}, Standing.{ArePlanes, EachPlane, plane_by, test_of}};
 ghost use Rattle.loop_marks.specs.LaneMarks.{access_kind};
 ghost use Rattle.loop_marks.specs.SiteMarks.{AreBelow, AreElements, AreReached, FlowKeeps, HaveNumbers, IsEnd};
 ghost use Rattle.loop_marks.specs.SiteMarks.{KeepsNumbers, SetsBits, SitesMarked, gets_to, kept, kind_is_plain};

@@ -1,10 +1,8 @@
 //! Marks of a loop's iterations.
 
-ghost use Rattle.std.specs.Prelude.{◌≡◌, ◌+◌, ◌≤◌, true, false, IfOk};
-ghost use Rattle.std.specs.List.{All};
+ghost use Rattle.std.specs.{Prelude.{◌≡◌, ◌+◌, ◌≤◌, true, false, IfOk}, List.{All}};
 ghost use Rattle.lane_stamps.specs.Sites.{HasRows, IsWithin, log_of, shown};
-ghost use Rattle.shadow_marks.specs.Ending.{KeepsShape};
-ghost use Rattle.shadow_marks.specs.Standing.{ArePlanes, StandFor, no_visits, test_of};
+ghost use Rattle.shadow_marks.specs.{Ending.{KeepsShape}, Standing.{ArePlanes, StandFor, no_visits, test_of}};
 
 use crate::by_site::mark_sites;
 use crate::unseen::go_by_site;

@@ -1,14 +1,11 @@
 //! Whether lanes are marked site by site: so they are if none looks where it stored before.
 
-ghost use Rattle.std.specs.Prelude.{◌≡◌, ℕ, ◌<◌, ◌≤◌, true, false, length};
-ghost use Rattle.std.specs.List.{All};
+ghost use Rattle.std.specs.{Prelude.{◌≡◌, ℕ, ◌<◌, ◌≤◌, true, false, length}, List.{All}};
 ghost use Rattle.lane_stamps.specs.Forms.{IsFormOf};
-ghost use Rattle.lane_stamps.specs.Sites.{HasRows, element_named, is_of_halves, place_of as place_in};
-ghost use Rattle.lane_stamps.specs.Sites.{places_of, shown};
+ghost use Rattle.lane_stamps.specs.Sites.{HasRows, element_named, is_of_halves, place_of as place_in, places_of, shown};
 ghost use Rattle.loop_core_model.specs.declared.loop_test.Test.TheVariants.{Flow};
 ghost use Rattle.shadow_marks.specs.Standing.{test_of};
-ghost use Rattle.loop_marks.specs.SiteMarks.{AreUnseen, IsApart, IsUnseen, kind_looks};
-ghost use Rattle.loop_marks.specs.LaneMarks.{access_kind};
+ghost use Rattle.loop_marks.specs.{SiteMarks.{AreUnseen, IsApart, IsUnseen, kind_looks}, LaneMarks.{access_kind}};
 
 use crate::by_site::{access_of, looks};
 use lane_stamps::{Form, Lanes, Site, element_of, form_of, has, place_of};

@@ -1,26 +1,17 @@
 -- The two steps of an access are the access.
-use Rattle.std.proofs.Common.{◌≡◌, ◌≢◌, ℕ, ◌+◌, ◌<◌, ◌/◌, ◌%◌, Bool, true, false, eqb, List, length}
-use Rattle.std.proofs.Common.{map, get_or, set, Some, refl, sym, ◌∙◌, ap, subst, arith, length-set}
-use Rattle.std.proofs.Common.{get_or-set_same, get_or-set_other, eq-eqb, ne_eqb, inl, inr}
-use Rattle.std.specs.Prelude.{slice_index, slice_index_or, if◌then◌else◌, None}
-use Rattle.std.specs.List.{range_with_len}
-use Rattle.std.proofs.lemmas.Bool.{cases_eq}
-use Rattle.std.proofs.lemmas.List.{ext_get_or}
+use Rattle.std.proofs.Common.{◌≡◌, ◌≢◌, ℕ, ◌+◌, ◌<◌, ◌/◌, ◌%◌, Bool, true, false, eqb, List, length, map, get_or, set}
+use Rattle.std.proofs.Common.{Some, refl, sym, ◌∙◌, ap, subst, arith, length-set, get_or-set_same, get_or-set_other}
+use Rattle.std.{proofs.{Common.{eq-eqb, ne_eqb, inl, inr}, lemmas.Bool.{cases_eq}}, specs.List.{range_with_len}}
+use Rattle.std.{specs.Prelude.{slice_index, slice_index_or, if◌then◌else◌, None}, proofs.lemmas.List.{ext_get_or}}
 use Rattle.std.proofs.lemmas.List.FromFn.{get_or-map-range_with_len, length-map-range_with_len}
 use Rattle.array_maps.specs.Accesses.{Action, Read, left_by}
-use Rattle.loop_core_model.specs.Actions.{is_write}
-use Rattle.loop_core_model.specs.Flags.{kind_of, flagged}
-use Rattle.loop_core_model.specs.declared.access.Access.{Access as Kind}
+use Rattle.loop_core_model.specs.{Actions.{is_write}, Flags.{kind_of, flagged}, declared.access.Access.{Access as Kind}}
 use Rattle.loop_core_model.specs.declared.access.Access.TheVariants.{Read as Reads}
 use Rattle.shadow_marks.specs.Iteration.{element_count, flags_at}
-use Rattle.private_copy.specs.declared.page.Combining.{Combining}
-use Rattle.private_copy.specs.declared.page.Combining.TheVariants.{Mixed}
-use Rattle.private_copy.specs.declared.page.Cell.{Cell}
-use Rattle.private_copy.specs.declared.private.Private.{Private}
+use Rattle.private_copy.specs.declared.page.{Combining.{Combining, TheVariants.{Mixed}}, Cell.{Cell}}
+use Rattle.private_copy.specs.{declared.private.Private.{Private}, Reductions.{reduction_after}}
 use Rattle.private_copy.specs.Cells.{PlacedPages, cell_at, blank, blank_cells, mixed_cell, reduction_in}
-use Rattle.private_copy.specs.Reductions.{reduction_after}
-use Rattle.private_copy.specs.Copies.{last_after, Accessed}
-use Rattle.private_copy.specs.Shown.{copy_of, seen_word, last_in}
+use Rattle.private_copy.specs.{Copies.{last_after, Accessed}, Shown.{copy_of, seen_word, last_in}}
 use Rattle.private_copy.specs.Steps.{IsAdmitted, CellIsSet}
 
 -- a cell that this iteration wrote, and another

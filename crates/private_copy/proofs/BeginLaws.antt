@@ -1,19 +1,12 @@
 -- An iteration begins.
 use Rattle.std.proofs.Common.{◌≡◌, ℕ, ◌+◌, ◌≤◌, Bool, List, [], length, map, sym, ◌∙◌, ap, arith, ne_eqb}
-use Rattle.std.specs.Prelude.{slice_index, if◌then◌else◌}
-use Rattle.std.specs.List.{range_with_len}
-use Rattle.std.proofs.lemmas.List.{ext_get_or}
+use Rattle.std.{specs.{Prelude.{slice_index, if◌then◌else◌}, List.{range_with_len}}, proofs.lemmas.List.{ext_get_or}}
 use Rattle.array_maps.specs.Accesses.{Access}
-use Rattle.loop_core_model.specs.Committed.{last_value}
-use Rattle.loop_core_model.specs.Conflict.{at_element}
-use Rattle.loop_core_model.proofs.FlagLaws.{flags_follow_kinds}
-use Rattle.shadow_marks.specs.declared.iter_flags.IterFlags.{IterFlags}
-use Rattle.shadow_marks.specs.Iteration.{touched_count, IsEmptied}
+use Rattle.loop_core_model.{specs.{Committed.{last_value}, Conflict.{at_element}}, proofs.FlagLaws.{flags_follow_kinds}}
+use Rattle.shadow_marks.specs.{declared.iter_flags.IterFlags.{IterFlags}, Iteration.{touched_count, IsEmptied}}
 use Rattle.shadow_marks.proofs.TouchLaws.{nothing_flagged, none_touched}
-use Rattle.private_copy.specs.Cells.{PlacedPages, cell_at}
-use Rattle.private_copy.specs.Reductions.{reduction_of}
+use Rattle.private_copy.specs.{Cells.{PlacedPages, cell_at}, Reductions.{reduction_of}, Shown.{seen_word, IsBegun}}
 use Rattle.private_copy.specs.Copies.{PrivateCopy, CopyRecords, CopyRecordsWithin}
-use Rattle.private_copy.specs.Shown.{seen_word, IsBegun}
 use Rattle.private_copy.proofs.IterationLaws.{at_last, last_none, reduction_none, pages_none}
 use Rattle.private_copy.proofs.AccessLaws.{shown_at, shown_length}
 

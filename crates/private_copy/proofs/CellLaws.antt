@@ -1,15 +1,10 @@
 -- The cells of pages in the table, after a page has changed.
-use Rattle.std.proofs.Common.{◌≡◌, ◌≢◌, ℕ, ◌/◌, ◌%◌, ◌<◌, List, map, length, get_or, set, Some, None, inl}
-use Rattle.std.proofs.Common.{inr, refl, sym, ◌∙◌, ap, arith, get_or-set_same, get_or-set_other}
-use Rattle.std.specs.Prelude.{Box}
-use Rattle.std.specs.declared.alloc.Global.{Global}
-use Rattle.std.proofs.lemmas.Bool.{cases_eq}
-use Rattle.std.proofs.Math.Nat.{div-add-mod}
+use Rattle.std.proofs.Common.{◌≡◌, ◌≢◌, ℕ, ◌/◌, ◌%◌, ◌<◌, List, map, length, get_or, set, Some, None, inl, inr, refl}
+use Rattle.std.{proofs.Common.{sym, ◌∙◌, ap, arith, get_or-set_same, get_or-set_other}, specs.Prelude.{Box}}
+use Rattle.std.{specs.declared.alloc.Global.{Global}, proofs.{lemmas.Bool.{cases_eq}, Math.Nat.{div-add-mod}}}
 use Rattle.std.proofs.lemmas.List.{get_or_default, length-map}
-use Rattle.private_copy.specs.declared.page.Page.{Page}
-use Rattle.private_copy.specs.declared.pages.Pages.TheInside.{Inside}
+use Rattle.private_copy.specs.{declared.{page.Page.{Page}, pages.Pages.TheInside.{Inside}}, Inside.{pages_in}}
 use Rattle.private_copy.specs.Cells.{PlacedPages, total_of, cell_in, cells_of, cell_at}
-use Rattle.private_copy.specs.Inside.{pages_in}
 use Rattle.private_copy.proofs.PageLaws.{Slot, cell_of, slot_cell, cell_there}
 
 -- a page stands in the table

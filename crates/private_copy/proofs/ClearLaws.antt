@@ -1,17 +1,11 @@
 -- Placed pages are taken back, from the last to the first.
-use Rattle.std.proofs.Common.{◌≡◌, ◌≢◌, ℕ, ◌+◌, ◌-◌, ◌/◌, ◌<◌, ◌≤◌, Bool, true, false, ◌||◌, eqb, Some}
-use Rattle.std.proofs.Common.{None, List, [], ◌∷◌, length, take, get_or, set, is_some, refl, sym, ◌∙◌, ap}
-use Rattle.std.proofs.Common.{subst, inl, inr, arith, get_or-set_same, get_or-set_other, ne_eqb}
-use Rattle.std.proofs.Math.Bool.{or-false}
-use Rattle.std.proofs.Math.ListN.{get_or-eq_default}
-use Rattle.std.proofs.lemmas.Bool.{cases_eq, cases_lt}
-use Rattle.std.proofs.lemmas.List.{take_more}
-use Rattle.std.proofs.lemmas.Option.{get_or_from_slice_get, slice_get_within}
-use Rattle.std.proofs.lemmas.List.Folds.{list_any-append}
+use Rattle.std.proofs.Common.{◌≡◌, ◌≢◌, ℕ, ◌+◌, ◌-◌, ◌/◌, ◌<◌, ◌≤◌, Bool, true, false, ◌||◌, eqb, Some, None, List, []}
+use Rattle.std.proofs.Common.{◌∷◌, length, take, get_or, set, is_some, refl, sym, ◌∙◌, ap, subst, inl, inr, arith}
+use Rattle.std.proofs.{Common.{get_or-set_same, get_or-set_other, ne_eqb}, Math.Bool.{or-false}}
+use Rattle.std.proofs.{Math.ListN.{get_or-eq_default}, lemmas.{Bool.{cases_eq, cases_lt}, List.{take_more}}}
+use Rattle.std.proofs.lemmas.{Option.{get_or_from_slice_get, slice_get_within}, List.Folds.{list_any-append}}
 use Rattle.std.specs.Prelude.{slice_get}
-use Rattle.private_copy.specs.Cells.{blank}
-use Rattle.private_copy.specs.Touched.{has_page}
-use Rattle.private_copy.proofs.PageLaws.{Slot, cell_of, unplaced_cell}
+use Rattle.private_copy.{specs.{Cells.{blank}, Touched.{has_page}}, proofs.PageLaws.{Slot, cell_of, unplaced_cell}}
 
 not_both : true ≡ false → ⊥
 not_both h = let P : Bool → Type 0 = λ b. elim b as (λ v. Type 0) [ true ↦ Unit {0} | false ↦ ⊥ ] in subst P h tt

@@ -1,26 +1,17 @@
 -- A copy follows the accesses of the iteration under way.
-use Rattle.std.proofs.Common.{◌≡◌, ℕ, ◌+◌, ◌<◌, Bool, true, false, eqb, List, [], ◌∷◌, ◌++◌}
-use Rattle.std.proofs.Common.{length, refl, sym, ◌∙◌, ap, subst, append_assoc, arith}
-use Rattle.std.specs.Prelude.{slice_index}
+use Rattle.std.proofs.Common.{◌≡◌, ℕ, ◌+◌, ◌<◌, Bool, true, false, eqb, List, [], ◌∷◌, ◌++◌, length, refl, sym, ◌∙◌, ap}
+use Rattle.std.{proofs.{Common.{subst, append_assoc, arith}, lemmas.List.{append-nil}}, specs.Prelude.{slice_index}}
 use Rattle.std.proofs.lemmas.Bool.{eqb-true, eqb-false}
-use Rattle.std.proofs.lemmas.List.{append-nil}
-use Rattle.array_maps.specs.Accesses.{Access, actions_at, words_after, words_after_all}
-use Rattle.array_maps.specs.Store.{Effects}
-use Rattle.array_maps.proofs.ElementLaws.{element_after_all}
-use Rattle.array_maps.proofs.StoreLaws.{words_after_all-more}
-use Rattle.loop_core_model.specs.Committed.{last_value}
-use Rattle.loop_core_model.specs.Conflict.{at_element}
-use Rattle.loop_core_model.specs.Flags.{flags_of, flagged, kind_of}
+use Rattle.array_maps.specs.{Accesses.{Access, actions_at, words_after, words_after_all}, Store.{Effects}}
+use Rattle.array_maps.proofs.{ElementLaws.{element_after_all}, StoreLaws.{words_after_all-more}}
+use Rattle.loop_core_model.specs.{Committed.{last_value}, Conflict.{at_element}, Flags.{flags_of, flagged, kind_of}}
 use Rattle.loop_core_model.proofs.FlagLaws.{flags_follow_kinds}
 use Rattle.shadow_marks.specs.Iteration.{flags_at}
-use Rattle.private_copy.specs.declared.private.Private.{Private}
-use Rattle.private_copy.specs.Reductions.{reduction_of, reduction_after}
-use Rattle.private_copy.specs.Touched.{with_page, page_of}
+use Rattle.private_copy.specs.{declared.private.Private.{Private}, Reductions.{reduction_of, reduction_after}}
+use Rattle.private_copy.specs.{Touched.{with_page, page_of}, Shown.{copy_of}, CopyLaw.{AccessEffect, AccessesFollow}}
 use Rattle.private_copy.specs.Copies.{PrivateCopy, last_after, Accessed, CopyRecordsWithin}
-use Rattle.private_copy.specs.Shown.{copy_of}
-use Rattle.private_copy.specs.CopyLaw.{AccessEffect, AccessesFollow}
-use Rattle.private_copy.proofs.IterationLaws.{last_more, reduction_more, pages_more, at_last}
-use Rattle.private_copy.proofs.IterationLaws.{actions_here, actions_other}
+use Rattle.private_copy.proofs.IterationLaws.{last_more, reduction_more, pages_more, at_last, actions_here}
+use Rattle.private_copy.proofs.IterationLaws.{actions_other}
 
 -- the flags at an element
 flags_step : (old new : PrivateCopy) (accesses : List Access) (access : Access) (e : ℕ) → Accessed old access new →
@@ -110,16 +101,16 @@ step old new runs accesses access within done =
     }
 
 -- and accesses in turn
-stands : (old new : Private) (runs : List (List Access)) (before more : List Access) →
+records : (old new : Private) (runs : List (List Access)) (before more : List Access) →
     CopyRecordsWithin (copy_of old) runs before → Effects AccessEffect old more new
     → CopyRecordsWithin (copy_of new) runs (before ++ more)
-stands old new runs before [] within same =
+records old new runs before [] within same =
     subst (λ (l : List Access). CopyRecordsWithin (copy_of new) runs l) (sym (append-nil before))
     (subst (λ (p : Private). CopyRecordsWithin (copy_of p) runs before) (sym same) within)
-stands old new runs before (access ∷ more) within effects =
+records old new runs before (access ∷ more) within effects =
     let next = step (copy_of old) (copy_of effects.0) runs before access within effects.1 in
     subst (λ (l : List Access). CopyRecordsWithin (copy_of new) runs l) (append_assoc before (access ∷ []) more)
-    (stands effects.0 new runs (before ++ access ∷ []) more next effects.2)
+    (records effects.0 new runs (before ++ access ∷ []) more next effects.2)
 
 start : (old new : Private) (more : List Access) → Effects AccessEffect old more new
     → (copy_of new).start ≡ (copy_of old).start
@@ -138,4 +129,4 @@ serves old new (access ∷ more) effects = let h = serves effects.0 new more eff
     omega (arith, h, k)
 
 pub accesses_follow : AccessesFollow
-accesses_follow = record { stands = stands; start = start; begun = begun; serves = serves }
+accesses_follow = record { records = records; start = start; begun = begun; serves = serves }

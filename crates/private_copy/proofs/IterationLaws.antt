@@ -1,23 +1,14 @@
 -- What is remembered of the iteration under way, action by action.
-use Rattle.std.proofs.Common.{◌≡◌, ℕ, Bool, true, false, ◌||◌, eqb, List, [], ◌∷◌, ◌++◌}
-use Rattle.std.proofs.Common.{Option, Some, None, refl, sym, ◌∙◌, ap, append_assoc}
-use Rattle.std.specs.Prelude.{if◌then◌else◌}
-use Rattle.std.specs.Option.{option_or, option_map}
-use Rattle.std.proofs.Math.Bool.{or-false}
-use Rattle.std.proofs.lemmas.List.{append-nil, map-append}
-use Rattle.std.proofs.lemmas.List.Folds.{list_any-append}
+use Rattle.std.proofs.Common.{◌≡◌, ℕ, Bool, true, false, ◌||◌, eqb, List, [], ◌∷◌, ◌++◌, Option, Some, None, refl, sym}
+use Rattle.std.{proofs.Common.{◌∙◌, ap, append_assoc}, specs.{Prelude.{if◌then◌else◌}, Option.{option_or, option_map}}}
+use Rattle.std.proofs.{Math.Bool.{or-false}, lemmas.List.{append-nil, map-append, Folds.{list_any-append}}}
 use Rattle.array_maps.specs.Accesses.{Access, Action, Read, Write, ReadWrite, Reduce, left_by, left_by_all, actions_at}
-use Rattle.loop_core_model.specs.Actions.{is_write, writes, joined}
-use Rattle.loop_core_model.specs.Committed.{last_that, last_value}
-use Rattle.loop_core_model.specs.Conflict.{at_element}
-use Rattle.loop_core_model.proofs.OneElement.{left_by_all-append}
-use Rattle.loop_core_model.proofs.Turns.{actions_at-append}
-use Rattle.loop_core_model.proofs.KeptLaws.{joined-append, last_that-append}
-use Rattle.private_copy.specs.declared.reduction.Reduction.TheVariants.{Untouched}
+use Rattle.loop_core_model.specs.{Actions.{is_write, writes, joined}, Committed.{last_that, last_value}}
+use Rattle.loop_core_model.{specs.Conflict.{at_element}, proofs.OneElement.{left_by_all-append}}
+use Rattle.loop_core_model.proofs.{Turns.{actions_at-append}, KeptLaws.{joined-append, last_that-append}}
+use Rattle.private_copy.specs.{declared.reduction.Reduction.TheVariants.{Untouched}, Copies.{last_after}}
 use Rattle.private_copy.specs.Reductions.{reduction_after, reduction_from, reduction_of}
-use Rattle.private_copy.specs.Copies.{last_after}
-use Rattle.private_copy.specs.Touched.{with_page, page_of, pages_after}
-use Rattle.private_copy.proofs.ReductionLaws.{reduction_from-append}
+use Rattle.private_copy.{specs.Touched.{with_page, page_of, pages_after}, proofs.ReductionLaws.{reduction_from-append}}
 
 or_true : (b : Bool) → (b || true) ≡ true
 or_true true = refl

@@ -1,35 +1,30 @@
 -- Words that are overwritten one after another.
-use Rattle.std.proofs.Common.{◌≡◌, ℕ, ◌+◌, ◌*◌, ◌/◌, ◌%◌, ◌<◌, ◌≤◌, List, length, get_or, set, Option, Some, None}
-use Rattle.std.proofs.Common.{inl, inr, refl, sym, ◌∙◌, ap, arith, get_or-set_same, get_or-set_other}
-use Rattle.std.specs.Prelude.{Box, slice_index}
-use Rattle.std.specs.declared.alloc.Global.{Global}
-use Rattle.std.specs.Option.{unwrap_or}
+use Rattle.std.proofs.Common.{◌≡◌, ℕ, ◌+◌, ◌*◌, ◌/◌, ◌%◌, ◌<◌, ◌≤◌, List, length, get_or, set, Option, Some, None, inl}
+use Rattle.std.proofs.Common.{inr, refl, sym, ◌∙◌, ap, arith, get_or-set_same, get_or-set_other}
+use Rattle.std.specs.{Prelude.{Box, slice_index}, declared.alloc.Global.{Global}, Option.{unwrap_or}}
 use Rattle.std.proofs.lemmas.Bool.{cases_eq}
-use Rattle.private_copy.specs.declared.page.Cell.{Cell}
-use Rattle.private_copy.specs.declared.page.Page.{Page}
-use Rattle.private_copy.specs.Shown.{last_in}
-use Rattle.private_copy.specs.Overwriting.{AreOverwritten}
+use Rattle.private_copy.specs.{declared.page.{Cell.{Cell}, Page.{Page}}, Shown.{last_in}, Overwriting.{AreOverwritten}}
 use Rattle.private_copy.proofs.PageLaws.{Slot, cell_of, slot_cell, cell_there, unplaced_cell}
 
-pub none_yet : (told : ℕ → Option ℕ) (words : List ℕ) → AreOverwritten told 0 words words
-none_yet told words = record { inside = λ k below. absurd (omega (arith, below)); past = λ k above. refl }
+pub none_yet : (last : ℕ → Option ℕ) (words : List ℕ) → AreOverwritten last 0 words words
+none_yet last words = record { inside = λ k below. absurd (omega (arith, below)); past = λ k above. refl }
 
-pub one_more : (told : ℕ → Option ℕ) (n : ℕ) (old now : List ℕ) (value : ℕ) → n < length now
-    → value ≡ unwrap_or (told n) (slice_index now n) → AreOverwritten told n old now
-    → AreOverwritten told (n + 1) old (set now n value)
-one_more told n old now value room is so_far = record {
+pub one_more : (last : ℕ → Option ℕ) (n : ℕ) (old now : List ℕ) (value : ℕ) → n < length now
+    → value ≡ unwrap_or (last n) (slice_index now n) → AreOverwritten last n old now
+    → AreOverwritten last (n + 1) old (set now n value)
+one_more last n old now value room is so_far = record {
   inside = λ k below. elim (cases_eq k n) [
     | inl same ↦
         ap (λ (i : ℕ). get_or (set now n value) i 0) same ∙ get_or-set_same now n value 0 room ∙ is
-        ∙ ap (unwrap_or (told n)) (so_far.past n (omega arith))
-        ∙ ap (λ (i : ℕ). unwrap_or (told i) (slice_index old i)) (sym same)
+        ∙ ap (unwrap_or (last n)) (so_far.past n (omega arith))
+        ∙ ap (λ (i : ℕ). unwrap_or (last i) (slice_index old i)) (sym same)
     | inr other ↦ get_or-set_other now n k value 0 other ∙ so_far.inside k (omega (arith, below, other))
   ];
   past = λ k above.
       get_or-set_other now n k value 0 (λ same. omega (arith, same, above)) ∙ so_far.past k (omega (arith, above));
 }
 
--- what is told of a page that is there, and of one that isn't
+-- the last values on a page that is there, and of one that isn't
 place_of : (page k : ℕ) → k < 64 → (page * 64 + k) % 64 ≡ k
 place_of page k below = omega (arith, below)
 

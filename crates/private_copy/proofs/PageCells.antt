@@ -2,10 +2,7 @@
 use Rattle.std.proofs.Common.{◌≡◌, ℕ, ◌<◌, length, get_or, sym, ◌∙◌, ap, arith, ext_get_or}
 use Rattle.std.proofs.lemmas.List.{get_or-replicate, length-replicate}
 use Rattle.std.proofs.lemmas.List.FromFn.{get_or-map-range_with_len, length-map-range_with_len}
-use Rattle.private_copy.specs.declared.page.Combining.{Combining}
-use Rattle.private_copy.specs.declared.page.Combining.TheVariants.{Untouched}
-use Rattle.private_copy.specs.declared.page.Cell.{Cell}
-use Rattle.private_copy.specs.declared.page.Page.{Page}
+use Rattle.private_copy.specs.declared.page.{Combining.{Combining, TheVariants.{Untouched}}, Cell.{Cell}, Page.{Page}}
 use Rattle.private_copy.specs.Cells.{blank, cell_in, first_cells, blank_cells, blank_page}
 
 -- cells are equal where their parts are

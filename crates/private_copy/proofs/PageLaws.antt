@@ -2,23 +2,15 @@
 use Rattle.std.proofs.Common.{◌≡◌, ℕ, ◌+◌, ◌-◌, ◌/◌, ◌%◌, ◌<◌, ◌≤◌, Bool, true, false, ◌||◌, eqb, Option, Some, None}
 use Rattle.std.proofs.Common.{List, [], ◌∷◌, ◌++◌, length, take, get_or, set, replicate, is_some, map, refl, sym, ◌∙◌}
 use Rattle.std.proofs.Common.{ap, subst, inl, inr, arith, length-set, get_or-set_same, get_or-set_other, eq-eqb, ne_eqb}
-use Rattle.std.specs.List.{position, swap}
-use Rattle.std.proofs.lemmas.Bool.{eqb-true, cases_eq, cases_lt}
+use Rattle.std.{specs.List.{position, swap}, proofs.{lemmas.Bool.{eqb-true, cases_eq, cases_lt}, Math.Nat.{mod-lt}}}
 use Rattle.std.proofs.lemmas.List.{take_all, take-set-le, take_more, get_or-take, length-take, get_or_default}
-use Rattle.std.proofs.lemmas.List.Folds.{list_any-append, list_any_at}
-use Rattle.std.proofs.lemmas.List.Quantifiers.{position-Some}
-use Rattle.std.specs.Prelude.{Box, if◌then◌else◌, slice_get, IfSome}
-use Rattle.std.proofs.lemmas.Option.{slice_get_within, slice_get-get_or, get_or_from_slice_get}
-use Rattle.std.specs.declared.alloc.Global.{Global}
-use Rattle.std.proofs.Math.ListN.{get_or-map, get_or-eq_default}
-use Rattle.std.proofs.Math.Nat.{mod-lt}
+use Rattle.std.proofs.lemmas.List.{get_or-replicate, length-replicate, Folds.{list_any-append, list_any_at}}
+use Rattle.std.{proofs.lemmas.List.Quantifiers.{position-Some}, specs.Prelude.{Box, if◌then◌else◌, slice_get, IfSome}}
+use Rattle.std.proofs.{lemmas.Option.{slice_get_within, slice_get-get_or, get_or_from_slice_get}, Math.Bool.{or-false}}
+use Rattle.std.{specs.declared.alloc.Global.{Global}, proofs.Math.ListN.{get_or-map, get_or-eq_default}}
 use Rattle.std.proofs.Math.Seq.{map-set_same}
-use Rattle.std.proofs.Math.Bool.{or-false}
-use Rattle.std.proofs.lemmas.List.{get_or-replicate, length-replicate}
-use Rattle.private_copy.specs.declared.page.Cell.{Cell}
-use Rattle.private_copy.specs.declared.page.Page.{Page}
+use Rattle.private_copy.specs.{declared.page.{Cell.{Cell}, Page.{Page}}, Touched.{has_page}}
 use Rattle.private_copy.specs.Cells.{blank, blank_cells, cell_in, cells_of, IsBlank}
-use Rattle.private_copy.specs.Touched.{has_page}
 use Rattle.private_copy.proofs.PageCells.{first_cell_at, blank_page_cells}
 
 abbrev pub Slot : Type 0

@@ -1,13 +1,9 @@
 -- What reduces combine, action by action.
 use Rattle.std.proofs.Common.{◌≡◌, ℕ, Bool, true, false, ◌&&◌, List, [], ◌∷◌, ◌++◌, Some, None, refl, sym, ◌∙◌, ap}
-use Rattle.std.specs.Prelude.{if◌then◌else◌}
-use Rattle.std.specs.List.{list_all}
-use Rattle.array_maps.specs.declared.access.Op.{Op}
-use Rattle.array_maps.specs.Accesses.{Action, Read, Write, ReadWrite, Reduce, combined}
-use Rattle.loop_core_model.specs.Actions.{is_same, reduces_by, joined, only_operator, operands}
-use Rattle.loop_core_model.specs.Kept.{partial_by}
-use Rattle.private_copy.specs.declared.reduction.Reduction.{Reduction}
-use Rattle.private_copy.specs.declared.reduction.Reduction.TheVariants.{Untouched, By, Mixed}
+use Rattle.std.specs.{Prelude.{if◌then◌else◌}, List.{list_all}}
+use Rattle.array_maps.specs.{declared.access.Op.{Op}, Accesses.{Action, Read, Write, ReadWrite, Reduce, combined}}
+use Rattle.loop_core_model.specs.{Actions.{is_same, reduces_by, joined, only_operator, operands}, Kept.{partial_by}}
+use Rattle.private_copy.specs.declared.reduction.Reduction.{Reduction, TheVariants.{Untouched, By, Mixed}}
 use Rattle.private_copy.specs.Reductions.{reduction_after, reduction_from, combination, PartialIsCombination}
 
 -- what is mixed stays so

@@ -1,12 +1,9 @@
 -- An iteration more among visits.
-use Rattle.std.proofs.Common.{◌≡◌, ℕ, ◌+◌, List, [], ◌∷◌, ◌++◌, length, sym, ◌∙◌, ap, arith}
-use Rattle.std.proofs.lemmas.List.{length-map}
+use Rattle.std.proofs.{Common.{◌≡◌, ℕ, ◌+◌, List, [], ◌∷◌, ◌++◌, length, sym, ◌∙◌, ap, arith}, lemmas.List.{length-map}}
 use Rattle.array_maps.specs.Accesses.{Access, Action, actions_at}
-use Rattle.loop_core_model.specs.Conflict.{at_element}
-use Rattle.loop_core_model.specs.Marks.{Visit, numbered}
+use Rattle.loop_core_model.specs.{Conflict.{at_element}, Marks.{Visit, numbered}}
 use Rattle.shadow_marks.specs.Standing.{one_more}
-use Rattle.private_copy.specs.Visits.{visits_of}
-use Rattle.private_copy.proofs.IterationLaws.{at_last}
+use Rattle.private_copy.{specs.Visits.{visits_of}, proofs.IterationLaws.{at_last}}
 
 numbered_last : (first : ℕ) (xs : List (List Action)) (actions : List Action) (index : ℕ) → index ≡ first + length xs →
     numbered first (xs ++ actions ∷ []) ≡ numbered first xs ++ (record { index = index; actions = actions }) ∷ []

@@ -1,14 +1,9 @@
 -- The cells of elements, as pages keep them.
-use Rattle.std.specs.Prelude.{◌≡◌, ℕ, ◌/◌, ◌%◌, Box, List, length, map, replicate}
-use Rattle.std.specs.Prelude.{slice_index, slice_index_or, Option, Some, None}
-use Rattle.std.specs.List.{range_with_len}
-use Rattle.std.specs.declared.alloc.Global.{Global}
-use Rattle.private_copy.specs.declared.reduction.Reduction.{Reduction}
+use Rattle.std.specs.Prelude.{◌≡◌, ℕ, ◌/◌, ◌%◌, Box, List, length, map, replicate, slice_index, slice_index_or, Option}
+use Rattle.std.specs.{Prelude.{Some, None}, List.{range_with_len}, declared.alloc.Global.{Global}}
+use Rattle.private_copy.specs.declared.reduction.Reduction.{Reduction, TheVariants.{Mixed as MixedReduction}}
 use Rattle.private_copy.specs.declared.reduction.Reduction.TheVariants.{Untouched as NoReduction, By as ReducedBy}
-use Rattle.private_copy.specs.declared.reduction.Reduction.TheVariants.{Mixed as MixedReduction}
-use Rattle.private_copy.specs.declared.page.Combining.{Combining}
-use Rattle.private_copy.specs.declared.page.Combining.TheVariants.{Untouched, By, Mixed}
-use Rattle.private_copy.specs.declared.page.Cell.{Cell}
+use Rattle.private_copy.specs.declared.page.{Combining.{Combining, TheVariants.{Untouched, By, Mixed}}, Cell.{Cell}}
 use Rattle.private_copy.specs.declared.page.Page.{Page}
 
 -- the cell of an element that wasn't accessed

@@ -1,15 +1,12 @@
 -- A private copy of maps: what it shows, and what is remembered of the iterations that used it.
-use Rattle.std.specs.Prelude.{◌≡◌, ◌≢◌, ℕ, ◌+◌, ◌<◌, Bool, true, false, if◌then◌else◌, List}
-use Rattle.std.specs.Prelude.{[], ◌∷◌, ◌++◌, length, slice_index, Option, Some}
+use Rattle.std.specs.Prelude.{◌≡◌, ◌≢◌, ℕ, ◌+◌, ◌<◌, Bool, true, false, if◌then◌else◌, List, [], ◌∷◌, ◌++◌, length}
+use Rattle.std.specs.Prelude.{slice_index, Option, Some}
 use Rattle.array_maps.specs.Accesses.{Access, Action, actions_at, left_by, words_after, words_after_all}
-use Rattle.loop_core_model.specs.Actions.{is_write, joined}
-use Rattle.loop_core_model.specs.Committed.{last_value}
-use Rattle.loop_core_model.specs.Conflict.{at_element}
+use Rattle.loop_core_model.specs.{Actions.{is_write, joined}, Committed.{last_value}, Conflict.{at_element}}
 use Rattle.loop_core_model.specs.Flags.{flagged, kind_of}
 use Rattle.shadow_marks.specs.declared.iter_flags.IterFlags.{IterFlags}
 use Rattle.shadow_marks.specs.Iteration.{element_count, flags_at, AreFlagsOf}
-use Rattle.private_copy.specs.declared.reduction.Reduction.{Reduction}
-use Rattle.private_copy.specs.Reductions.{reduction_of, reduction_after}
+use Rattle.private_copy.specs.{declared.reduction.Reduction.{Reduction}, Reductions.{reduction_of, reduction_after}}
 use Rattle.private_copy.specs.Touched.{page_of, with_page, pages_after}
 
 -- A private copy. start: the words of the start maps. words: what the iteration under way sees. flags: what it did at
@@ -55,12 +52,12 @@ pub record Remembers (copy : PrivateCopy) (runs : List (List Access)) : Type 0 w
   pub reduction : (e : ℕ) → e < length copy.start → copy.reduction e ≡ reduction_of (at_element e runs)
   pub pages : copy.pages ≡ pages_after [] (joined runs)
 
--- the copy stands for these iterations, which ended
+-- the copy records these iterations, which ended
 pub record CopyRecords (copy : PrivateCopy) (runs : List (List Access)) : Type 0 where
   pub ended : copy.under_way ≡ false
   pub remembers : Remembers copy runs
 
--- it stands for these iterations, which ended, and one under way, which made these accesses: the words that it shows
+-- it records these iterations, which ended, and one under way, which made these accesses: the words that it shows
 -- are the start words changed by them alone
 pub record CopyRecordsWithin (copy : PrivateCopy) (runs : List (List Access)) (accesses : List Access) : Type 0 where
   pub under_way : copy.under_way ≡ true

@@ -1,8 +1,7 @@
 -- What the private fields of pages stand for.
 use Rattle.std.specs.Prelude.{◌≡◌, ℕ, ◌<◌, ◌≤◌, true, length, map, take, slice_index_or, None, is_some, nat_eq}
 use Rattle.indexmap.specs.IndexSet.{contains}
-use Rattle.private_copy.specs.declared.pages.Pages.TheInside.{Inside}
-use Rattle.private_copy.specs.Cells.{PlacedPages, cells_of, IsBlank}
+use Rattle.private_copy.specs.{declared.pages.Pages.TheInside.{Inside}, Cells.{PlacedPages, cells_of, IsBlank}}
 use Rattle.private_copy.specs.Touched.{has_page}
 
 -- the pages

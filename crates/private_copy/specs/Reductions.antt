@@ -1,11 +1,8 @@
 -- What the reduces of one element combined, over iterations in order.
 use Rattle.std.specs.Prelude.{◌≡◌, ℕ, List, [], ◌∷◌, Option, Some, None, if◌then◌else◌}
-use Rattle.array_maps.specs.declared.access.Op.{Op}
-use Rattle.array_maps.specs.Accesses.{Action, Read, Write, ReadWrite, Reduce, combined}
-use Rattle.loop_core_model.specs.Actions.{is_same, joined}
-use Rattle.loop_core_model.specs.Kept.{partial}
-use Rattle.private_copy.specs.declared.reduction.Reduction.{Reduction}
-use Rattle.private_copy.specs.declared.reduction.Reduction.TheVariants.{Untouched, By, Mixed}
+use Rattle.array_maps.specs.{declared.access.Op.{Op}, Accesses.{Action, Read, Write, ReadWrite, Reduce, combined}}
+use Rattle.loop_core_model.specs.{Actions.{is_same, joined}, Kept.{partial}}
+use Rattle.private_copy.specs.declared.reduction.Reduction.{Reduction, TheVariants.{Untouched, By, Mixed}}
 
 -- after one reduce more: the first one's operand is where the combination begins, one by another operator mixes
 abbrev pub reduced : Reduction → Op → ℕ → Reduction

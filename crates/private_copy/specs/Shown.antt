@@ -1,12 +1,9 @@
 -- What a copy's private fields show.
-use Rattle.std.specs.Prelude.{◌≡◌, ℕ, ◌+◌, true, false, ◌==◌, if◌then◌else◌, map}
-use Rattle.std.specs.Prelude.{length, slice_index, Option, Some, None}
-use Rattle.std.specs.List.{range_with_len}
-use Rattle.private_copy.specs.declared.page.Cell.{Cell}
-use Rattle.private_copy.specs.declared.private.Private.{Private}
-use Rattle.shadow_marks.specs.Iteration.{element_count, IsEmptied}
-use Rattle.private_copy.specs.Cells.{cell_at, reduction_in}
+use Rattle.std.specs.Prelude.{◌≡◌, ℕ, ◌+◌, true, false, ◌==◌, if◌then◌else◌, map, length, slice_index, Option, Some}
+use Rattle.std.specs.{Prelude.{None}, List.{range_with_len}}
+use Rattle.private_copy.specs.{declared.{page.Cell.{Cell}, private.Private.{Private}}, Cells.{cell_at, reduction_in}}
 use Rattle.private_copy.specs.Copies.{PrivateCopy}
+use Rattle.shadow_marks.specs.Iteration.{element_count, IsEmptied}
 
 -- what an iteration of a number sees of an element: what it wrote there, or the start word
 abbrev pub seen_word : Cell → (number word : ℕ) → ℕ

@@ -1,11 +1,8 @@
 -- The two steps of an access: it is admitted, and then its cell is kept.
 use Rattle.std.specs.Prelude.{◌≡◌, ◌≢◌, ℕ, ◌+◌, ◌<◌, true}
-use Rattle.loop_core_model.specs.Flags.{flagged}
-use Rattle.loop_core_model.specs.declared.access.Access.{Access as Kind}
+use Rattle.loop_core_model.specs.{Flags.{flagged}, declared.access.Access.{Access as Kind}}
 use Rattle.shadow_marks.specs.Iteration.{element_count, flags_at}
-use Rattle.private_copy.specs.declared.page.Cell.{Cell}
-use Rattle.private_copy.specs.declared.private.Private.{Private}
-use Rattle.private_copy.specs.Cells.{cell_at}
+use Rattle.private_copy.specs.{declared.{page.Cell.{Cell}, private.Private.{Private}}, Cells.{cell_at}}
 use Rattle.private_copy.specs.Touched.{has_page, with_page, page_of}
 
 -- an access of this kind was counted and marked, and the page of its element is placed; no cell has changed

@@ -1,6 +1,5 @@
 -- The pages that accesses touch, in order of their first access. A page is 64 elements.
-use Rattle.std.specs.Prelude.{ℕ, ◌/◌, Bool, ◌==◌, if◌then◌else◌, List, [], ◌∷◌, ◌++◌}
-use Rattle.std.specs.List.{list_any}
+use Rattle.std.specs.{Prelude.{ℕ, ◌/◌, Bool, ◌==◌, if◌then◌else◌, List, [], ◌∷◌, ◌++◌}, List.{list_any}}
 use Rattle.array_maps.specs.Accesses.{Access}
 
 -- the page of an element

@@ -1,8 +1,7 @@
 //! Pages that are taken back.
 
 ghost use Rattle.std.specs.Prelude.{◌≡◌, ℕ, [], None};
-ghost use Rattle.private_copy.specs.Cells.{total_of, cell_at, blank, blank_page};
-ghost use Rattle.private_copy.specs.Clearing.{AreSpare};
+ghost use Rattle.private_copy.specs.{Cells.{total_of, cell_at, blank, blank_page}, Clearing.{AreSpare}};
 
 use crate::page::{Combining, Page};
 use crate::pages::Pages;

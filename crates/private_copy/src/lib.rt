@@ -22,8 +22,7 @@ pub mod reduction;
 pub mod store;
 pub mod workspace;
 
-ghost use Rattle.private_copy.specs.CopyLaw.{AccessesFollow};
-ghost use Rattle.private_copy.specs.Reductions.{PartialIsCombination};
+ghost use Rattle.private_copy.specs.{CopyLaw.{AccessesFollow}, Reductions.{PartialIsCombination}};
 
 pub use private::{MAX_ACCESSES, Private};
 pub use reduction::Reduction;
@@ -35,7 +34,7 @@ pub fn law_of_partials()
     ensures { PartialIsCombination }
 {}
 
-/// The law of accesses: a run's accesses, each by its effect, lead to a copy that stands for the
+/// The law of accesses: a run's accesses, each by its effect, lead to a copy that records the
 /// iteration with those accesses more.
 pub fn law_of_accesses()
     ensures { AccessesFollow }

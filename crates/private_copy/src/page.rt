@@ -1,7 +1,6 @@
 //! A page: what is kept of 64 elements.
 
-ghost use Rattle.std.specs.Prelude.{◌≡◌, ◌==◌, true, None, Some, if◌then◌else◌};
-ghost use Rattle.std.specs.Option.{unwrap_or};
+ghost use Rattle.std.specs.{Prelude.{◌≡◌, ◌==◌, true, None, Some, if◌then◌else◌}, Option.{unwrap_or}};
 ghost use Rattle.private_copy.specs.Cells.{reduction_in};
 
 use crate::reduction::Reduction;
@@ -108,8 +107,7 @@ impl Cell {
 
 impl Page {
     ghost use Rattle.std.specs.Prelude.{◌≢◌, ℕ, ◌<◌, ◌≤◌};
-    ghost use Rattle.private_copy.specs.Cells.{cell_in, mixed_cell, blank_page};
-    ghost use Rattle.private_copy.specs.Shown.{last_in};
+    ghost use Rattle.private_copy.specs.{Cells.{cell_in, mixed_cell, blank_page}, Shown.{last_in}};
     ghost use Rattle.private_copy.specs.Overwriting.{AreOverwritten};
 
     /// The page of elements that weren't accessed.

@@ -1,10 +1,9 @@
 //! Pages that are placed at the first access of one of their elements.
 
-ghost use Rattle.std.specs.Prelude.{◌≡◌, ◌≢◌, ℕ, ◌+◌, ◌-◌, ◌/◌, ◌%◌, ◌<◌, ◌≤◌, [], ◌∷◌, ◌++◌, false, true};
-ghost use Rattle.std.specs.Prelude.{min, length, slice_get, nat_eq, Some, IfSome, IfNone, IfOk, OnOk};
+ghost use Rattle.std.specs.Prelude.{◌≡◌, ◌≢◌, ℕ, ◌+◌, ◌-◌, ◌/◌, ◌%◌, ◌<◌, ◌≤◌, [], ◌∷◌, ◌++◌, false, true, min, length};
+ghost use Rattle.std.specs.Prelude.{slice_get, nat_eq, Some, IfSome, IfNone, IfOk, OnOk};
 ghost use Rattle.indexmap.specs.IndexSet.{contains};
-ghost use Rattle.private_copy.specs.Cells.{total_of, cell_at, blank, mixed_cell};
-ghost use Rattle.private_copy.specs.Touched.{has_page, with_page};
+ghost use Rattle.private_copy.specs.{Cells.{total_of, cell_at, blank, mixed_cell}, Touched.{has_page, with_page}};
 
 use crate::page::{BLANK, Cell, Page};
 use indexmap::IndexSet;
@@ -48,8 +47,7 @@ impl Model for Pages {
 
 impl Pages {
     ghost use Rattle.std.specs.Prelude.{◌*◌};
-    ghost use Rattle.private_copy.specs.Shown.{last_in};
-    ghost use Rattle.private_copy.specs.Overwriting.{AreOverwritten};
+    ghost use Rattle.private_copy.specs.{Shown.{last_in}, Overwriting.{AreOverwritten}};
 
     /// Pages for at most 65,536 elements, none of them placed.
     pub(crate) fn try_new(alloc: Global, elements: u32) -> Result<Pages, AllocError>

@@ -1,8 +1,7 @@
 //! A private copy of maps, and the iterations that use it.
 
-ghost use Rattle.std.specs.Prelude.{◌≡◌, ◌≢◌, ℕ, ◌+◌, ◌-◌, ◌*◌, ◌/◌, ◌^◌, ◌<◌, ◌≤◌, ◌++◌, ◌∷◌, [], false};
-ghost use Rattle.std.specs.Prelude.{true, min, length, slice_get, IfOk, OnErr, OnOk, List};
-ghost use Rattle.std.specs.List.{All};
+ghost use Rattle.std.specs.Prelude.{◌≡◌, ◌≢◌, ℕ, ◌+◌, ◌-◌, ◌*◌, ◌/◌, ◌^◌, ◌<◌, ◌≤◌, ◌++◌, ◌∷◌, [], false, true, min};
+ghost use Rattle.std.specs.{Prelude.{length, slice_get, IfOk, OnErr, OnOk, List}, List.{All}};
 ghost use Rattle.array_maps.specs.Accesses.{Access};
 ghost use Rattle.shadow_marks.specs.Iteration.{element_count, touched_count};
 ghost use Rattle.private_copy.specs.Cells.{total_of, cell_at};
@@ -52,23 +51,19 @@ pub(crate) fn words_of(maps: &Maps) -> &[u64]
 }
 
 impl<'a> Private<'a> {
-    ghost use Rattle.loop_core_model.specs.Marks.{Visit, Marks, merged, marks_of_one};
-    ghost use Rattle.loop_core_model.specs.Conflict.{at_element};
+    ghost use Rattle.loop_core_model.specs.{Marks.{Visit, Marks, merged, marks_of_one}, Conflict.{at_element}};
     ghost use Rattle.array_maps.specs.Accesses.{Action, actions_at};
-    ghost use Rattle.shadow_marks.specs.Iteration.{flags_at, AreFlagsOf};
+    ghost use Rattle.shadow_marks.specs.{Iteration.{flags_at, AreFlagsOf}, Ending.{KeepsShape}};
     ghost use Rattle.shadow_marks.specs.Standing.{ArePlanes, StandAt, StandFor, one_more};
-    ghost use Rattle.shadow_marks.specs.Ending.{KeepsShape};
-    ghost use Rattle.private_copy.specs.Reductions.{combination};
-    ghost use Rattle.private_copy.specs.Copies.{Accessed, CopyRecords, CopyRecordsWithin};
-    ghost use Rattle.private_copy.specs.Visits.{visits_of};
-    ghost use Rattle.private_copy.specs.Overwriting.{AreOverwritten};
+    ghost use Rattle.private_copy.specs.{Reductions.{combination}, Copies.{Accessed, CopyRecords, CopyRecordsWithin}};
+    ghost use Rattle.private_copy.specs.{Visits.{visits_of}, Overwriting.{AreOverwritten}};
     ghost use Rattle.private_copy.specs.Shown.{copy_of, seen_word, IsBegun, IsEnded};
 
     /// A copy of these maps, which no iteration used. All page numbers are noted here.
     pub fn try_new(alloc: Global, start: &'a Maps) -> Result<Private<'a>, AllocError>
         ensures start { IfOk result (λ copy. (copy_of copy).start ≡ start.now.words) }
         ensures begun { IfOk result (λ copy. (copy_of copy).begun ≡ 0) }
-        ensures stands { IfOk result (λ copy. CopyRecords (copy_of copy) []) }
+        ensures records { IfOk result (λ copy. CopyRecords (copy_of copy) []) }
     {
         let elements = words_of(start).len() as u32;
         let workspace = CopyWorkspace::try_new(alloc, elements)?;
@@ -84,7 +79,7 @@ impl<'a> Private<'a> {
         requires count { (copy_of self.old).begun < 4294967295 }
         ensures err { OnErr result (copy_of self.new ≡ copy_of self.old) }
         ensures ok { OnOk result (IsBegun (copy_of self.old) need (copy_of self.new)) }
-        ensures stands { OnOk result ((runs : List (List Access)) → CopyRecords (copy_of self.old) runs
+        ensures records { OnOk result ((runs : List (List Access)) → CopyRecords (copy_of self.old) runs
             → CopyRecordsWithin (copy_of self.new) runs []) }
     {
         self.pages.prepare(alloc, need)?;
@@ -111,7 +106,7 @@ impl<'a> Private<'a> {
             → CopyRecordsWithin (copy_of self.old) runs accesses → StandFor planes.old (visits_of first runs)
             → StandFor planes.new (visits_of first (runs ++ accesses ∷ [])) }
         ensures ended { IsEnded (copy_of self.old) (copy_of self.new) }
-        ensures stands { (runs : List (List Access)) (accesses : List Access) → CopyRecordsWithin (copy_of self.old)
+        ensures records { (runs : List (List Access)) (accesses : List Access) → CopyRecordsWithin (copy_of self.old)
             runs accesses → CopyRecords (copy_of self.new) (runs ++ accesses ∷ []) }
     {
         planes.end_iteration(&mut self.flags, index);

@@ -9,8 +9,7 @@ use loop_core_model::Access;
 
 impl<'a> Store for Private<'a> {
     ghost use Rattle.std.proofs.Common.{arith};
-    ghost use Rattle.private_copy.specs.Shown.{copy_of};
-    ghost use Rattle.private_copy.specs.CopyLaw.{AccessEffect};
+    ghost use Rattle.private_copy.specs.{Shown.{copy_of}, CopyLaw.{AccessEffect}};
 
     ghost words = { λ copy. (copy_of copy).words };
 
@@ -64,12 +63,10 @@ impl<'a> Store for Private<'a> {
 
 impl<'a> Private<'a> {
     ghost use Rattle.shadow_marks.specs.Iteration.{element_count};
-    ghost use Rattle.private_copy.specs.Cells.{cell_at, mixed_cell, left_cell};
-    ghost use Rattle.private_copy.specs.Touched.{has_page, page_of};
-    ghost use Rattle.private_copy.specs.Shown.{copy_of};
-    ghost use Rattle.private_copy.specs.Steps.{IsAdmitted, CellIsSet};
+    ghost use Rattle.private_copy.specs.{Cells.{cell_at, mixed_cell, left_cell}, Touched.{has_page, page_of}};
+    ghost use Rattle.private_copy.specs.{Shown.{copy_of}, Steps.{IsAdmitted, CellIsSet}};
 
-    /// Counts and marks an access, and tells the element's cell and the word that the iteration sees.
+    /// Counts and marks an access. Returns the element's cell and the word that the iteration sees.
     #[inline]
     fn admit(&mut self, e: u32, kind: Access) -> (Cell, u64)
         requires within { e < length self.old.start.now }
@@ -89,7 +86,7 @@ impl<'a> Private<'a> {
         (cell, word)
     }
 
-    /// Notes a plain access that leaves the word of an element, whose cell is told. Where a plain access is
+    /// Notes a plain access that leaves the word of an element; `cell` is the element's. If a plain access is
     /// noted already, nothing is written.
     #[inline]
     fn mark_mixed(&mut self, e: u32, cell: Cell)

@@ -39,16 +39,14 @@ impl CopyWorkspace {
 }
 
 impl<'a> Private<'a> {
-    ghost use Rattle.private_copy.specs.Copies.{CopyRecords};
-    ghost use Rattle.private_copy.specs.Shown.{copy_of};
-    ghost use Rattle.private_copy.specs.Workspaces.{copy_elements};
+    ghost use Rattle.private_copy.specs.{Copies.{CopyRecords}, Shown.{copy_of}, Workspaces.{copy_elements}};
 
     /// A copy of these maps, which no iteration used, in a workspace for as many elements.
     pub fn in_workspace(workspace: CopyWorkspace, start: &'a Maps) -> Private<'a>
         requires { copy_elements workspace ≡ length start.now.words }
         ensures start { (copy_of result).start ≡ start.now.words }
         ensures begun { (copy_of result).begun ≡ 0 }
-        ensures stands { CopyRecords (copy_of result) [] }
+        ensures records { CopyRecords (copy_of result) [] }
     {
         let CopyWorkspace { pages, flags } = workspace;
         Private {

@@ -1,14 +1,10 @@
 -- Bytes that are apart modulo a power of two.
-use Rattle.std.proofs.Common.{◌≡◌, ◌≢◌, ◌∙◌, ℕ, ◌+◌, ◌-◌, ◌*◌, ◌/◌, ◌%◌, ◌^◌, ◌<◌, ◌≤◌, Bool, true, false, refl}
-use Rattle.std.proofs.Common.{sym, ap, arith, ⊎_elim}
-use Rattle.std.specs.Prelude.{◌==◌, if◌then◌else◌}
-use Rattle.std.proofs.Math.Nat.{mod-le, mul-add, zero-mul}
-use Rattle.std.proofs.lemmas.Nat.{pow_pos}
-use Rattle.std.proofs.lemmas.Nat.Gcd.{mod-eq-zero_of_dvd}
+use Rattle.std.proofs.Common.{◌≡◌, ◌≢◌, ◌∙◌, ℕ, ◌+◌, ◌-◌, ◌*◌, ◌/◌, ◌%◌, ◌^◌, ◌<◌, ◌≤◌, Bool, true, false, refl, sym}
+use Rattle.std.{proofs.{Common.{ap, arith, ⊎_elim}, lemmas.Nat.{pow_pos}}, specs.Prelude.{◌==◌, if◌then◌else◌}}
+use Rattle.std.proofs.{Math.Nat.{mod-le, mul-add, zero-mul}, lemmas.Nat.Gcd.{mod-eq-zero_of_dvd}}
 use Rattle.std.proofs.lemmas.Bool.{cases_lt, eqb-true, eqb-false}
 use Rattle.value_range.proofs.Multiples.{pow-dvd}
-use Rattle.row_facts.specs.Apart.{IsAmong}
-use Rattle.row_facts.proofs.Congruence.{coarse, wraps, same-sum, same-product, cancel}
+use Rattle.row_facts.{specs.Apart.{IsAmong}, proofs.Congruence.{coarse, wraps, same-sum, same-product, cancel}}
 
 -- a number is so many ahead of another, modulo a power, if their lines are, at two indexes
 pub ahead : (b f g s o t p d index x y : ℕ) → b ≤ f → b ≤ g → b ≤ 64 → p ≤ 2 ^ 64 → s % 2 ^ b ≡ t % 2 ^ b →

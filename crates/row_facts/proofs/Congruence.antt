@@ -1,10 +1,9 @@
 -- Numbers that are the same modulo a power of two.
 use Rattle.std.proofs.Common.{◌≡◌, ◌∙◌, ℕ, ◌+◌, ◌-◌, ◌*◌, ◌/◌, ◌%◌, ◌^◌, ◌<◌, ◌≤◌, refl, sym, ap, subst, arith}
-use Rattle.std.proofs.Math.Nat.{mod-mod_of_dvd, add-mod, add-mul, mul_assoc, mul_comm, mul_right_comm}
-use Rattle.std.proofs.Math.Nat.{div-mul_cancel, add-mod_right, add-mul-mod_self_left, mod-add-div, mod-eq_of_lt}
-use Rattle.std.proofs.Math.Nat.{mul-lt-mul_of_pos_right}
+use Rattle.std.proofs.Math.Nat.{mod-mod_of_dvd, add-mod, add-mul, mul_assoc, mul_comm, mul_right_comm, div-mul_cancel}
+use Rattle.std.proofs.Math.Nat.{add-mod_right, add-mul-mod_self_left, mod-add-div, mod-eq_of_lt}
+use Rattle.std.proofs.{Math.Nat.{mul-lt-mul_of_pos_right}, lemmas.Nat.Gcd.{dvd_of_mod-eq-zero, mod-eq-zero_of_dvd}}
 use Rattle.std.proofs.lemmas.Nat.{mul-mod, pow-add, field_of, shl-shr, pow_pos, mod_below}
-use Rattle.std.proofs.lemmas.Nat.Gcd.{dvd_of_mod-eq-zero, mod-eq-zero_of_dvd}
 use Rattle.value_range.proofs.Multiples.{pow-dvd}
 
 -- so they are modulo a lower one

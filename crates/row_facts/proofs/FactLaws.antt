@@ -1,18 +1,12 @@
 -- Facts of a list's values, one more at a time; and what a lookup finds.
-use Rattle.std.proofs.Common.{◌≡◌, ℕ, zero, suc, ◌+◌, ◌*◌, ◌%◌, ◌^◌, ◌<◌, ◌≤◌, ◌⊎◌, inl, inr, List, [], ◌∷◌}
-use Rattle.std.proofs.Common.{◌++◌, length}
-use Rattle.std.proofs.Common.{refl, sym, ap, subst, arith, Bool, true, false}
+use Rattle.std.proofs.Common.{◌≡◌, ℕ, zero, suc, ◌+◌, ◌*◌, ◌%◌, ◌^◌, ◌<◌, ◌≤◌, ◌⊎◌, inl, inr, List, [], ◌∷◌, ◌++◌}
+use Rattle.std.proofs.{Common.{length, refl, sym, ap, subst, arith, Bool, true, false}, Math.Nat.{mod-eq_of_lt}}
 use Rattle.std.specs.Prelude.{slice_get, slice_index, Some, nat_lt, if◌then◌else◌}
-use Rattle.std.proofs.Math.Nat.{mod-eq_of_lt}
-use Rattle.bpf_insn_types.specs.declared.insn.Width.TheVariants.{W32, W64}
-use Rattle.bpf_insn_types.specs.declared.insn.AluOp.TheVariants.{Add, Mul, Mov}
-use Rattle.bpf_insn_types.specs.declared.insn.Compare.TheVariants.{Lt}
-use Rattle.bpf_insn_types.specs.Words.{alu, holds}
-use Rattle.bpf_step_ir.specs.Plain.{area_word, plain_found}
-use Rattle.row_list.specs.declared.row_op.RowOp.{RowOp}
-use Rattle.row_list.specs.Rows.{IsRowValue}
-use Rattle.row_facts.specs.declared.fact.Fact.{Fact}
-use Rattle.row_facts.specs.Facts.{IsFact, FitFacts, AreFacts}
+use Rattle.bpf_insn_types.specs.declared.insn.{Width.TheVariants.{W32, W64}, AluOp.TheVariants.{Add, Mul, Mov}}
+use Rattle.bpf_insn_types.specs.{declared.insn.Compare.TheVariants.{Lt}, Words.{alu, holds}}
+use Rattle.bpf_step_model.specs.AreaWords.{area_word, looked_up_word}
+use Rattle.row_list.specs.{declared.row_op.RowOp.{RowOp}, Rows.{IsRowValue}}
+use Rattle.row_facts.specs.{declared.fact.Fact.{Fact}, Facts.{IsFact, FitFacts, AreFacts}}
 
 -- an element of a list with one more is of the list, or that one
 pub get-more : {X : Type 0} (xs : List X) (x y : X) (k : ℕ) → slice_get (xs ++ x ∷ []) k ≡ Some y →
@@ -86,9 +80,9 @@ unfolding alu
 low-moved y x = refl
 
 -- a key that is in the map, and one that isn't
-pub found-there : (first count key : ℕ) → nat_lt key count ≡ true → plain_found first count key ≡ area_word (8 *
+pub found-there : (first count key : ℕ) → nat_lt key count ≡ true → looked_up_word first count key ≡ area_word (8 *
     (first + key))
 found-there first count key e = rw e refl
 
-pub found-nowhere : (first count key : ℕ) → nat_lt key count ≡ false → plain_found first count key ≡ 0
+pub found-nowhere : (first count key : ℕ) → nat_lt key count ≡ false → looked_up_word first count key ≡ 0
 found-nowhere first count key e = rw e refl

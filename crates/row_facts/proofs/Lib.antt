@@ -5,3 +5,8 @@ pub mod ApartLaws
 pub mod NonzeroLaws
 pub mod SiteLaws
 pub mod MeetingLaws
+pub mod NarrowLaws
+pub mod ListLaws
+pub mod MarkLaws
+pub mod Clear
+pub mod Pairs

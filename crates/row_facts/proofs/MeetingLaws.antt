@@ -1,22 +1,12 @@
 -- Pairs of sites that never meet.
-use Rattle.std.proofs.Common.{◌≡◌, ℕ, ◌+◌, ◌^◌, ◌<◌, ◌≤◌, inl, inr, List, [], ◌∷◌, ◌++◌, length, true, sym, ap}
-use Rattle.std.proofs.Common.{subst, arith}
-use Rattle.std.specs.Prelude.{slice_get, Some}
-use Rattle.std.proofs.lemmas.List.Elements.{Contains-append_left, Contains-push}
-use Rattle.std.proofs.lemmas.Option.{slice_get_within}
-use Rattle.row_list.specs.declared.row_op.RowOp.{RowOp}
-use Rattle.row_list.specs.Rows.{AreValues, is_in}
-use Rattle.row_facts.specs.declared.site.Place.{Place}
-use Rattle.row_facts.specs.declared.fact.Fact.{Fact}
-use Rattle.row_facts.specs.declared.site.Site.{Site}
-use Rattle.row_facts.specs.declared.meeting.Meeting.{Meeting}
-use Rattle.row_facts.specs.Apart.{IsAmong, AreBytesApart}
-use Rattle.row_facts.specs.Facts.{IsSure, AreFacts}
-use Rattle.row_facts.specs.Sites.{IsSite, AreSites, bytes_in, byte_at}
+use Rattle.std.proofs.Common.{◌≡◌, ℕ, ◌+◌, ◌^◌, ◌<◌, ◌≤◌, inl, inr, List, [], ◌∷◌, ◌++◌, length, true, sym, ap, subst}
+use Rattle.std.{proofs.{Common.{arith, ◌∙◌}, lemmas.Option.{slice_get_within}}, specs.Prelude.{slice_get, Some}}
+use Rattle.std.proofs.lemmas.{List.Elements.{Contains-append_left, Contains-push}, Bool.{cases_lt}}
+use Rattle.row_list.specs.{declared.row_op.RowOp.{RowOp}, Rows.{AreValues, is_in}}
+use Rattle.row_facts.specs.declared.{site.{Place.{Place}, Site.{Site}}, fact.Fact.{Fact}, meeting.Meeting.{Meeting}}
+use Rattle.row_facts.specs.{Apart.{IsAmong, AreBytesApart}, Facts.{IsSure, AreFacts}}
+use Rattle.row_facts.{specs.Sites.{IsSite, AreSites, bytes_in, byte_at}, proofs.SiteLaws.{known, some-same}}
 use Rattle.row_facts.specs.Meetings.{IsHalfOf, Touches, AreApart, IsListed, NeverMeet, AreMeetings, AreKept, AreDone}
-use Rattle.std.proofs.Common.{◌∙◌}
-use Rattle.std.proofs.lemmas.Bool.{cases_lt}
-use Rattle.row_facts.proofs.SiteLaws.{known, some-same}
 
 -- the byte that a lane names at a site, and the half that it touches
 pub record IsNamed (site : Site) (index half : ℕ) : Type 0 where

@@ -1,17 +1,11 @@
 -- Masks in whose lanes a value isn't 0.
-use Rattle.std.proofs.Common.{◌≡◌, ◌∙◌, ℕ, ◌⊎◌, inl, inr, List, [], ◌∷◌, ◌++◌, length, Bool, true, false}
-use Rattle.std.proofs.Common.{refl, sym, subst}
-use Rattle.std.specs.Prelude.{slice_get, slice_index, Some, ◌==◌, ◌&&◌, ◌||◌, not}
-use Rattle.bpf_insn_types.specs.declared.insn.Width.{Width}
-use Rattle.bpf_insn_types.specs.declared.insn.Width.TheVariants.{W64}
-use Rattle.bpf_insn_types.specs.declared.insn.Compare.{Compare}
+use Rattle.std.proofs.Common.{◌≡◌, ◌∙◌, ℕ, ◌⊎◌, inl, inr, List, [], ◌∷◌, ◌++◌, length, Bool, true, false, refl, sym}
+use Rattle.std.{proofs.Common.{subst}, specs.Prelude.{slice_get, slice_index, Some, ◌==◌, ◌&&◌, ◌||◌, not}}
+use Rattle.bpf_insn_types.specs.{declared.insn.{Width.{Width, TheVariants.{W64}}, Compare.{Compare}}, Words.{holds}}
 use Rattle.bpf_insn_types.specs.declared.insn.Compare.TheVariants.{Eq, Ne}
-use Rattle.bpf_insn_types.specs.Words.{holds}
-use Rattle.row_list.specs.declared.row_op.RowOp.{RowOp}
-use Rattle.row_list.specs.declared.row_op.RowOp.TheVariants.{Number, Holds, Without, Either}
+use Rattle.row_list.specs.declared.row_op.RowOp.{RowOp, TheVariants.{Number, Holds, Without, Either}}
 use Rattle.row_list.specs.Rows.{is_in, bit}
-use Rattle.row_facts.specs.Nonzero.{IsNonzeroIn, IsNullTest, AreNonzeroIn}
-use Rattle.row_facts.proofs.FactLaws.{get-more}
+use Rattle.row_facts.{specs.Nonzero.{IsNonzeroIn, IsNullTest, AreNonzeroIn}, proofs.FactLaws.{get-more}}
 
 bit-true : (b : Bool) (n : ℕ) → n ≡ bit b → (n == 1) ≡ true → b ≡ true
 bit-true true n e h = refl

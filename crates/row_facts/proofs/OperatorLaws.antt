@@ -1,20 +1,14 @@
 -- Operators on words, as sums, products and remainders.
 use Rattle.std.proofs.Common.{◌≡◌, ◌∙◌, ℕ, ◌+◌, ◌-◌, ◌*◌, ◌/◌, ◌%◌, ◌^◌, ◌<◌, ◌≤◌, refl, sym, ap, subst, arith, ⊎_elim}
-use Rattle.std.specs.Prelude.{bit_and, bit_or, bit_xor}
-use Rattle.std.specs.Int.Bits.{or_shifted, xor_shifted}
-use Rattle.std.proofs.Math.Nat.{mod-mod_of_dvd, add-mod, add-mod_left, mod-add-mod, mod-eq_of_lt}
-use Rattle.std.proofs.Math.Nat.{div-mul_cancel, mul_comm}
-use Rattle.std.proofs.Math.Nat.{add-mul-mod_self_left, mod_self, zero-mul}
-use Rattle.std.proofs.lemmas.Nat.{mul-mod, pow_pos, mod_below, and_mask, and_mod, or_mod, xor_mod, or_lt}
-use Rattle.std.proofs.lemmas.Nat.{or_comm, xor_comm, one_shl, shr_split}
-use Rattle.std.proofs.lemmas.Nat.Gcd.{dvd_of_mod-eq-zero, mod-eq-zero_of_dvd}
-use Rattle.std.proofs.lemmas.Bool.{cases_lt}
-use Rattle.bpf_insn_types.specs.declared.insn.Width.TheVariants.{W32, W64}
+use Rattle.std.specs.{Prelude.{bit_and, bit_or, bit_xor}, Int.Bits.{or_shifted, xor_shifted}}
+use Rattle.std.proofs.Math.Nat.{mod-mod_of_dvd, add-mod, add-mod_left, mod-add-mod, mod-eq_of_lt, div-mul_cancel}
+use Rattle.std.proofs.{Math.Nat.{mul_comm, add-mul-mod_self_left, mod_self, zero-mul}, lemmas.Bool.{cases_lt}}
+use Rattle.std.proofs.lemmas.Nat.{mul-mod, pow_pos, mod_below, and_mask, and_mod, or_mod, xor_mod, or_lt, or_comm}
+use Rattle.std.proofs.lemmas.Nat.{xor_comm, one_shl, shr_split, Gcd.{dvd_of_mod-eq-zero, mod-eq-zero_of_dvd}}
+use Rattle.bpf_insn_types.specs.{declared.insn.Width.TheVariants.{W32, W64}, Words.{alu}}
 use Rattle.bpf_insn_types.specs.declared.insn.AluOp.TheVariants.{Add, Sub, Mul, Or, And, Xor, Lsh, Rsh, Mov}
-use Rattle.bpf_insn_types.specs.Words.{alu}
 use Rattle.value_range.proofs.Multiples.{pow-dvd, multiple-sub}
-use Rattle.row_facts.specs.Facts.{IsSumOfBits}
-use Rattle.row_facts.proofs.Congruence.{same-sum, same-product, cancel}
+use Rattle.row_facts.{specs.Facts.{IsSumOfBits}, proofs.Congruence.{same-sum, same-product, cancel}}
 
 pub alu-mov : (x y : ℕ) → y < 2 ^ 64 → alu W64 Mov x y ≡ y
 unfolding alu

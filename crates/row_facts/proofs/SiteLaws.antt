@@ -1,15 +1,10 @@
 -- The sites of a list, one more at a time.
 use Rattle.std.proofs.Common.{◌≡◌, ◌∙◌, ℕ, List, [], ◌∷◌, ◌++◌, true, false, refl, sym, ap, subst}
-use Rattle.std.specs.Prelude.{slice_get, Option, Some, None, option_map}
-use Rattle.std.specs.List.{filter}
-use Rattle.std.proofs.lemmas.List.{map-append, append-nil}
-use Rattle.std.proofs.lemmas.List.Elements.{filter-append, All-push, All-nil}
+use Rattle.std.specs.{Prelude.{slice_get, Option, Some, None, option_map}, List.{filter}}
+use Rattle.std.proofs.lemmas.List.{map-append, append-nil, Elements.{filter-append, All-push, All-nil}}
 use Rattle.std.proofs.lemmas.Option.{slice_get-map, slice_get_within, get_or_from_slice_get}
-use Rattle.row_list.specs.declared.row_op.RowOp.{RowOp}
-use Rattle.row_list.specs.declared.row_op.RowOp.TheVariants.{Load, Store, Reduce, Fetch}
-use Rattle.row_facts.specs.declared.site.Place.{Place}
-use Rattle.row_facts.specs.declared.site.Site.{Site}
-use Rattle.row_facts.specs.declared.fact.Fact.{Fact}
+use Rattle.row_list.specs.declared.row_op.RowOp.{RowOp, TheVariants.{Load, Store, Reduce, Fetch}}
+use Rattle.row_facts.specs.declared.{site.{Place.{Place}, Site.{Site}}, fact.Fact.{Fact}}
 use Rattle.row_facts.specs.Sites.{place_in, is_access, sites_of, IsSite, IsSiteOf, AreSites}
 
 pub some-same : {X : Type 0} (x y : X) → Some x ≡ Some y → x ≡ y

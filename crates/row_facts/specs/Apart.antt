@@ -1,9 +1,7 @@
 -- Halves of two accesses that are never the same: each begins among so many bytes, its size, from a number on.
 use Rattle.std.specs.Prelude.{ℕ, ◌+◌, ◌*◌, ◌<◌, ◌≤◌}
 use Rattle.value_range.specs.Spans.{Span, Contains}
-use Rattle.row_facts.specs.declared.lines.Line.{Line}
-use Rattle.row_facts.specs.declared.fact.Fact.{Fact}
-use Rattle.row_facts.specs.Facts.{IsOnLine, IsSure}
+use Rattle.row_facts.specs.{declared.{lines.Line.{Line}, fact.Fact.{Fact}}, Facts.{IsOnLine, IsSure}}
 
 -- of halves of 4 bytes each one begins among so many bytes from one on
 pub record IsAmong (byte size half : ℕ) : Type 0 where

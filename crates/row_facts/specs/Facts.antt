@@ -2,10 +2,8 @@
 use Rattle.std.specs.Prelude.{◌≡◌, ℕ, ◌+◌, ◌*◌, ◌%◌, ◌^◌, ◌<◌, ◌≤◌, ◌⊎◌, true, bit_or, bit_xor, List, slice_index}
 use Rattle.std.specs.Prelude.{slice_get, Some}
 use Rattle.value_range.specs.Spans.{Contains}
-use Rattle.row_list.specs.declared.row_op.RowOp.{RowOp}
-use Rattle.row_list.specs.Rows.{AreValues}
-use Rattle.row_facts.specs.declared.lines.Line.{Line}
-use Rattle.row_facts.specs.declared.fact.Fact.{Fact}
+use Rattle.row_list.specs.{declared.row_op.RowOp.{RowOp}, Rows.{AreValues}}
+use Rattle.row_facts.specs.declared.{lines.Line.{Line}, fact.Fact.{Fact}}
 
 -- a number is on a line, in the lane of an index
 pub record IsOnLine (line : Line) (index number : ℕ) : Type 0 where

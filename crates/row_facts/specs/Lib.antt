@@ -3,3 +3,10 @@ pub mod Nonzero
 pub mod Apart
 pub mod Sites
 pub mod Meetings
+pub mod Narrower
+pub mod SiteKinds
+pub mod Marks
+pub mod Lists
+pub mod Elements
+pub mod Ordered
+pub mod Independence

@@ -1,20 +1,11 @@
 -- Which accesses of a list may meet.
-use Rattle.std.specs.Prelude.{◌≡◌, ℕ, ◌+◌, ◌*◌, ◌/◌, ◌%◌, ◌^◌, ◌<◌, ◌≤◌, ◌==◌, ◌⊎◌, if◌then◌else◌, Bool, true}
-use Rattle.std.specs.Prelude.{false, List}
-use Rattle.std.specs.Prelude.{slice_get, Some}
-use Rattle.std.specs.List.{Contains}
-use Rattle.bpf_insn_types.specs.declared.insn.SimpleOp.{SimpleOp}
-use Rattle.bpf_insn_types.specs.declared.insn.Width.{Width}
-use Rattle.bpf_insn_types.specs.declared.insn.Width.TheVariants.{W32, W64}
-use Rattle.row_list.specs.declared.row_op.RowOp.{RowOp}
-use Rattle.row_list.specs.declared.row_op.RowOp.TheVariants.{Load, Store, Reduce, Fetch}
+use Rattle.std.specs.Prelude.{◌≡◌, ℕ, ◌+◌, ◌*◌, ◌/◌, ◌%◌, ◌^◌, ◌<◌, ◌≤◌, ◌==◌, ◌⊎◌, if◌then◌else◌, Bool, true, false}
+use Rattle.std.specs.{Prelude.{List, slice_get, Some}, List.{Contains}}
+use Rattle.bpf_insn_types.specs.declared.insn.{SimpleOp.{SimpleOp}, Width.{Width, TheVariants.{W32, W64}}}
+use Rattle.row_list.specs.declared.row_op.RowOp.{RowOp, TheVariants.{Load, Store, Reduce, Fetch}}
 use Rattle.row_list.specs.Rows.{AreValues, is_in}
-use Rattle.row_facts.specs.declared.fact.Fact.{Fact}
-use Rattle.row_facts.specs.declared.site.Place.{Place}
-use Rattle.row_facts.specs.declared.site.Site.{Site}
-use Rattle.row_facts.specs.declared.meeting.Meeting.{Meeting}
-use Rattle.row_facts.specs.Facts.{AreFacts}
-use Rattle.row_facts.specs.Sites.{place_in, sites_of, byte_at, bytes_in, IsSite}
+use Rattle.row_facts.specs.declared.{fact.Fact.{Fact}, site.{Place.{Place}, Site.{Site}}, meeting.Meeting.{Meeting}}
+use Rattle.row_facts.specs.{Facts.{AreFacts}, Sites.{place_in, sites_of, byte_at, bytes_in, IsSite}}
 
 -- lanes go on with what they find there
 abbrev pub loads : RowOp → Bool

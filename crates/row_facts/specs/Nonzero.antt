@@ -1,7 +1,6 @@
 -- The masks in whose lanes a value isn't 0.
 use Rattle.std.specs.Prelude.{◌≡◌, ℕ, Bool, true, false, List, slice_index, slice_get, Some}
-use Rattle.row_list.specs.declared.row_op.RowOp.{RowOp}
-use Rattle.row_list.specs.Rows.{AreValues, is_in}
+use Rattle.row_list.specs.{declared.row_op.RowOp.{RowOp}, Rows.{AreValues, is_in}}
 
 -- a value isn't 0 in a lane that is in a mask
 pub record IsNonzeroIn (list : List RowOp) (mask value : ℕ) : Type 0 where

@@ -1,16 +1,11 @@
 -- The sites of a list, with what is known of the bytes that lanes access there.
 use Rattle.std.specs.Prelude.{◌≡◌, ℕ, true, false, Bool, List, map, slice_index, Option, Some, None}
 use Rattle.std.specs.List.{filter, All}
-use Rattle.bpf_insn_types.specs.declared.insn.Width.{Width}
-use Rattle.bpf_insn_types.specs.declared.insn.Width.TheVariants.{W32, W64}
-use Rattle.bpf_step_ir.specs.Plain.{byte_named}
-use Rattle.row_list.specs.declared.row_op.RowOp.{RowOp}
-use Rattle.row_list.specs.declared.row_op.RowOp.TheVariants.{Load, Store, Reduce, Fetch}
+use Rattle.bpf_insn_types.specs.declared.insn.Width.{Width, TheVariants.{W32, W64}}
+use Rattle.bpf_step_model.specs.AreaWords.{byte_named}
+use Rattle.row_list.specs.declared.row_op.RowOp.{RowOp, TheVariants.{Load, Store, Reduce, Fetch}}
 use Rattle.row_list.specs.Rows.{AreValues, is_in}
-use Rattle.row_facts.specs.declared.site.Place.{Place}
-use Rattle.row_facts.specs.declared.site.Site.{Site}
-use Rattle.row_facts.specs.declared.fact.Fact.{Fact}
-use Rattle.row_facts.specs.Facts.{IsSure, FitFacts}
+use Rattle.row_facts.specs.{declared.{site.{Place.{Place}, Site.{Site}}, fact.Fact.{Fact}}, Facts.{IsSure, FitFacts}}
 
 -- where an operation accesses an element, if it does
 abbrev pub place_in : RowOp → Option Place

@@ -1,10 +1,8 @@
 //! What operators leave of facts.
 
 ghost use Rattle.std.specs.Prelude.{◌≡◌, ℕ, ◌%◌, ◌<◌, ◌^◌, true};
-ghost use Rattle.bpf_insn_types.specs.declared.insn.Width.TheVariants.{W32, W64};
-ghost use Rattle.bpf_insn_types.specs.Words.{alu};
-ghost use Rattle.value_range.specs.Spans.{Contains};
-ghost use Rattle.value_range.specs.AluRows.{meant};
+ghost use Rattle.bpf_insn_types.specs.{declared.insn.Width.TheVariants.{W32, W64}, Words.{alu}};
+ghost use Rattle.value_range.specs.{Spans.{Contains}, AluRows.{meant}};
 ghost use Rattle.row_facts.specs.Facts.{IsOnLine, IsSure, IsSumOfBits};
 
 use crate::fact::{Fact, number, number_of, within};

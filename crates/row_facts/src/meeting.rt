@@ -2,13 +2,10 @@
 
 ghost use Rattle.std.specs.Prelude.{◌≡◌, ℕ, List, ◌<◌, ◌≤◌, ◌++◌, ◌∷◌, [], true, false, IfOk, OnOk, length};
 ghost use Rattle.row_list.specs.declared.row_op.RowOp.{RowOp};
-ghost use Rattle.row_facts.specs.declared.fact.Fact.{Fact};
-ghost use Rattle.row_facts.specs.Facts.{IsSure, AreFacts};
-ghost use Rattle.row_facts.specs.Apart.{IsAmong};
+ghost use Rattle.row_facts.specs.{declared.fact.Fact.{Fact}, Facts.{IsSure, AreFacts}, Apart.{IsAmong}};
 ghost use Rattle.row_facts.specs.Sites.{IsSite, bytes_in};
-ghost use Rattle.row_facts.specs.Meetings.{IsHalfOf, loads, leaves, ReducesBy, ReduceAlike, AreApart};
-ghost use Rattle.row_facts.specs.Meetings.{LanesNeverMeet, LoadsNoOwn};
-ghost use Rattle.row_facts.specs.Meetings.{NeverMeet, AreMeetings, AreKept, AreDone};
+ghost use Rattle.row_facts.specs.Meetings.{IsHalfOf, loads, leaves, ReducesBy, ReduceAlike, AreApart, LanesNeverMeet};
+ghost use Rattle.row_facts.specs.Meetings.{LoadsNoOwn, NeverMeet, AreMeetings, AreKept, AreDone};
 
 use crate::apart::are_apart;
 use crate::lines::is_of_multiples;

@@ -1,10 +1,9 @@
 //! The sites of a row list, with what is known of the bytes that lanes access there.
 
 ghost use Rattle.std.specs.Prelude.{◌≡◌, ℕ, ◌%◌, ◌^◌, ◌++◌, ◌∷◌, [], IfOk, OnOk, Some};
-ghost use Rattle.bpf_step_ir.specs.Plain.{byte_named};
+ghost use Rattle.bpf_step_model.specs.AreaWords.{byte_named};
 ghost use Rattle.value_range.specs.Spans.{Contains};
-ghost use Rattle.row_facts.specs.Facts.{IsSure};
-ghost use Rattle.row_facts.specs.Sites.{place_in, IsAddressIn, AreSites, IsSiteOf};
+ghost use Rattle.row_facts.specs.{Facts.{IsSure}, Sites.{place_in, IsAddressIn, AreSites, IsSiteOf}};
 
 use crate::arithmetic::computed;
 use crate::fact::{Fact, number, unknown, within};

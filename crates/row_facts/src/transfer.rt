@@ -1,8 +1,8 @@
 //! The transfer function: what is known of each value of a row list, by the operation that makes it.
 
-ghost use Rattle.std.specs.Prelude.{◌≡◌, ℕ, List, ◌+◌, ◌%◌, ◌<◌, ◌≤◌, ◌^◌, ◌++◌, ◌∷◌, [], IfOk, OnOk};
-ghost use Rattle.std.specs.Prelude.{slice_index, Some};
-ghost use Rattle.bpf_step_ir.specs.Plain.{plain_found};
+ghost use Rattle.std.specs.Prelude.{◌≡◌, ℕ, List, ◌+◌, ◌%◌, ◌<◌, ◌≤◌, ◌^◌, ◌++◌, ◌∷◌, [], IfOk, OnOk, slice_index};
+ghost use Rattle.std.specs.Prelude.{Some};
+ghost use Rattle.bpf_step_model.specs.AreaWords.{looked_up_word};
 ghost use Rattle.row_list.specs.Rows.{IsRowValue};
 ghost use Rattle.row_facts.specs.Facts.{IsSure, IsFact, FitFacts, AreFacts};
 
@@ -50,7 +50,7 @@ fn index_fact() -> Fact
 
 /// What is known of the area word of a key's value, or 0: the key is the lower half of a value.
 fn found(first: u32, count: u32, value: Fact) -> Fact
-    ensures { (index x : ℕ) → IsSure value index x → IsFact result index (plain_found first count (x % 2 ^ 32)) }
+    ensures { (index x : ℕ) → IsSure value index x → IsFact result index (looked_up_word first count (x % 2 ^ 32)) }
 {
     let key = computed(Width::W32, AluOp::Mov, number(0), value);
     let keys = key.range;

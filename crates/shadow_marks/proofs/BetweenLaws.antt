@@ -1,6 +1,5 @@
 -- Elements that follow each other.
-use Rattle.std.proofs.Common.{◌≡◌, ℕ, ◌<◌, ◌≤◌, Bool, true, false, ◌&&◌, not, refl, ◌∙◌, ap}
-use Rattle.std.specs.Prelude.{nat_lt}
+use Rattle.std.{proofs.Common.{◌≡◌, ℕ, ◌<◌, ◌≤◌, Bool, true, false, ◌&&◌, not, refl, ◌∙◌, ap}, specs.Prelude.{nat_lt}}
 use Rattle.std.proofs.lemmas.Bool.{lt-ltb, le-ltb}
 use Rattle.shadow_marks.specs.Runs.{is_between}
 

@@ -1,17 +1,11 @@
 -- One bit of a word, tested and ored.
 use Rattle.std.proofs.Common.{◌≡◌, ◌≢◌, ℕ, ◌*◌, ◌/◌, ◌%◌, ◌^◌, ◌<◌, not, ◌||◌, eqb, max, List, length, get_or, set}
 use Rattle.std.proofs.Common.{refl, sym, ◌∙◌, ap, inl, inr, arith, get_or-set_same, get_or-set_other, eq-eqb, ne_eqb}
-use Rattle.std.specs.Prelude.{bit_and, bit_or}
-use Rattle.std.specs.Int.{bit_at}
-use Rattle.std.proofs.Math.Bool.{or-false}
-use Rattle.std.proofs.lemmas.Bool.{cases_eq}
-use Rattle.std.proofs.lemmas.Bool.Decides.{nat_tests}
-use Rattle.std.proofs.lemmas.Nat.{pow_pos}
+use Rattle.std.{specs.{Prelude.{bit_and, bit_or}, Int.{bit_at}}, proofs.{Math.Bool.{or-false}, lemmas.Bool.{cases_eq}}}
+use Rattle.std.proofs.lemmas.{Bool.Decides.{nat_tests}, Nat.{pow_pos}}
 use Rattle.std.proofs.lemmas.Nat.Bits.{bit_at_or, bit_at-pow_same, bit_at-pow_other, bit_at-lt, and_pow}
-use Rattle.array_maps.specs.declared.access.Op.{Op}
-use Rattle.array_maps.specs.declared.access.Op.TheVariants.{Add, Or, And, Xor, AddH}
-use Rattle.loop_core_model.specs.Actions.{is_same}
-use Rattle.loop_core_model.specs.Planes.{bit_of}
+use Rattle.array_maps.specs.declared.access.Op.{Op, TheVariants.{Add, Or, And, Xor, AddH}}
+use Rattle.loop_core_model.specs.{Actions.{is_same}, Planes.{bit_of}}
 use Rattle.shadow_marks.specs.Kept.{place_by}
 
 product_tested : (bit power : ℕ) → bit < 2 → 0 < power → not (eqb (bit * power) 0) ≡ eqb bit 1

@@ -1,31 +1,18 @@
 -- Marks are taken away page by page.
-use Rattle.std.proofs.Common.{◌≡◌, ◌≢◌, ℕ, ◌+◌, ◌*◌, ◌/◌, ◌%◌, ◌<◌, ◌≤◌, min, max, Bool, true, false, not}
-use Rattle.std.proofs.Common.{◌||◌, eqb, List, [], ◌∷◌, length, set, get_or, inl, inr, refl, sym, ◌∙◌}
-use Rattle.std.proofs.Common.{ap, subst, arith, length-set, get_or-set_same, get_or-set_other}
-use Rattle.std.specs.Prelude.{slice_index, bit_or, if◌then◌else◌}
-use Rattle.std.specs.Int.{bit_at}
-use Rattle.std.specs.List.{list_any}
-use Rattle.std.specs.Vec.{with_items}
-use Rattle.std.specs.declared.vec.Vec.{Vec}
-use Rattle.std.proofs.lemmas.Bool.{cases_eq, cases_lt}
-use Rattle.std.proofs.lemmas.List.{with_items_is}
-use Rattle.std.proofs.lemmas.Bool.Decides.{nat_tests}
-use Rattle.std.proofs.lemmas.Nat.{le_or_l, le_or_r}
-use Rattle.std.proofs.lemmas.Nat.Bits.{bit_at-zero}
-use Rattle.array_maps.specs.declared.access.Op.{Op}
-use Rattle.array_maps.specs.declared.access.Op.TheVariants.{Add, Or, And, Xor, AddH}
+use Rattle.std.proofs.Common.{◌≡◌, ◌≢◌, ℕ, ◌+◌, ◌*◌, ◌/◌, ◌%◌, ◌<◌, ◌≤◌, min, max, Bool, true, false, not, ◌||◌, eqb}
+use Rattle.std.proofs.Common.{List, [], ◌∷◌, length, set, get_or, inl, inr, refl, sym, ◌∙◌, ap, subst, arith}
+use Rattle.std.{proofs.Common.{length-set, get_or-set_same, get_or-set_other}, specs.{Int.{bit_at}, List.{list_any}}}
+use Rattle.std.specs.{Prelude.{slice_index, bit_or, if◌then◌else◌}, Vec.{with_items}, declared.vec.Vec.{Vec}}
+use Rattle.std.proofs.lemmas.{Bool.{cases_eq, cases_lt, Decides.{nat_tests}}, List.{with_items_is}}
+use Rattle.std.proofs.lemmas.Nat.{le_or_l, le_or_r, Bits.{bit_at-zero}}
+use Rattle.array_maps.specs.declared.access.Op.{Op, TheVariants.{Add, Or, And, Xor, AddH}}
 use Rattle.array_maps.specs.Accesses.{Action, Read, Write, ReadWrite, Reduce}
-use Rattle.loop_core_model.specs.Actions.{is_same, reduces_by}
-use Rattle.loop_core_model.specs.Flags.{is_plain}
+use Rattle.loop_core_model.specs.{Actions.{is_same, reduces_by}, Flags.{is_plain}, Planes.{bit_of}}
 use Rattle.loop_core_model.specs.Marks.{Visit, Marks, no_marks, last_reader, marks_of}
-use Rattle.loop_core_model.specs.Planes.{bit_of}
-use Rattle.shadow_marks.specs.declared.planes.Tested.{Tested}
-use Rattle.shadow_marks.specs.declared.planes.Tested.TheVariants.{Lrpd as ByLrpd, Flow as ByFlow}
-use Rattle.shadow_marks.specs.declared.planes.Planes.{Planes}
-use Rattle.shadow_marks.specs.Standing.{words_for, IsBitPlane, plane_by, AreTested, ArePlanes, test_of}
-use Rattle.shadow_marks.specs.Standing.{TestedStandAt, StandAt, StandFor, IsUnmarkedPage, no_visits}
-use Rattle.shadow_marks.specs.Ending.{KeepsShape}
-use Rattle.shadow_marks.specs.Runs.{SetsRun}
+use Rattle.shadow_marks.specs.declared.planes.Tested.{Tested, TheVariants.{Lrpd as ByLrpd, Flow as ByFlow}}
+use Rattle.shadow_marks.specs.{declared.planes.Planes.{Planes}, Standing.{StandAt, StandFor, IsUnmarkedPage, no_visits}}
+use Rattle.shadow_marks.specs.Standing.{words_for, IsBitPlane, plane_by, AreTested, ArePlanes, test_of, TestedStandAt}
+use Rattle.shadow_marks.specs.{Ending.{KeepsShape}, Runs.{SetsRun}}
 use Rattle.shadow_marks.specs.Clearing.{ClearsBits, SetsNumbers, OperatorsClear, TestedClears, ClearsPage}
 use Rattle.shadow_marks.proofs.BetweenLaws.{between_in, between_below, between_above}
 

@@ -1,20 +1,14 @@
 -- The flags of all touched elements come into the planes, one element after another.
-use Rattle.std.proofs.Common.{◌≡◌, ◌≢◌, ℕ, ◌<◌, Bool, true, false, ◌&&◌, ◌||◌, max, List, [], ◌∷◌, ◌++◌}
-use Rattle.std.proofs.Common.{refl, sym, ◌∙◌, ap, subst, inl, inr, ◌⊎◌, arith, Option, Some, None}
-use Rattle.std.proofs.Math.Bool.{or-false}
+use Rattle.std.proofs.Common.{◌≡◌, ◌≢◌, ℕ, ◌<◌, Bool, true, false, ◌&&◌, ◌||◌, max, List, [], ◌∷◌, ◌++◌, refl, sym, ◌∙◌}
+use Rattle.std.proofs.{Common.{ap, subst, inl, inr, ◌⊎◌, arith, Option, Some, None}, Math.Bool.{or-false}}
 use Rattle.std.proofs.lemmas.Bool.{cases_eq}
 use Rattle.array_maps.specs.Accesses.{Action}
-use Rattle.loop_core_model.specs.LeastBreak.{lesser}
-use Rattle.loop_core_model.specs.Flags.{Flags, no_flags}
+use Rattle.loop_core_model.{specs.{LeastBreak.{lesser}, Flags.{Flags, no_flags}}, proofs.MarkLaws.{marks_merge}}
 use Rattle.loop_core_model.specs.Marks.{Visit, Marks, marks_of, marks_of_one, merged}
-use Rattle.loop_core_model.proofs.MarkLaws.{marks_merge}
-use Rattle.shadow_marks.specs.declared.element_flags.ElementFlags.{ElementFlags}
-use Rattle.shadow_marks.specs.declared.iter_flags.IterFlags.{IterFlags}
-use Rattle.shadow_marks.specs.declared.planes.Planes.{Planes}
-use Rattle.shadow_marks.specs.Kept.{flags_in}
+use Rattle.shadow_marks.specs.declared.{element_flags.ElementFlags.{ElementFlags}, iter_flags.IterFlags.{IterFlags}}
+use Rattle.shadow_marks.specs.{declared.planes.Planes.{Planes}, Kept.{flags_in}, Ending.{KeepsShape, Folds}}
 use Rattle.shadow_marks.specs.Iteration.{element_count, flags_at, AreFlagsOf, IsEmptied, TakesFlags}
 use Rattle.shadow_marks.specs.Standing.{ArePlanes, StandAt, StandFor, one_more}
-use Rattle.shadow_marks.specs.Ending.{KeepsShape, Folds}
 
 -- marks with those of an iteration that made no access are the same
 lesser_none : (o : Option ℕ) → lesser o None ≡ o

@@ -1,29 +1,17 @@
 -- Flags that come into planes are marks that are merged.
-use Rattle.std.proofs.Common.{◌≡◌, ◌≢◌, ℕ, ◌+◌, ◌/◌, ◌%◌, ◌<◌, Bool, true, false, ◌&&◌, ◌||◌}
-use Rattle.std.proofs.Common.{eqb, min, max, List, length, refl, replicate, sym, ◌∙◌, ap, inl}
-use Rattle.std.proofs.Common.{inr, arith, eq-eqb, ne_eqb, Option, Some, None}
-use Rattle.std.specs.Prelude.{if◌then◌else◌}
-use Rattle.std.proofs.Math.Bool.{or-false}
-use Rattle.std.proofs.lemmas.Bool.{cases_lt}
-use Rattle.std.proofs.lemmas.List.{length-replicate, get_or-replicate, get_or_past}
-use Rattle.std.proofs.lemmas.Nat.Bits.{bit_at-zero}
-use Rattle.std.specs.Int.{bit_at}
-use Rattle.array_maps.specs.declared.access.Op.{Op}
-use Rattle.array_maps.specs.declared.access.Op.TheVariants.{Add, Or, And, Xor, AddH}
-use Rattle.loop_core_model.specs.LeastBreak.{lesser}
-use Rattle.loop_core_model.specs.Flags.{Flags}
+use Rattle.std.proofs.Common.{◌≡◌, ◌≢◌, ℕ, ◌+◌, ◌/◌, ◌%◌, ◌<◌, Bool, true, false, ◌&&◌, ◌||◌, eqb, min, max, List, None}
+use Rattle.std.proofs.Common.{length, refl, replicate, sym, ◌∙◌, ap, inl, inr, arith, eq-eqb, ne_eqb, Option, Some}
+use Rattle.std.{specs.{Prelude.{if◌then◌else◌}, Int.{bit_at}}, proofs.{Math.Bool.{or-false}, lemmas.Bool.{cases_lt}}}
+use Rattle.std.proofs.lemmas.{List.{length-replicate, get_or-replicate, get_or_past}, Nat.Bits.{bit_at-zero}}
+use Rattle.array_maps.specs.declared.access.Op.{Op, TheVariants.{Add, Or, And, Xor, AddH}}
+use Rattle.loop_core_model.specs.{LeastBreak.{lesser}, Flags.{Flags}, Planes.{bit_of}}
 use Rattle.loop_core_model.specs.Marks.{Marks, first_number, no_marks, marks_of_one, merged}
-use Rattle.loop_core_model.specs.Planes.{bit_of}
-use Rattle.shadow_marks.specs.declared.planes.LrpdPlanes.{LrpdPlanes}
-use Rattle.shadow_marks.specs.declared.planes.FlowPlanes.{FlowPlanes}
-use Rattle.shadow_marks.specs.declared.planes.Tested.{Tested}
-use Rattle.shadow_marks.specs.declared.planes.Tested.TheVariants.{Lrpd as ByLrpd, Flow as ByFlow}
-use Rattle.shadow_marks.specs.declared.planes.OperatorPlanes.{OperatorPlanes}
-use Rattle.shadow_marks.specs.declared.planes.Planes.{Planes}
-use Rattle.shadow_marks.specs.Bits.{OrsBit}
-use Rattle.shadow_marks.specs.Standing.{words_for, IsBitPlane, plane_by, EachPlane, AreLrpdPlanes}
-use Rattle.shadow_marks.specs.Standing.{AreFlowPlanes, AreTested, ArePlanes, test_of, LrpdStandAt}
-use Rattle.shadow_marks.specs.Standing.{FlowStandAt, TestedStandAt, no_visits, StandFor}
+use Rattle.shadow_marks.specs.declared.planes.{LrpdPlanes.{LrpdPlanes}, FlowPlanes.{FlowPlanes}, Tested.{Tested}}
+use Rattle.shadow_marks.specs.declared.planes.{Tested.TheVariants.{Lrpd as ByLrpd, Flow as ByFlow}, Planes.{Planes}}
+use Rattle.shadow_marks.specs.{declared.planes.OperatorPlanes.{OperatorPlanes}, Bits.{OrsBit}}
+use Rattle.shadow_marks.specs.Standing.{words_for, IsBitPlane, plane_by, EachPlane, AreLrpdPlanes, AreFlowPlanes}
+use Rattle.shadow_marks.specs.Standing.{AreTested, ArePlanes, test_of, LrpdStandAt, FlowStandAt, TestedStandAt}
+use Rattle.shadow_marks.specs.Standing.{no_visits, StandFor}
 use Rattle.shadow_marks.specs.Ending.{TestedHave, LrpdFolds, FlowFolds, TestedFolds, OperatorsFold, Folds}
 
 -- one plane

@@ -1,16 +1,10 @@
 -- A flag that is set in a byte of flags.
-use Rattle.std.proofs.Common.{◌≡◌, ℕ, ◌^◌, ◌<◌, min, Bool, true, false, not, ◌||◌}
-use Rattle.std.proofs.Common.{eqb, refl, sym, ◌∙◌, ap, arith, eq-eqb, ne_eqb}
-use Rattle.std.specs.Prelude.{bit_and, bit_or}
-use Rattle.std.specs.Int.{bit_at}
-use Rattle.std.proofs.Math.Bool.{or-false}
+use Rattle.std.proofs.Common.{◌≡◌, ℕ, ◌^◌, ◌<◌, min, Bool, true, false, not, ◌||◌, eqb, refl, sym, ◌∙◌, ap, arith}
+use Rattle.std.{proofs.{Common.{eq-eqb, ne_eqb}, Math.Bool.{or-false}}, specs.{Prelude.{bit_and, bit_or}, Int.{bit_at}}}
 use Rattle.std.proofs.lemmas.Nat.Bits.{bit_at_and, bit_at-zero}
-use Rattle.array_maps.specs.declared.access.Op.{Op}
-use Rattle.array_maps.specs.declared.access.Op.TheVariants.{Add, Or, And, Xor, AddH}
-use Rattle.loop_core_model.specs.Flags.{Flags}
-use Rattle.loop_core_model.proofs.FlagLaws.{same_flags}
-use Rattle.shadow_marks.specs.declared.element_flags.Flag.{Flag}
-use Rattle.shadow_marks.specs.declared.element_flags.Flag.TheVariants.{Wrote, Looked, Plain, By}
+use Rattle.array_maps.specs.declared.access.Op.{Op, TheVariants.{Add, Or, And, Xor, AddH}}
+use Rattle.loop_core_model.{specs.Flags.{Flags}, proofs.FlagLaws.{same_flags}}
+use Rattle.shadow_marks.specs.declared.element_flags.Flag.{Flag, TheVariants.{Wrote, Looked, Plain, By}}
 use Rattle.shadow_marks.specs.declared.element_flags.ElementFlags.{ElementFlags}
 use Rattle.shadow_marks.specs.Kept.{place_by, bit_place, flags_in, with_flag, with_read}
 use Rattle.shadow_marks.proofs.BitLaws.{bit_ored, same_place}

@@ -1,14 +1,9 @@
 -- What the list of touched elements says of the flags.
-use Rattle.std.proofs.Common.{◌≡◌, ℕ, ◌<◌, Bool, true, false, ◌||◌, eqb, List, [], ◌∷◌, ◌++◌}
-use Rattle.std.proofs.Common.{length, get_or, set, refl, sym, ◌∙◌, ap, inl, inr, arith, length-set}
-use Rattle.std.proofs.Common.{get_or-set_same, get_or-set_other, eq-eqb, ne_eqb}
-use Rattle.std.proofs.Math.Bool.{or-false}
-use Rattle.std.proofs.lemmas.Bool.{cases_eq}
-use Rattle.std.proofs.lemmas.List.Folds.{list_any-append}
-use Rattle.std.proofs.lemmas.Nat.Bits.{bit_at-zero}
-use Rattle.std.specs.Int.{bit_at}
-use Rattle.loop_core_model.specs.Flags.{no_flags}
-use Rattle.loop_core_model.proofs.FlagLaws.{same_flags}
+use Rattle.std.proofs.Common.{◌≡◌, ℕ, ◌<◌, Bool, true, false, ◌||◌, eqb, List, [], ◌∷◌, ◌++◌, length, get_or, set, refl}
+use Rattle.std.proofs.Common.{sym, ◌∙◌, ap, inl, inr, arith, length-set, get_or-set_same, get_or-set_other, eq-eqb}
+use Rattle.std.proofs.{Common.{ne_eqb}, Math.Bool.{or-false}, lemmas.{Bool.{cases_eq}, List.Folds.{list_any-append}}}
+use Rattle.std.{proofs.lemmas.Nat.Bits.{bit_at-zero}, specs.Int.{bit_at}}
+use Rattle.loop_core_model.{specs.Flags.{no_flags}, proofs.FlagLaws.{same_flags}}
 use Rattle.shadow_marks.specs.declared.element_flags.ElementFlags.{ElementFlags}
 use Rattle.shadow_marks.specs.Kept.{place_by, flags_in, nothing_kept, has_element}
 

@@ -1,15 +1,10 @@
 -- Marks that are taken away, page by page. A page is 64 elements: it has one word of each plane of bits.
 use Rattle.std.specs.Prelude.{◌≡◌, ◌≢◌, ℕ, ◌/◌, ◌<◌, false, List, length, slice_index}
 use Rattle.array_maps.specs.declared.access.Op.{Op}
-use Rattle.loop_core_model.specs.Marks.{Marks, no_marks}
-use Rattle.loop_core_model.specs.Planes.{bit_of}
-use Rattle.shadow_marks.specs.declared.planes.LrpdPlanes.{LrpdPlanes}
-use Rattle.shadow_marks.specs.declared.planes.FlowPlanes.{FlowPlanes}
-use Rattle.shadow_marks.specs.declared.planes.Tested.{Tested}
-use Rattle.shadow_marks.specs.declared.planes.Tested.TheVariants.{Lrpd as ByLrpd, Flow as ByFlow}
-use Rattle.shadow_marks.specs.declared.planes.OperatorPlanes.{OperatorPlanes}
-use Rattle.shadow_marks.specs.declared.planes.Planes.{Planes}
-use Rattle.shadow_marks.specs.Standing.{StandAt, plane_by}
+use Rattle.loop_core_model.specs.{Marks.{Marks, no_marks}, Planes.{bit_of}}
+use Rattle.shadow_marks.specs.declared.planes.{LrpdPlanes.{LrpdPlanes}, FlowPlanes.{FlowPlanes}, Tested.{Tested}}
+use Rattle.shadow_marks.specs.declared.planes.{Tested.TheVariants.{Lrpd as ByLrpd, Flow as ByFlow}, Planes.{Planes}}
+use Rattle.shadow_marks.specs.{declared.planes.OperatorPlanes.{OperatorPlanes}, Standing.{StandAt, plane_by}}
 use Rattle.shadow_marks.specs.Ending.{KeepsShape}
 
 -- the bits of a page's elements are taken away in a plane

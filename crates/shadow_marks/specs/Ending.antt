@@ -1,16 +1,10 @@
 -- How an iteration's flags come into planes.
 use Rattle.std.specs.Prelude.{◌≡◌, ◌≢◌, ℕ, ◌+◌, ◌/◌, ◌<◌, not, ◌&&◌, if◌then◌else◌, length, slice_index, min, max}
 use Rattle.array_maps.specs.declared.access.Op.TheVariants.{Add, Or, And, Xor, AddH}
-use Rattle.loop_core_model.specs.Flags.{Flags}
-use Rattle.loop_core_model.specs.Marks.{Marks, marks_of_one, merged}
-use Rattle.loop_core_model.specs.Planes.{bit_of}
-use Rattle.shadow_marks.specs.declared.planes.LrpdPlanes.{LrpdPlanes}
-use Rattle.shadow_marks.specs.declared.planes.FlowPlanes.{FlowPlanes}
-use Rattle.shadow_marks.specs.declared.planes.Tested.{Tested}
-use Rattle.shadow_marks.specs.declared.planes.Tested.TheVariants.{Lrpd as ByLrpd, Flow as ByFlow}
-use Rattle.shadow_marks.specs.declared.planes.OperatorPlanes.{OperatorPlanes}
-use Rattle.shadow_marks.specs.declared.planes.Planes.{Planes}
-use Rattle.shadow_marks.specs.Bits.{OrsBit, ChangesNumber}
+use Rattle.loop_core_model.specs.{Flags.{Flags}, Marks.{Marks, marks_of_one, merged}, Planes.{bit_of}}
+use Rattle.shadow_marks.specs.declared.planes.{LrpdPlanes.{LrpdPlanes}, FlowPlanes.{FlowPlanes}, Tested.{Tested}}
+use Rattle.shadow_marks.specs.declared.planes.{Tested.TheVariants.{Lrpd as ByLrpd, Flow as ByFlow}, Planes.{Planes}}
+use Rattle.shadow_marks.specs.{declared.planes.OperatorPlanes.{OperatorPlanes}, Bits.{OrsBit, ChangesNumber}}
 use Rattle.shadow_marks.specs.Standing.{ArePlanes, test_of, StandAt}
 
 -- planes that have an element

@@ -2,8 +2,7 @@
 use Rattle.std.specs.Prelude.{◌≡◌, ◌≢◌, ℕ, ◌+◌, ◌<◌, List, length, slice_index_or}
 use Rattle.array_maps.specs.Accesses.{Action}
 use Rattle.loop_core_model.specs.Flags.{Flags, flags_of, no_flags}
-use Rattle.shadow_marks.specs.declared.element_flags.ElementFlags.{ElementFlags}
-use Rattle.shadow_marks.specs.declared.iter_flags.IterFlags.{IterFlags}
+use Rattle.shadow_marks.specs.declared.{element_flags.ElementFlags.{ElementFlags}, iter_flags.IterFlags.{IterFlags}}
 use Rattle.shadow_marks.specs.Kept.{flags_in, nothing_kept}
 
 -- how many elements there are

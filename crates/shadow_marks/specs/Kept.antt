@@ -1,13 +1,8 @@
 -- What is kept of one element while an iteration runs.
-use Rattle.std.specs.Prelude.{ℕ, Bool, true, not, ◌||◌, ◌==◌, List}
-use Rattle.std.specs.Int.{bit_at}
-use Rattle.std.specs.List.{list_any}
-use Rattle.array_maps.specs.declared.access.Op.{Op}
-use Rattle.array_maps.specs.declared.access.Op.TheVariants.{Add, Or, And, Xor, AddH}
-use Rattle.loop_core_model.specs.Actions.{is_same}
-use Rattle.loop_core_model.specs.Flags.{Flags}
-use Rattle.shadow_marks.specs.declared.element_flags.Flag.{Flag}
-use Rattle.shadow_marks.specs.declared.element_flags.Flag.TheVariants.{Wrote, Looked, Plain, By}
+use Rattle.std.specs.{Prelude.{ℕ, Bool, true, not, ◌||◌, ◌==◌, List}, Int.{bit_at}, List.{list_any}}
+use Rattle.array_maps.specs.declared.access.Op.{Op, TheVariants.{Add, Or, And, Xor, AddH}}
+use Rattle.loop_core_model.specs.{Actions.{is_same}, Flags.{Flags}}
+use Rattle.shadow_marks.specs.declared.element_flags.Flag.{Flag, TheVariants.{Wrote, Looked, Plain, By}}
 use Rattle.shadow_marks.specs.declared.element_flags.ElementFlags.{ElementFlags}
 
 -- the bit of an operator

@@ -2,13 +2,10 @@
 
 ghost use Rattle.std.specs.Prelude.{◌≡◌, ◌*◌, ◌<◌, ◌≤◌, ℕ, List, length};
 ghost use Rattle.loop_core_model.specs.Marks.{Visit};
-ghost use Rattle.shadow_marks.specs.Iteration.{element_count, IsEmptied};
-ghost use Rattle.shadow_marks.specs.Standing.{words_for, EachPlane, ArePlanes, AreTested, AreLrpdPlanes};
-ghost use Rattle.shadow_marks.specs.Standing.{AreFlowPlanes, StandFor, no_visits};
-ghost use Rattle.shadow_marks.specs.Ending.{KeepsShape};
-ghost use Rattle.shadow_marks.specs.Runs.{SetsRun};
-ghost use Rattle.shadow_marks.specs.Clearing.{ClearsBits, SetsNumbers, OperatorsClear, LrpdClears};
-ghost use Rattle.shadow_marks.specs.Clearing.{FlowClears, TestedClears, ClearsPage};
+ghost use Rattle.shadow_marks.specs.{Iteration.{element_count, IsEmptied}, Standing.{StandFor, no_visits}};
+ghost use Rattle.shadow_marks.specs.Standing.{words_for, EachPlane, ArePlanes, AreTested, AreLrpdPlanes, AreFlowPlanes};
+ghost use Rattle.shadow_marks.specs.{Ending.{KeepsShape}, Runs.{SetsRun}, Clearing.{TestedClears, ClearsPage}};
+ghost use Rattle.shadow_marks.specs.Clearing.{ClearsBits, SetsNumbers, OperatorsClear, LrpdClears, FlowClears};
 
 use crate::iter_flags::IterFlags;
 use crate::planes::{FlowPlanes, LrpdPlanes, NO_WRITER, OperatorPlanes, Planes, Tested};

@@ -3,12 +3,10 @@
 ghost use Rattle.std.specs.Prelude.{◌≡◌, ◌+◌, ◌/◌, ◌<◌, ℕ, List, length, slice_index, min, max};
 ghost use Rattle.array_maps.specs.Accesses.{Action};
 ghost use Rattle.loop_core_model.specs.Marks.{Visit, Marks, marks_of_one, merged};
-ghost use Rattle.shadow_marks.specs.Iteration.{element_count, flags_at, AreFlagsOf, IsEmptied};
-ghost use Rattle.shadow_marks.specs.Kept.{flags_in};
+ghost use Rattle.shadow_marks.specs.{Iteration.{element_count, flags_at, AreFlagsOf, IsEmptied}, Kept.{flags_in}};
 ghost use Rattle.shadow_marks.specs.Standing.{EachPlane, ArePlanes, StandAt, StandFor, one_more};
-ghost use Rattle.shadow_marks.specs.Bits.{ChangesNumber};
-ghost use Rattle.shadow_marks.specs.Ending.{LrpdHave, FlowHave, TestedHave, LrpdFolds, FlowFolds};
-ghost use Rattle.shadow_marks.specs.Ending.{TestedFolds, OperatorsFold, KeepsShape, Folds};
+ghost use Rattle.shadow_marks.specs.{Bits.{ChangesNumber}, Ending.{OperatorsFold, KeepsShape, Folds}};
+ghost use Rattle.shadow_marks.specs.Ending.{LrpdHave, FlowHave, TestedHave, LrpdFolds, FlowFolds, TestedFolds};
 
 use crate::bits::{is_also_set, or_bit};
 use crate::element_flags::{ElementFlags, Flag};

@@ -25,8 +25,8 @@ pub struct IterFlags {
 impl IterFlags {
     ghost use Rattle.std.specs.Prelude.{◌≢◌, ◌+◌, ◌||◌, IfOk, MatchOption};
     ghost use Rattle.loop_core_model.specs.Flags.{flagged};
-    ghost use Rattle.shadow_marks.specs.Iteration.{element_count, touched_count, flags_at};
-    ghost use Rattle.shadow_marks.specs.Iteration.{IsEmptied, TakesFlags, TakesNone};
+    ghost use Rattle.shadow_marks.specs.Iteration.{element_count, touched_count, flags_at, IsEmptied, TakesFlags};
+    ghost use Rattle.shadow_marks.specs.Iteration.{TakesNone};
 
     /// Flags for n elements, none of them touched. All room that an iteration needs is made here.
     pub fn try_new(alloc: Global, elements: u32) -> Result<IterFlags, AllocError>

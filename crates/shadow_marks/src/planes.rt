@@ -59,7 +59,7 @@ pub struct Planes {
     pub plain: Vec<u64>,
     /// By which operators it is reduced.
     pub operators: OperatorPlanes,
-    /// What the test needs beside.
+    /// What the test needs besides.
     pub tested: Tested,
 }
 

@@ -1,26 +1,21 @@
 -- What loop calls that were run tell of them.
-use Rattle.std.proofs.Common.{◌≡◌, ℕ, Ok, Err, ap, sym, subst, ◌∙◌}
-use Rattle.std.specs.Prelude.{Result, IfOk}
+use Rattle.std.{proofs.Common.{◌≡◌, ℕ, Ok, Err, ap, sym, subst, ◌∙◌}, specs.Prelude.{Result, IfOk}}
 use denote.Ref.{Bor, MutBor}
 use denote.Param.Members.{Shared}
 use Rattle.array_maps.specs.MapList.{MapList}
 use Rattle.bpf_insn_types.specs.Program.{Program}
-use Rattle.bpf_step_model.specs.State.{LoopCall}
-use Rattle.bpf_step_model.specs.Run.{BoundedResult, Ended, Stuck, Unfinished, mapped, followed}
-use Rattle.bpf_step_model.specs.LoopInOrder.{Looped, loop_in_order}
-use Rattle.bpf_step_model.specs.ProgramInOrder.{LoopMade, valid_call}
+use Rattle.bpf_step_model.specs.{State.{LoopCall}, Run.{BoundedResult, Ended, Stuck, Unfinished, mapped, followed}}
+use Rattle.bpf_step_model.specs.{LoopInOrder.{Looped, loop_in_order}, ProgramInOrder.{LoopMade, valid_call}}
 use Rattle.bpf_step_model.proofs.Endings.{ended_same}
 use Rattle.bpf_verify_sound.specs.Soundness.{IsSoundProgram, OverApproximatesCall}
-use Rattle.loop_core_model.specs.declared.loop_test.Test.{Test}
-use Rattle.loop_core_model.specs.declared.verdict.LoopReport.{LoopReport}
-use Rattle.loop_core_model.specs.declared.verdict.Verdict.{Verdict}
-use Rattle.loop_core_model.specs.Report.{line, loop_report, verdict}
-use Rattle.loop_core_model.specs.Outcome.{Outcome, judged_as}
+use Rattle.loop_core_model.specs.declared.{loop_test.Test.{Test}, verdict.{LoopReport.{LoopReport}, Verdict.{Verdict}}}
+use Rattle.loop_core_model.specs.{Report.{line, loop_report, verdict}, Outcome.{Outcome, judged_as}}
 use Rattle.loop_core_sequential.specs.FilledCalls.{FilledCallsAreOneLoop}
 use Rattle.loop_core_gather.specs.Gathered.{IsOutcome}
 use Rattle.spec_run_loop.specs.declared.decision.LoopAnswer.{LoopAnswer}
 use Rattle.spec_run_workers.specs.declared.workspace.Workspace.{Workspace}
-use Rattle.spec_run.specs.Calls.{RanCall, MayAnswer, RunsCalls}
+use Rattle.spec_run_main.specs.Calls.{RanCall}
+use Rattle.spec_run.specs.Calls.{MayAnswer, RunsCalls}
 
 -- an outcome that is there is a verdict and a loop in order that are there
 record Parts (told : BoundedResult Verdict) (looped : BoundedResult Looped) (o : Outcome) : Type 0 where
@@ -50,7 +45,7 @@ call_by_test {test} {program} {call} {start} {left} {answer} {told_verdict} one_
     (record { verdict = told_verdict; answer = answer; words = left.words }) is.outcome_is in
     record {
       ran = record { told = both.ordered; kept = is.sizes };
-      told = λ made filled known fit.
+      line = λ made filled known fit.
           ap (mapped (line (valid_call made answer start.words)))
           (sym ((one_loop program sound made call filled known start.words fit).judges test) ∙ both.judged);
     }
@@ -63,13 +58,13 @@ pub each_by_test : (test : Test) (program : Program) (call : LoopCall) (start le
 each_by_test test program call start left one_loop sound (Ok a) is = call_by_test one_loop sound is
 each_by_test test program call start left one_loop sound (Err e) is = tt
 
--- what a call says of what it was lent, it says of the loop call and the maps
+-- what a call says of what it borrowed, it says of the loop call and the maps
 pub told_of : {F E : Type 0}
     {calls : Shared F (Bor LoopCall × (MutBor MapList × (MutBor Workspace × Unit {0})))
     (Result LoopAnswer E × (MutBor MapList × (MutBor Workspace × Unit {0})))}
     {f : F} {call : LoopCall} {start left : MapList} {answered : Result LoopAnswer E}
     (P : LoopCall → MapList → MapList → Type 0) → (it : MayAnswer calls f call start answered left)
-    → P it.lent.now it.maps.now it.after_call.now → P call start left
+    → P it.call_ref.now it.maps.now it.after_call.now → P call start left
 told_of {F} {E} {calls} {f} {call} {start} {left} {answered} P it told =
     subst (λ (left : MapList). P call start left) it.left_is
     (subst (λ (start : MapList). P call start it.after_call.now) it.start_is
@@ -85,4 +80,4 @@ pub ran_of : {F E : Type 0}
     → answered ≡ Ok a → RanCall line_of program call start left a.answer a.verdict
 ran_of {F} {E} {calls} {f} {line_of} {program} {call} {start} {left} {answered} runs known sizes answers is =
     subst (λ (r : Result LoopAnswer E). IfOk r (λ a. RanCall line_of program call start left a.answer a.verdict)) is
-    (runs.told call start answered left known sizes answers)
+    (runs.ran call start answered left known sizes answers)

@@ -1,5 +1,1 @@
-pub mod Lines
-pub mod Turns
 pub mod CallLaws
-pub mod LoopEnds
-pub mod Reported

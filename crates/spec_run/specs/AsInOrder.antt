@@ -3,19 +3,9 @@ use Rattle.std.specs.Prelude.{◌≡◌, ℕ, Result, IfOk, IfErr, OnErr}
 use Rattle.array_maps.specs.MapList.{MapList}
 use Rattle.bpf_insn_types.specs.Program.{Program}
 use Rattle.loop_core_model.specs.declared.loop_test.Test.{Test}
-use Rattle.loop_core_model.specs.Report.{report as report_by}
-use Rattle.spec_run_loop.specs.declared.error.RunError.{RunError}
-use Rattle.spec_run_loop.specs.declared.error.RunError.TheVariants.{Memory}
-use Rattle.loop_core_split.specs.declared.plan.Plan.{Plan}
-use Rattle.loop_core_split.specs.Plans.{IsPlan}
-use Rattle.spec_run.specs.declared.report.Report.{Report}
-use Rattle.spec_run.specs.Reports.{IsReportOf}
-
--- what a run gives is what the program gives whose loops run in order, from the old maps, where main takes at most
--- 4,096 instructions up to each turn, and an iteration at most as many; each valid call's verdict is that of the test
-abbrev pub IsReportByTest : Test → Program → (argument : ℕ) → (old new : MapList) → Report → Type 0
-IsReportByTest test program argument old new report =
-    IsReportOf (report_by test program 4096 argument old.words) program argument old new report
+use Rattle.spec_run_loop.specs.declared.error.RunError.{RunError, TheVariants.{Memory}}
+use Rattle.loop_core_split.specs.{declared.plan.Plan.{Plan}, Plans.{IsPlan}}
+use Rattle.spec_run_main.specs.{declared.report.Report.{Report}, Reports.{IsReportByTest}}
 
 -- The main theorem: run gives exactly the return value, maps and report of the program run in order, or runs out of
 -- memory and leaves the maps unchanged, for every number of workers, split and schedule. Of the plan the test alone

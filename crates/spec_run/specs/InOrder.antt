@@ -3,8 +3,7 @@ use Rattle.std.specs.Prelude.{ℕ}
 use Rattle.array_maps.specs.MapList.{MapList}
 use Rattle.bpf_insn_types.specs.Program.{Program}
 use Rattle.loop_core_model.specs.Report.{report_in_order}
-use Rattle.spec_run.specs.declared.report.Report.{Report}
-use Rattle.spec_run.specs.Reports.{IsReportOf}
+use Rattle.spec_run_main.specs.{declared.report.Report.{Report}, Reports.{IsReportOf}}
 
 -- what a run in order gives is what the program in order gives, from the old maps, where main takes at most 4,096
 -- instructions up to each turn, and an iteration at most as many

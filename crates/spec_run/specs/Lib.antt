@@ -1,4 +1,3 @@
 pub mod Calls
-pub mod Reports
 pub mod InOrder
 pub mod AsInOrder

@@ -2,18 +2,17 @@
 
 ghost use Rattle.std.specs.Prelude.{◌≡◌, IfOk};
 ghost use Rattle.loop_core_model.specs.Report.{loop_report};
-ghost use Rattle.spec_run.specs.AsInOrder.{IsReportByTest};
+ghost use Rattle.spec_run_main.specs.Reports.{IsReportByTest};
 ghost use Rattle.spec_run.specs.Calls.{MayRun, MayAnswer, RunsCalls};
 
 use crate::observing::Observer;
-use crate::report::Report;
 use array_maps::Maps;
 use bpf_step::LoopCall;
 use bpf_step_model::RefusedCall;
 use bpf_verify::Verified;
 use loop_core_model::{LoopReport, Test, Verdict};
 use spec_run_loop::{LoopAnswer, Workspace};
-use spec_run_main::{LoopRunner, run_main};
+use spec_run_main::{LoopRunner, Report, run_main};
 use std::alloc::{AllocError, Global};
 
 /// Runs a loop call on these maps, in a workspace.
@@ -48,7 +47,7 @@ impl<
 
     type Stop = AllocError;
 
-    ghost tells = { λ program first calls now. (now.test ≡ first.test)
+    ghost records = { λ program first calls now. (now.test ≡ first.test)
         × RunsCalls F.Fn now.run.now (loop_report now.test program 4096) program
         × AreLines (loop_report now.test program 4096) calls now.lines.items };
 

@@ -34,7 +34,7 @@ impl LoopRunner for InOrder {
 
     type Stop = AllocError;
 
-    ghost tells = { λ _ _ calls now. AreLines loop_report_in_order calls now.lines.items };
+    ghost records = { λ _ _ calls now. AreLines loop_report_in_order calls now.lines.items };
 
     ghost room = { λ _. 4096 };
 

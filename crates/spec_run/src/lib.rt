@@ -16,7 +16,6 @@ mod freed_memory;
 mod in_order;
 mod observing;
 mod program_in_order;
-mod report;
 mod speculating;
 mod stats;
 
@@ -24,10 +23,10 @@ pub use loop_core_model::{LoopReport, Test, Verdict};
 pub use loop_core_split::{Gate, NoGate, Plan, Policy};
 pub use observing::{Observer, Unobserved};
 pub use program_in_order::run_in_order;
-pub use report::Report;
 pub use spec_run_loop::{
-    BlocksReason, Course, LoopAnswer, LoopOutcome, LoopRun, RunError, SpeculativeLoop, run_loop,
+    BlocksReason, LoopAnswer, LoopOutcome, LoopRun, RunError, SpeculativeLoop, Strategy, run_loop,
     work,
 };
+pub use spec_run_main::Report;
 pub use speculating::{run, run_observed};
 pub use stats::{LoopStats, Stats};

@@ -4,11 +4,10 @@ ghost use Rattle.std.specs.Prelude.{◌≡◌, ◌≢◌, IfOk, OnErr, Err};
 ghost use Rattle.spec_run.specs.InOrder.{IsReportInOrder};
 
 use crate::in_order::InOrder;
-use crate::report::Report;
 use array_maps::Maps;
 use bpf_verify::Verified;
 use spec_run_loop::RunError;
-use spec_run_main::run_main;
+use spec_run_main::{Report, run_main};
 use std::alloc::Global;
 
 /// Runs the program on the maps, its argument in R1, with each loop in order. It runs on a copy, which

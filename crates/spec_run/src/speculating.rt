@@ -9,13 +9,13 @@ ghost use Rattle.loop_core_split.specs.Plans.{IsPlan};
 use crate::by_plan::run_program;
 use crate::freed_memory::keep_freed_memory;
 use crate::observing::{Observer, Unobserved};
-use crate::report::Report;
 use array_maps::Maps;
 use bpf_step::LoopCall;
 use bpf_verify::Verified;
 use loop_core_sequential::law_of_filled_calls;
 use loop_core_split::{Gate, Plan};
 use spec_run_loop::{LoopAnswer, LoopJob, RunError, Workspace, run_by_plan};
+use spec_run_main::Report;
 use std::alloc::{AllocError, Global};
 use std::thread::Threads;
 

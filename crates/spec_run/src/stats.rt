@@ -4,7 +4,7 @@ use crate::observing::Observer;
 use bpf_step::LoopCall;
 use bpf_verify::Verified;
 use loop_core_model::Verdict;
-use spec_run_loop::{Course, LoopAnswer};
+use spec_run_loop::{LoopAnswer, Strategy};
 use std::alloc::Global;
 use std::time::{Clock, Duration, Instant};
 
@@ -24,7 +24,7 @@ pub struct LoopStats {
     /// The verdict on it.
     pub verdict: Verdict,
     /// Which way it went.
-    pub course: Course,
+    pub strategy: Strategy,
     /// How long it took, where the clock could be read.
     pub time: Option<Duration>,
 }
@@ -96,7 +96,7 @@ impl<C: Clock> Observer for Stats<'_, C> {
             called_for: call.n(),
             answer: answered.answer,
             verdict: answered.verdict,
-            course: answered.course,
+            strategy: answered.strategy,
             time,
         });
     }

@@ -1,22 +1,16 @@
 -- Causes of elements that fail a test.
 use Rattle.std.proofs.Common.{◌≡◌, ℕ, ◌+◌, ◌<◌, ◌≤◌, List, [], ◌∷◌, ◌++◌, length, take, None, sym, ap, subst, ◌∙◌}
-use Rattle.std.specs.Prelude.{true, false, slice_index_or, is_none}
-use Rattle.std.specs.List.{All, range_with_len}
-use Rattle.std.proofs.lemmas.List.{take_more, take_all, map_push}
-use Rattle.std.proofs.lemmas.List.Elements.{All-take, filter_passes}
+use Rattle.std.specs.{Prelude.{true, false, slice_index_or, is_none}, List.{All, range_with_len}}
+use Rattle.std.proofs.lemmas.List.{take_more, take_all, map_push, Elements.{All-take, filter_passes}}
 use Rattle.array_maps.specs.Accesses.{Access}
 use Rattle.bpf_insn_types.specs.Program.{Program}
-use Rattle.bpf_step_model.specs.State.{LoopCall}
-use Rattle.bpf_step_model.specs.Run.{Ended}
-use Rattle.loop_core_model.specs.declared.loop_test.Test.{Test}
-use Rattle.loop_core_model.specs.Actions.{joined, only_operator}
+use Rattle.bpf_step_model.specs.{State.{LoopCall}, Run.{Ended}}
+use Rattle.loop_core_model.specs.{declared.loop_test.Test.{Test}, Actions.{joined, only_operator}}
 use Rattle.loop_core_model.specs.Conflict.{fails, at_element, conflicts, conflicting}
 use Rattle.loop_core_model.proofs.OneElement.{and_true_right}
-use Rattle.spec_run_explain.specs.declared.conflicts.Conflicts.{Conflicts}
-use Rattle.spec_run_explain.specs.Told.{AreConflicts}
-use Rattle.loop_core_witness.specs.Witnesses.{Explains}
-use Rattle.spec_run_explain.specs.declared.explained.Cause.{Cause}
+use Rattle.spec_run_explain.specs.{declared.conflicts.Conflicts.{Conflicts}, Conflicting.{AreConflicts}}
 use Rattle.spec_run_explain.specs.Causes.{FailsAt, cause_elements}
+use Rattle.loop_core_witness.specs.{Witnesses.{Explains}, declared.explained.Cause.{Cause}}
 
 -- where a test fails, it doesn't pass
 pub fails_here : (test : Test) (program : Program) (call : LoopCall) (words : List ℕ) (element : ℕ)
@@ -29,9 +23,9 @@ fails_here test program call words element here none =
     cc
 
 -- a test fails at each of the least elements that conflict
-pub all_fail : (test : Test) (program : Program) (call : LoopCall) (words : List ℕ) (most : ℕ) (told : Conflicts)
-    → AreConflicts test program call words most told → All (FailsAt test program call words) told.least.items
-all_fail test program call words most told are =
+pub all_fail : (test : Test) (program : Program) (call : LoopCall) (words : List ℕ) (most : ℕ) (found : Conflicts)
+    → AreConflicts test program call words most found → All (FailsAt test program call words) found.least.items
+all_fail test program call words most found are =
     let all : All (FailsAt test program call words) (conflicting test are.runs (length words)) = λ k d below. record {
       runs = are.runs;
       counted = are.counted;
@@ -56,6 +50,6 @@ one_more causes added cause elements i d below pushed here before =
     ∙ sym (take_more elements i d below)
 
 -- all of them
-pub all_told : (causes : List Cause) (elements : List ℕ) (i : ℕ) → length elements ≤ i
+pub all_causes : (causes : List Cause) (elements : List ℕ) (i : ℕ) → length elements ≤ i
     → cause_elements causes ≡ take i elements → cause_elements causes ≡ elements
-all_told causes elements i past taken = taken ∙ take_all i elements past
+all_causes causes elements i past taken = taken ∙ take_all i elements past

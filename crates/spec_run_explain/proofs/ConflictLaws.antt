@@ -1,32 +1,19 @@
 -- What a block of a whole loop tells of its conflicts.
 use Rattle.std.proofs.Common.{◌≡◌, ℕ, ◌+◌, ◌-◌, List, length, take, sym, ap, ◌∙◌, subst, arith}
 use Rattle.std.specs.List.{filter, range_with_len}
-use Rattle.array_maps.specs.Accesses.{Access}
-use Rattle.array_maps.specs.MapList.{AreWords}
+use Rattle.array_maps.specs.{Accesses.{Access}, MapList.{AreWords}}
 use Rattle.bpf_insn_types.specs.Program.{Program}
-use Rattle.bpf_step_model.specs.State.{LoopCall}
-use Rattle.bpf_step_model.specs.Run.{BoundedResult, Ended, mapped}
-use Rattle.bpf_step_model.specs.Iteration.{Iterated, iteration}
-use Rattle.loop_core_model.specs.declared.loop_test.Test.{Test}
-use Rattle.loop_core_model.specs.Conflict.{conflicts, at_element, conflicting}
-use Rattle.loop_core_model.specs.LeastBreak.{accesses_of_each, least_break, counted_runs}
-use Rattle.loop_core_model.specs.Marks.{Visit, marks_of, marked_conflict}
-use Rattle.loop_core_model.specs.Planes.{elements_in_plane, plane_verdict}
-use Rattle.loop_core_model.specs.Report.{judged}
-use Rattle.loop_core_model.specs.Scan.{scan}
-use Rattle.loop_core_model.specs.Block.{block_run, break_from}
-use Rattle.loop_core_model.proofs.FirstBreak.{FirstIs, one_first, breaking, scan_first}
-use Rattle.loop_core_model.proofs.Least.{least_is}
-use Rattle.loop_core_model.proofs.ScanLaws.{counted_are_scanned}
-use Rattle.loop_core_model.proofs.MarkLaws.{marks_tell}
-use Rattle.loop_core_model.proofs.PlaneBits.{plane_judges}
-use Rattle.loop_core_model.proofs.PlaneLaws.{filter-same}
+use Rattle.bpf_step_model.specs.{State.{LoopCall}, Run.{BoundedResult, Ended, mapped}, Iteration.{Iterated, iteration}}
+use Rattle.loop_core_model.specs.{declared.loop_test.Test.{Test}, Conflict.{conflicts, at_element, conflicting}}
+use Rattle.loop_core_model.specs.{LeastBreak.{accesses_of_each, least_break, counted_runs}, Report.{judged}}
+use Rattle.loop_core_model.specs.{Marks.{Visit, marks_of, marked_conflict}, Planes.{elements_in_plane, plane_verdict}}
+use Rattle.loop_core_model.{specs.{Scan.{scan}, Block.{block_run, break_from}}, proofs.Least.{least_is}}
+use Rattle.loop_core_model.proofs.{FirstBreak.{FirstIs, one_first, breaking, scan_first}, MarkLaws.{marks_tell}}
+use Rattle.loop_core_model.proofs.{ScanLaws.{counted_are_scanned}, PlaneBits.{plane_judges}, PlaneLaws.{filter-same}}
 use Rattle.shadow_marks.specs.Standing.{StandFor, test_of}
 use Rattle.private_copy.specs.Visits.{visits_of}
-use Rattle.loop_core_block.specs.Blocks.{BlockOf}
-use Rattle.loop_core_block.specs.Ran.{RecordsRun}
-use Rattle.spec_run_explain.specs.declared.conflicts.Conflicts.{Conflicts}
-use Rattle.spec_run_explain.specs.Told.{AreConflicts}
+use Rattle.loop_core_block.specs.{Blocks.{BlockOf}, Ran.{RecordsRun}}
+use Rattle.spec_run_explain.specs.{declared.conflicts.Conflicts.{Conflicts}, Conflicting.{AreConflicts}}
 
 -- the counted iterations are those of a block of all indices
 counted_is : (program : Program) (call : LoopCall) (words : List ℕ) (past : ℕ) (ran : List Iterated) → past ≡ call.n
@@ -50,14 +37,14 @@ break_is program call words past ran all told =
 
 -- what its planes tell
 pub are_conflicts : (test : Test) (program : Program) (call : LoopCall) (words : List ℕ) (most : ℕ) (b : BlockOf)
-    (plane : List ℕ) (told : Conflicts) → RecordsRun test program call words b →
+    (plane : List ℕ) (found : Conflicts) → RecordsRun test program call words b →
     b.first ≡ 0 → b.past ≡ call.n → AreWords plane →
     ((visits : ℕ → List Visit) → StandFor b.planes visits → elements_in_plane plane
     ≡ filter (λ e. marked_conflict (test_of b.planes.tested) (marks_of (visits e)))
-    (range_with_len 0 b.planes.elements)) → told.verdict ≡ plane_verdict plane
-    → told.broke ≡ b.broke → told.least.items ≡ take most (elements_in_plane plane)
-    → AreConflicts test program call words most told
-are_conflicts test program call words most b plane told records first past fit tells judges broke listed =
+    (range_with_len 0 b.planes.elements)) → found.verdict ≡ plane_verdict plane
+    → found.broke ≡ b.broke → found.least.items ≡ take most (elements_in_plane plane)
+    → AreConflicts test program call words most found
+are_conflicts test program call words most b plane found records first past fit tells judges broke listed =
     let runs : List (List Access) = accesses_of_each records.ran in
     let elements : elements_in_plane plane ≡ conflicting test runs (length words) =
     tells (visits_of b.first runs) records.planes
@@ -71,10 +58,10 @@ are_conflicts test program call words most b plane told records first past fit t
     record {
       runs = runs;
       counted = counted_is program call words b.past records.ran past
-          (subst (λ (f : ℕ). block_run program 4096 call words f b.past ≡ Ended records.ran) first records.told);
+          (subst (λ (f : ℕ). block_run program 4096 call words f b.past ≡ Ended records.ran) first records.ended);
       broke = broke ∙ records.broke ∙ ap (λ (f : ℕ). break_from f records.ran) first
           ∙ break_is program call words b.past records.ran past
-          (subst (λ (f : ℕ). block_run program 4096 call words f b.past ≡ Ended records.ran) first records.told);
+          (subst (λ (f : ℕ). block_run program 4096 call words f b.past ≡ Ended records.ran) first records.ended);
       verdict = judges ∙ plane_judges.verdict plane fit ∙ ap judged elements;
       least = listed ∙ ap (take most) elements;
     }

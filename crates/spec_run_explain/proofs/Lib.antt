@@ -3,4 +3,4 @@ pub mod ConflictLaws
 pub mod SurveyLaws
 pub mod ExplainLaws
 pub mod CauseLaws
-pub mod CallsTold
+pub mod CallLaws

@@ -1,14 +1,10 @@
 -- Listing the elements of a plane.
-use Rattle.std.proofs.Common.{◌≡◌, ◌≢◌, ℕ, ◌+◌, ◌-◌, ◌*◌, ◌/◌, ◌≤◌, Bool, true, false, List, []}
-use Rattle.std.proofs.Common.{◌∷◌, ◌++◌, length, take, None, refl, sym, ap, ◌∙◌, arith}
-use Rattle.std.specs.Prelude.{cond}
-use Rattle.std.specs.List.{filter, range_with_len}
+use Rattle.std.proofs.Common.{◌≡◌, ◌≢◌, ℕ, ◌+◌, ◌-◌, ◌*◌, ◌/◌, ◌≤◌, Bool, true, false, List, [], ◌∷◌, ◌++◌, length}
+use Rattle.std.{proofs.Common.{take, None, refl, sym, ap, ◌∙◌, arith}, specs.Prelude.{cond}}
+use Rattle.std.{specs.List.{filter, range_with_len}, proofs.lemmas.List.Elements.{filter-append}}
 use Rattle.std.proofs.lemmas.List.{take_all, take-append-le, append-nil, length-append}
-use Rattle.std.proofs.lemmas.List.Elements.{filter-append}
-use Rattle.loop_core_model.specs.Intervals.{start_of, end_of}
-use Rattle.loop_core_model.specs.Split.{split_fault, even_bounds}
-use Rattle.loop_core_model.proofs.EvenSplitLaws.{even_is_split}
-use Rattle.loop_core_model.proofs.PlaneLaws.{range-append}
+use Rattle.loop_core_model.specs.{Intervals.{start_of, end_of}, Split.{split_fault, even_bounds}}
+use Rattle.loop_core_model.proofs.{EvenSplitLaws.{even_is_split}, PlaneLaws.{range-append}}
 
 -- one block is a split
 pub one_block : (n : ℕ) → split_fault (even_bounds n 1) n ≡ None

@@ -3,18 +3,12 @@ use Rattle.std.proofs.Common.{◌≡◌, ℕ, false, List, Option, Some, None, r
 use Rattle.std.specs.Prelude.{is_some}
 use Rattle.bpf_insn_types.specs.Program.{Program}
 use Rattle.bpf_step_model.specs.State.{LoopCall}
-use Rattle.loop_core_model.specs.declared.loop_test.Test.{Test}
-use Rattle.loop_core_model.specs.Block.{block_run, break_from}
-use Rattle.loop_core_model.specs.Conflict.{at_element}
-use Rattle.loop_core_model.specs.LeastBreak.{accesses_of_each}
-use Rattle.loop_core_model.specs.Marks.{numbered}
-use Rattle.shadow_marks.specs.declared.planes.Planes.{Planes}
-use Rattle.shadow_marks.specs.Standing.{StandFor}
+use Rattle.loop_core_model.specs.{declared.loop_test.Test.{Test}, Block.{block_run, break_from}, Conflict.{at_element}}
+use Rattle.loop_core_model.specs.{LeastBreak.{accesses_of_each}, Marks.{numbered}}
+use Rattle.shadow_marks.specs.{declared.planes.Planes.{Planes}, Standing.{StandFor}}
 use Rattle.private_copy.specs.Visits.{visits_of}
-use Rattle.loop_core_block.specs.Blocks.{BlockOf}
-use Rattle.loop_core_block.specs.Ran.{RecordsRun}
-use Rattle.loop_core_witness.specs.declared.survey.Stretch.{Stretch}
-use Rattle.loop_core_witness.specs.Surveys.{IsStretch}
+use Rattle.loop_core_block.specs.{Blocks.{BlockOf}, Ran.{RecordsRun}}
+use Rattle.loop_core_witness.specs.{declared.survey.Stretch.{Stretch}, Surveys.{IsStretch}}
 
 none_there : (o : Option ℕ) → is_some o ≡ false → o ≡ None
 none_there None h = refl
@@ -26,8 +20,8 @@ pub is_stretch : (test : Test) (program : Program) (call : LoopCall) (words : Li
     → stretch.planes ≡ b.planes → IsStretch program call words stretch
 is_stretch test program call words b stretch records whole first past planes = record {
   ran = records.ran;
-  told = ap (λ (f : ℕ). block_run program 4096 call words f stretch.past) first
-      ∙ ap (block_run program 4096 call words b.first) past ∙ records.told;
+  ended = ap (λ (f : ℕ). block_run program 4096 call words f stretch.past) first
+      ∙ ap (block_run program 4096 call words b.first) past ∙ records.ended;
   unbroken = ap (λ (f : ℕ). break_from f records.ran) first ∙ sym records.broke ∙ none_there b.broke whole;
   elements = ap (λ (p : Planes). p.elements) planes ∙ records.elements;
   planes = subst (λ (f : ℕ). StandFor stretch.planes (λ e. numbered f (at_element e (accesses_of_each records.ran))))

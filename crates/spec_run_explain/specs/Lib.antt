@@ -1,4 +1,4 @@
-pub mod Told
+pub mod Conflicting
 pub mod Showing
 pub mod Causes
 pub mod Programs

@@ -2,13 +2,10 @@
 use Rattle.std.specs.Prelude.{◌≡◌, ℕ, Bool, true, false, List, Option, Some, None, option_map, slice_get}
 use Rattle.bpf_insn_types.specs.Program.{Program}
 use Rattle.bpf_step_model.specs.State.{LoopCall}
-use Rattle.loop_core_grid.specs.declared.focus.Focus.{Focus}
-use Rattle.loop_core_grid.specs.declared.grid.Grid.{Grid}
-use Rattle.loop_core_grid.specs.Grids.{IsGrid}
-use Rattle.loop_core_model.specs.declared.verdict.Verdict.{Verdict}
-use Rattle.loop_core_model.specs.declared.verdict.Verdict.TheVariants.{Parallel, Conflict, Refused, InOrder}
+use Rattle.loop_core_witness.specs.{declared.{focus.Focus.{Focus}, grid.Grid.{Grid}}, Grids.{IsGrid}}
+use Rattle.loop_core_witness.specs.declared.explained.Cause.{Cause}
+use Rattle.loop_core_model.specs.declared.verdict.Verdict.{Verdict, TheVariants.{Parallel, Conflict, Refused, InOrder}}
 use Rattle.loop_core_model.specs.LeastBreak.{counted}
-use Rattle.spec_run_explain.specs.declared.explained.Cause.{Cause}
 
 -- whether a loop conflicts
 abbrev pub is_conflict : Verdict → Bool

@@ -1,16 +1,12 @@
 //! Explaining a loop call.
 
-ghost use Rattle.std.specs.Prelude.{◌≡◌, Some, IfOk};
-ghost use Rattle.std.specs.List.{All};
+ghost use Rattle.std.specs.{Prelude.{◌≡◌, Some, IfOk}, List.{All}};
 ghost use Rattle.bpf_verify_sound.specs.Soundness.{OverApproximatesCall};
-ghost use Rattle.loop_core_witness.specs.Breaks.{IsBreak};
-ghost use Rattle.loop_core_witness.specs.Reductions.{TellsEnd};
-ghost use Rattle.loop_core_witness.specs.Surveys.{IsSurvey};
+ghost use Rattle.loop_core_witness.specs.{Breaks.{IsBreak}, Reductions.{HasEnd}, Surveys.{IsSurvey}};
 ghost use Rattle.loop_core_witness.specs.Witnesses.{Explains};
 ghost use Rattle.spec_run_explain.specs.Causes.{AreCauses, FailsAt, IsExplained, cause_elements, job_by};
-ghost use Rattle.spec_run_loop.specs.Courses.{IsCourseOf};
+ghost use Rattle.spec_run_loop.specs.Strategies.{IsStrategyUsed};
 
-use crate::explained::{Cause, LoopExplained};
 use crate::finding::find_conflicts;
 use crate::showing::{grid_if, is_shown};
 use crate::surveying::survey_loop;
@@ -19,8 +15,10 @@ use bpf_step::LoopCall;
 use bpf_verify::Verified;
 use loop_core_model::{LoopReport, Test};
 use loop_core_split::{Plan, Policy};
-use loop_core_witness::{Place, Survey, find_break, find_end_of_reduction, find_pair};
-use spec_run_loop::{Course, LoopJob, course_of};
+use loop_core_witness::{
+    Cause, LoopExplained, Place, Survey, find_break, find_end_of_reduction, find_pair,
+};
+use spec_run_loop::{LoopJob, Strategy, predict_strategy};
 use std::alloc::{AllocError, Global};
 
 /// The cause of an element at which the loop fails the test.
@@ -43,7 +41,7 @@ fn cause_of(
     ensures element { IfOk result (λ cause. cause.element ≡ element) }
     ensures pair { IfOk result (λ cause.
         Explains test program.now call.now start.now.words cause.element (Some cause.witness)) }
-    ensures end { IfOk result (λ cause. TellsEnd program.now call.now start.now.words cause.element cause.end) }
+    ensures end { IfOk result (λ cause. HasEnd program.now call.now start.now.words cause.element cause.end) }
 {
     let end = find_end_of_reduction(alloc, program, call, start, element, broke, survey)?;
     match find_pair(alloc, program, call, start, test, element, broke, survey)? {
@@ -90,10 +88,10 @@ fn default_course(
     call: &LoopCall,
     start: &Maps,
     test: Test,
-) -> Result<Course, AllocError>
+) -> Result<Strategy, AllocError>
     requires known { OverApproximatesCall program.now call.now }
     requires sizes { start.now.sizes ≡ program.now.sizes }
-    ensures { IfOk result (IsCourseOf (job_by test program.now call.now) start.now.words) }
+    ensures { IfOk result (IsStrategyUsed (job_by test program.now call.now) start.now.words) }
 {
     let plan = Plan {
         workers: 2,
@@ -107,7 +105,7 @@ fn default_course(
         call,
         plan: &plan,
     };
-    course_of(&job, start)
+    predict_strategy(&job, start)
 }
 
 /// Explains a loop call that main of this program made: from these maps, which are of the program's sizes, and where it
@@ -141,7 +139,7 @@ pub(crate) fn explain_call(
     )?;
     let shown = is_shown(wants_grid, conflicts.verdict);
     let grid = grid_if(shown, alloc, program, call, start, broke, causes.as_slice())?;
-    let course = default_course(alloc, program, call, start, test)?;
+    let strategy = default_course(alloc, program, call, start, test)?;
     let line = LoopReport {
         slot: call.slot(),
         answer: i64::from(answer),
@@ -152,7 +150,7 @@ pub(crate) fn explain_call(
         iterations: call.n(),
         flags: 0,
         broke,
-        course: Some(course),
+        strategy: Some(strategy),
         causes,
         grid,
     })

@@ -2,19 +2,17 @@
 
 ghost use Rattle.std.specs.Prelude.{◌≡◌, [], None, IfOk};
 ghost use Rattle.loop_core_model.specs.declared.verdict.Verdict.TheVariants.{Refused as WasRefused};
-ghost use Rattle.spec_run_explain.specs.Causes.{still_wants};
-ghost use Rattle.spec_run_explain.specs.Programs.{IsProgramExplained};
+ghost use Rattle.spec_run_explain.specs.{Causes.{still_wants}, Programs.{IsProgramExplained}};
 
 use crate::call::explain_call;
-use crate::explained::{Explained, LoopExplained};
 use array_maps::Maps;
 use bpf_step::LoopCall;
 use bpf_step_model::RefusedCall;
 use bpf_verify::Verified;
 use loop_core_model::{LoopReport, Test, Verdict};
 use loop_core_sequential::in_order;
-use spec_run::Report;
-use spec_run_main::{LoopRunner, run_main};
+use loop_core_witness::{Explained, LoopExplained};
+use spec_run_main::{LoopRunner, Report, run_main};
 use std::alloc::{AllocError, Global};
 
 /// The explanation of a call that was refused.
@@ -23,7 +21,7 @@ fn refused(alloc: Global, slot: u32, call: RefusedCall) -> LoopExplained
     ensures iterations { result.iterations ≡ call.iterations }
     ensures flags { result.flags ≡ call.flags }
     ensures broke { result.broke ≡ None }
-    ensures course { result.course ≡ None }
+    ensures strategy { result.strategy ≡ None }
     ensures causes { result.causes.items ≡ [] }
     ensures grid { result.grid ≡ None }
 {
@@ -36,17 +34,17 @@ fn refused(alloc: Global, slot: u32, call: RefusedCall) -> LoopExplained
         iterations: call.iterations,
         flags: call.flags,
         broke: None,
-        course: None,
+        strategy: None,
         causes: Vec::new(alloc),
         grid: None,
     }
 }
 
 /// Whether a grid is wanted after a loop call that is explained so.
-fn still_wants(wants_grid: bool, told: &LoopExplained) -> bool
-    ensures { result ≡ still_wants wants_grid told.now.grid }
+fn still_wants(wants_grid: bool, explained: &LoopExplained) -> bool
+    ensures { result ≡ still_wants wants_grid explained.now.grid }
 {
-    match &told.grid {
+    match &explained.grid {
         Some(_) => false,
         None => wants_grid,
     }
@@ -66,14 +64,13 @@ struct Explainer {
 }
 
 impl LoopRunner for Explainer {
-    ghost use Rattle.spec_run_explain.specs.Causes.{wants_after};
-    ghost use Rattle.spec_run_explain.specs.Programs.{AreToldSoFar};
+    ghost use Rattle.spec_run_explain.specs.{Causes.{wants_after}, Programs.{AreExplainedSoFar}};
 
     type Stop = AllocError;
 
-    ghost tells = { λ program first calls now. (now.test ≡ first.test) × (now.most ≡ first.most)
+    ghost records = { λ program first calls now. (now.test ≡ first.test) × (now.most ≡ first.most)
         × (now.wants_grid ≡ wants_after first.wants_grid now.loops.items)
-        × AreToldSoFar now.test program now.most first.wants_grid calls now.lines.items now.loops.items };
+        × AreExplainedSoFar now.test program now.most first.wants_grid calls now.lines.items now.loops.items };
 
     ghost room = { λ _. 4096 };
 
@@ -85,7 +82,7 @@ impl LoopRunner for Explainer {
     ) -> Result<u32, AllocError> {
         let start = maps.try_copy(self.alloc)?;
         let answer = in_order(program, call, maps);
-        let told = explain_call(
+        let explained = explain_call(
             self.alloc,
             program,
             call,
@@ -95,16 +92,16 @@ impl LoopRunner for Explainer {
             self.wants_grid,
             answer,
         )?;
-        self.wants_grid = still_wants(self.wants_grid, &told);
-        self.lines.push(told.line)?;
-        self.loops.push(told)?;
+        self.wants_grid = still_wants(self.wants_grid, &explained);
+        self.lines.push(explained.line)?;
+        self.loops.push(explained)?;
         Ok(answer)
     }
 
     fn note_refusal(&mut self, slot: u32, call: RefusedCall) -> Result<(), AllocError> {
-        let told = refused(self.alloc, slot, call);
-        self.lines.push(told.line)?;
-        self.loops.push(told)?;
+        let explained = refused(self.alloc, slot, call);
+        self.lines.push(explained.line)?;
+        self.loops.push(explained)?;
         Ok(())
     }
 }

@@ -3,7 +3,7 @@
 ghost use Rattle.std.specs.Prelude.{◌≡◌, None, IfOk};
 ghost use Rattle.bpf_verify_sound.specs.Soundness.{OverApproximatesCall};
 ghost use Rattle.loop_core_model.specs.Split.{even_bounds};
-ghost use Rattle.spec_run_explain.specs.Told.{AreConflicts};
+ghost use Rattle.spec_run_explain.specs.Conflicting.{AreConflicts};
 
 use crate::conflicts::Conflicts;
 use crate::listing::least_elements;

@@ -11,11 +11,10 @@
 mod call;
 mod conflicts;
 mod driver;
-mod explained;
 mod finding;
 mod listing;
 mod showing;
 mod surveying;
 
 pub use driver::explain_loops;
-pub use explained::{Cause, Explained, LoopExplained};
+pub use loop_core_witness::{Cause, Explained, LoopExplained};

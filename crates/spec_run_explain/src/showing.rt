@@ -3,17 +3,14 @@
 ghost use Rattle.std.specs.Prelude.{◌≡◌, ◌<◌, ◌&&◌, Some, IfOk};
 ghost use Rattle.bpf_verify_sound.specs.Soundness.{OverApproximatesCall};
 ghost use Rattle.loop_core_model.specs.LeastBreak.{count_to};
-ghost use Rattle.loop_core_witness.specs.declared.place.Place.{Place as At};
-ghost use Rattle.loop_core_witness.specs.Breaks.{IsBreak, index_of};
+ghost use Rattle.loop_core_witness.specs.{declared.place.Place.{Place as At}, Breaks.{IsBreak, index_of}};
 ghost use Rattle.spec_run_explain.specs.Showing.{first_pair, is_conflict, Shows};
 
-use crate::explained::Cause;
 use array_maps::Maps;
 use bpf_step::LoopCall;
 use bpf_verify::Verified;
-use loop_core_grid::{Focus, Grid, grid_of_loop};
 use loop_core_model::Verdict;
-use loop_core_witness::Place;
+use loop_core_witness::{Cause, Focus, Grid, Place, grid_of_loop};
 use std::alloc::{AllocError, Global};
 
 /// Whether a loop conflicts.

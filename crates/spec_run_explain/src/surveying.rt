@@ -18,7 +18,7 @@ use std::alloc::{AllocError, Global};
 const MOST_STRETCHES: u32 = 512;
 
 /// The fewest iterations of a stretch, but for the last one: each stretch keeps marks of its own.
-const FEWEST: u32 = 256;
+const MIN_BATCHED_ITERATIONS: u32 = 256;
 
 /// The stretch of the iterations from an index up to, and not with, another, if the call has them and none of them
 /// breaks the loop.
@@ -32,7 +32,7 @@ fn stretch_of(
 ) -> Result<Option<Stretch>, AllocError>
     requires known { OverApproximatesCall program.now call.now }
     requires sizes { start.now.sizes ≡ program.now.sizes }
-    ensures { IfOk result (λ told. IfSome told (IsStretch program.now call.now start.now.words)) }
+    ensures { IfOk result (λ stretch. IfSome stretch (IsStretch program.now call.now start.now.words)) }
 {
     let n = call.n();
     let mut bounds = Vec::new(alloc);
@@ -73,7 +73,7 @@ pub fn survey_loop(
     } else {
         conflicts.broke.unwrap_or(call.n())
     };
-    let size = FEWEST.max(past / MOST_STRETCHES + 1);
+    let size = MIN_BATCHED_ITERATIONS.max(past / MOST_STRETCHES + 1);
     let mut stretches = Vec::new(alloc);
     let mut first = 0;
     while first < past {

@@ -1,7 +1,6 @@
 -- A loop that is split evenly.
 use Rattle.std.proofs.Common.{◌≡◌, ℕ, ◌<◌, ◌≤◌, None, arith}
-use Rattle.loop_core_model.specs.Split.{split_fault, even_bounds}
-use Rattle.loop_core_model.proofs.EvenSplitLaws.{even_is_split}
+use Rattle.loop_core_model.{specs.Split.{split_fault, even_bounds}, proofs.EvenSplitLaws.{even_is_split}}
 
 -- each loop can be split evenly into 1 to 64 blocks
 pub even_is : (n blocks : ℕ) → 0 < blocks → blocks ≤ 64 → split_fault (even_bounds n blocks) n ≡ None

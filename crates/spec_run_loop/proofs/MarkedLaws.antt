@@ -1,16 +1,11 @@
 -- Verdicts on loops by marks of their iterations.
 use Rattle.std.proofs.Common.{◌≡◌, ℕ, List, length, sym, ◌∙◌, ap}
 use Rattle.bpf_insn_types.specs.Program.{Program}
-use Rattle.bpf_step_model.specs.State.{LoopCall}
-use Rattle.bpf_step_model.specs.Run.{Ended}
-use Rattle.loop_core_model.specs.declared.loop_test.Test.{Test}
-use Rattle.loop_core_model.specs.declared.verdict.Verdict.{Verdict}
-use Rattle.loop_core_model.specs.Report.{judged, verdict}
-use Rattle.shadow_marks.specs.declared.planes.Planes.{Planes}
-use Rattle.shadow_marks.specs.Standing.{test_of}
+use Rattle.bpf_step_model.specs.{State.{LoopCall}, Run.{Ended}}
+use Rattle.loop_core_model.specs.{declared.{loop_test.Test.{Test}, verdict.Verdict.{Verdict}}, Report.{judged, verdict}}
+use Rattle.shadow_marks.specs.{declared.planes.Planes.{Planes}, Standing.{test_of}}
 use Rattle.lane_planes.specs.Merged.{StandForSome}
-use Rattle.loop_marks.specs.LaneMarks.{IsMarkedVerdict}
-use Rattle.loop_marks.specs.MarkedVerdicts.{marked_elements, visits_below}
+use Rattle.loop_marks.specs.{LaneMarks.{IsMarkedVerdict}, MarkedVerdicts.{marked_elements, visits_below}}
 use Rattle.loop_core_sequential.specs.Marked.{HaveVerdict}
 
 -- planes that have the verdict on a loop have marks

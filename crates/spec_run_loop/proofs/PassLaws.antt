@@ -1,28 +1,21 @@
 -- Loops that pass.
-use Rattle.std.proofs.Common.{◌≡◌, ℕ, length, subst, sym, ◌∙◌, ap}
-use Rattle.std.specs.List.{sum}
+use Rattle.std.{proofs.Common.{◌≡◌, ℕ, length, subst, sym, ◌∙◌, ap}, specs.List.{sum}}
 use Rattle.array_maps.specs.MapList.{MapList, AreWords}
 use Rattle.bpf_insn_types.specs.Program.{Program}
-use Rattle.bpf_step_model.specs.State.{LoopCall}
-use Rattle.bpf_step_model.specs.Run.{BoundedResult, followed}
-use Rattle.bpf_step_model.specs.LoopInOrder.{Looped}
-use Rattle.loop_core_model.specs.declared.loop_test.Test.TheVariants.{Flow}
-use Rattle.loop_core_model.specs.declared.verdict.Verdict.{Verdict}
-use Rattle.loop_core_model.specs.declared.verdict.Verdict.TheVariants.{Parallel}
-use Rattle.loop_core_model.specs.Report.{verdict}
+use Rattle.bpf_step_model.specs.{State.{LoopCall}, Run.{BoundedResult, followed}, LoopInOrder.{Looped}}
+use Rattle.loop_core_model.specs.declared.{loop_test.Test.TheVariants.{Flow}, verdict.Verdict.{Verdict}}
+use Rattle.loop_core_model.specs.{declared.verdict.Verdict.TheVariants.{Parallel}, Report.{verdict}}
 use Rattle.loop_core_model.specs.Outcome.{judged_as}
-use Rattle.loop_core_independent.specs.Independent.{AlwaysPasses}
-use Rattle.loop_core_sequential.specs.Loops.{RanLoopInOrder}
-use Rattle.loop_core_sequential.specs.Watched.{RanAndPasses}
+use Rattle.spec_run_loop.specs.{Independent.{AlwaysPasses}, declared.decision.LoopAnswer.{LoopAnswer}}
+use Rattle.loop_core_sequential.specs.{Loops.{RanLoopInOrder}, Watched.{RanAndPasses}}
 use Rattle.loop_core_gather.specs.Gathered.{IsOutcome}
-use Rattle.spec_run_loop.specs.declared.course.Course.{Course}
-use Rattle.spec_run_loop.specs.declared.decision.LoopAnswer.{LoopAnswer}
+use Rattle.loop_core_split.specs.declared.strategy.Strategy.{Strategy}
 
 -- a loop that ran in order and passes by the flow test has this outcome
-pub passed_in_order : (program : Program) (call : LoopCall) (start left : MapList) (answer : ℕ) (course : Course)
-    (told : LoopAnswer) → told ≡ record { verdict = Parallel; answer = answer; course = course }
+pub passed_in_order : (program : Program) (call : LoopCall) (start left : MapList) (answer : ℕ) (strategy : Strategy)
+    (told : LoopAnswer) → told ≡ record { verdict = Parallel; answer = answer; strategy = strategy }
     → RanAndPasses program call start left answer → IsOutcome Flow program call start told.verdict told.answer left
-passed_in_order program call start left answer course told told_is is =
+passed_in_order program call start left answer strategy told told_is is =
     let looped : Looped = record { answer = answer; words = left.words } in
     subst (λ (a : LoopAnswer). IsOutcome Flow program call start a.verdict a.answer left) (sym told_is) (record {
       outcome_is = ap (followed (judged_as (verdict Flow program 4096 call start.words))) is.ran.told

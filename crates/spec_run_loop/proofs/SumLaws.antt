@@ -1,31 +1,24 @@
 -- Loops that add up.
-use Rattle.std.proofs.Common.{◌≡◌, ℕ, length, Result, Ok, Err, IfOk, sym, ◌∙◌, ap, subst}
-use Rattle.std.specs.List.{sum}
+use Rattle.std.{proofs.Common.{◌≡◌, ℕ, length, Result, Ok, Err, IfOk, sym, ◌∙◌, ap, subst}, specs.List.{sum}}
 use Rattle.array_maps.specs.MapList.{MapList, AreWords}
 use Rattle.bpf_insn_types.specs.Program.{Program}
-use Rattle.bpf_step_model.specs.State.{LoopCall}
-use Rattle.bpf_step_model.specs.Run.{BoundedResult, Ended, followed}
-use Rattle.bpf_step_model.specs.LoopInOrder.{Looped}
+use Rattle.bpf_step_model.specs.{State.{LoopCall}, Run.{BoundedResult, Ended, followed}, LoopInOrder.{Looped}}
 use Rattle.bpf_verify_sound.specs.Soundness.{AreMapWords}
-use Rattle.loop_core_model.specs.declared.loop_test.Test.{Test}
-use Rattle.loop_core_model.specs.declared.verdict.Verdict.{Verdict}
-use Rattle.loop_core_model.specs.declared.verdict.Verdict.TheVariants.{Parallel}
-use Rattle.loop_core_model.specs.Report.{verdict}
-use Rattle.loop_core_model.specs.Outcome.{judged_as}
+use Rattle.loop_core_model.specs.declared.{loop_test.Test.{Test}, verdict.Verdict.{Verdict, TheVariants.{Parallel}}}
+use Rattle.loop_core_model.specs.{Report.{verdict}, Outcome.{judged_as}}
 use Rattle.loop_core_sequential.specs.Loops.{RanLoopInOrder}
-use Rattle.loop_core_sums.specs.SumLoops.{SumLoopOf, AlwaysPasses}
+use Rattle.spec_run_loop.specs.{SumLoops.{SumLoopOf, AlwaysPasses}, declared.decision.LoopAnswer.{LoopAnswer}}
 use Rattle.loop_core_gather.specs.Gathered.{IsOutcome}
-use Rattle.spec_run_loop.specs.declared.course.Course.{Course}
-use Rattle.spec_run_loop.specs.declared.decision.LoopAnswer.{LoopAnswer}
+use Rattle.loop_core_split.specs.declared.strategy.Strategy.{Strategy}
 
 -- a loop that adds up, and what was done in order, is its outcome
-pub passed_so : (l : SumLoopOf) (start left : MapList) (answer : ℕ) (course : Course) (told : LoopAnswer)
+pub passed_so : (l : SumLoopOf) (start left : MapList) (answer : ℕ) (strategy : Strategy) (told : LoopAnswer)
     → AlwaysPasses l
     → length start.words ≡ sum start.sizes → start.sizes ≡ l.program.sizes → AreWords start.words
-    → told ≡ record { verdict = Parallel; answer = answer; course = course }
+    → told ≡ record { verdict = Parallel; answer = answer; strategy = strategy }
     → RanLoopInOrder l.program l.call start left answer
     → (test : Test) → IsOutcome test l.program l.call start told.verdict told.answer left
-passed_so l start left answer course told passes count sizes fit told_is ran test =
+passed_so l start left answer strategy told passes count sizes fit told_is ran test =
     let looped : Looped = record { answer = answer; words = left.words } in
     let known : AreMapWords l.program start.words = record { count = count ∙ ap sum sizes; fit = fit } in
     let judged : verdict test l.program 4096 l.call start.words ≡ Ended Parallel = passes test start.words known in

@@ -1,7 +1,6 @@
 -- The outcome of a loop, by its gathered blocks.
 use Rattle.loop_core_block.specs.Loops.{LoopOf}
-use Rattle.loop_core_gather.specs.Gathered.{HasOutcome}
-use Rattle.loop_core_gather.specs.Held.{GatheredOf}
+use Rattle.loop_core_gather.specs.{Gathered.{HasOutcome}, Held.{GatheredOf}}
 
 -- its verdict; and where it passes, its answer and its words
 abbrev pub HasOutcomeOf : LoopOf → GatheredOf → Type 0

@@ -2,8 +2,7 @@
 use Rattle.bpf_insn_types.specs.Program.{Program}
 use Rattle.bpf_step_model.specs.State.{LoopCall}
 use Rattle.bpf_verify_sound.specs.Soundness.{OverApproximatesCall}
-use Rattle.loop_core_split.specs.declared.plan.Plan.{Plan}
-use Rattle.loop_core_split.specs.Plans.{IsPlan}
+use Rattle.loop_core_split.specs.{declared.plan.Plan.{Plan}, Plans.{IsPlan}}
 
 -- a program, a loop call and a plan
 pub record JobOf : Type 0 where

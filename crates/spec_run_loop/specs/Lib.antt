@@ -1,6 +1,12 @@
+pub mod Independent
+pub mod SumOps
+pub mod SumLaw
+pub mod SumLoops
+pub mod Rounds
+pub mod Sums
 pub mod Plans
 pub mod Jobs
-pub mod Paying
-pub mod Ways
-pub mod Courses
+pub mod Costs
+pub mod StrategyPlans
+pub mod Strategies
 pub mod Decisions

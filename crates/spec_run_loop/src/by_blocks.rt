@@ -2,23 +2,19 @@
 
 ghost use Rattle.std.specs.Prelude.{◌≡◌, ◌<◌, ◌≤◌, All, map, IfOk, OnErr};
 ghost use Rattle.loop_core_model.specs.Intervals.{blocks_of};
-ghost use Rattle.loop_core_block.specs.LoopBlocks.{RecordsRunOf};
-ghost use Rattle.loop_core_block.specs.Shown.{shown};
-ghost use Rattle.loop_core_gather.specs.Decisions.{IsDecision};
-ghost use Rattle.loop_core_gather.specs.Gathered.{IsOutcome};
-ghost use Rattle.loop_core_gather.specs.Pages.{AreLeft};
-ghost use Rattle.spec_run_loop.specs.Courses.{course_by};
-ghost use Rattle.spec_run_loop.specs.Decisions.{HasOutcomeOf};
-ghost use Rattle.spec_run_loop.specs.Ways.{IsBlockPlan, IsCrewFor};
+ghost use Rattle.loop_core_block.specs.{LoopBlocks.{RecordsRunOf}, Shown.{shown}};
+ghost use Rattle.loop_core_gather.specs.{Decisions.{IsDecision}, Gathered.{IsOutcome}, Pages.{AreLeft}};
+ghost use Rattle.spec_run_loop.specs.{Strategies.{strategy_by}, Decisions.{HasOutcomeOf}};
+ghost use Rattle.spec_run_loop.specs.StrategyPlans.{IsBlockPlan, IsCrewFor};
 ghost use Rattle.spec_run_workers.specs.Workers.{AreFaultless};
 
 use crate::decision::LoopAnswer;
 use crate::job::LoopJob;
-use crate::way::{BlockPlan, Crew};
+use crate::strategy::{BlockPlan, Executor};
 use array_maps::Maps;
 use loop_board::Board;
 use loop_core_block::{Block, SpeculativeLoop};
-use loop_core_gather::{CarriedOut, Decision, GatherError, Gathered, LeftPage, gather};
+use loop_core_gather::{Decision, GatherError, Gathered, LeftPage, LoopResult, gather};
 use loop_core_model::Verdict;
 use loop_core_split::Gate;
 use spec_run_workers::{Workspace, law_of_workers, run_alone, run_workers};
@@ -83,16 +79,16 @@ fn speculate_by_workers<'a, R: Threads + Sync, G: Gate>(
 fn speculate<'a, R: Threads + Sync, G: Gate>(
     rt: &R,
     of: &SpeculativeLoop<'_, 'a>,
-    crew: Crew,
+    executor: Executor,
     workspace: &mut Workspace,
     gate: &G,
 ) -> Result<Gathered<'a>, AllocError>
-    requires { IsCrewFor of.now.bounds crew }
+    requires { IsCrewFor of.now.bounds executor }
     ensures { IfOk result (HasOutcomeOf of.now) }
 {
-    match crew {
-        Crew::Caller => speculate_alone(of, workspace, gate),
-        Crew::Workers(workers) => speculate_by_workers(rt, of, workers, gate),
+    match executor {
+        Executor::Caller => speculate_alone(of, workspace, gate),
+        Executor::Workers(workers) => speculate_by_workers(rt, of, workers, gate),
     }
 }
 
@@ -100,14 +96,14 @@ fn speculate<'a, R: Threads + Sync, G: Gate>(
 fn left_pages<R: Threads + Sync>(
     rt: &R,
     of: &SpeculativeLoop,
-    crew: Crew,
+    executor: Executor,
     gathered: &Gathered,
 ) -> Result<Vec<LeftPage>, AllocError>
     ensures { IfOk result (λ pages. AreLeft gathered.now.start gathered.now.words pages.items) }
 {
-    match crew {
-        Crew::Caller | Crew::Workers(1) => gathered.left_pages(of.alloc),
-        Crew::Workers(_) => gathered.left_pages_in_threads(rt, of.alloc),
+    match executor {
+        Executor::Caller | Executor::Workers(1) => gathered.left_pages(of.alloc),
+        Executor::Workers(_) => gathered.left_pages_in_threads(rt, of.alloc),
     }
 }
 
@@ -116,7 +112,7 @@ fn left_pages<R: Threads + Sync>(
 fn decision_by<R: Threads + Sync>(
     rt: &R,
     of: &SpeculativeLoop,
-    crew: Crew,
+    executor: Executor,
     gathered: &Gathered,
 ) -> Result<Decision, AllocError>
     requires { HasOutcomeOf of.now gathered.now }
@@ -125,7 +121,7 @@ fn decision_by<R: Threads + Sync>(
     match gathered.verdict() {
         Verdict::Parallel => Ok(Decision::Commit {
             answer: gathered.answer(),
-            pages: left_pages(rt, of, crew, gathered)?,
+            pages: left_pages(rt, of, executor, gathered)?,
         }),
         verdict => Ok(Decision::Discard { verdict }),
     }
@@ -135,15 +131,15 @@ fn decision_by<R: Threads + Sync>(
 pub(crate) fn decided<R: Threads + Sync, G: Gate>(
     rt: &R,
     of: &SpeculativeLoop,
-    crew: Crew,
+    executor: Executor,
     workspace: &mut Workspace,
     gate: &G,
 ) -> Result<Decision, AllocError>
-    requires { IsCrewFor of.now.bounds crew }
+    requires { IsCrewFor of.now.bounds executor }
     ensures { IfOk result (IsDecision of.now.test of.now.program of.now.call of.now.start.words) }
 {
-    let gathered = speculate(rt, of, crew, workspace, gate)?;
-    let decision = decision_by(rt, of, crew, &gathered)?;
+    let gathered = speculate(rt, of, executor, workspace, gate)?;
+    let decision = decision_by(rt, of, executor, &gathered)?;
     if let Some(free) = gathered.into_workspace() {
         workspace.keep(free);
     }
@@ -172,7 +168,7 @@ pub(crate) fn decision_on<R: Threads + Sync, G: Gate>(
         split: &blocks.split,
         test: job.plan.test,
     };
-    decided(rt, &of, blocks.crew, workspace, gate)
+    decided(rt, &of, blocks.executor, workspace, gate)
 }
 
 /// Runs a loop call by blocks on these maps, which are of the program's sizes.
@@ -188,19 +184,14 @@ pub(crate) fn run_by_blocks<R: Threads + Sync, G: Gate>(
     requires plan { IsBlockPlan job.now.call.n blocks.now }
     ensures outcome { IfOk result (λ a. IsOutcome job.now.plan.test job.now.program job.now.call maps.old a.verdict
         a.answer maps.new) }
-    ensures course { IfOk result (λ a. a.course ≡ course_by blocks.now) }
+    ensures strategy { IfOk result (λ a. a.strategy ≡ strategy_by blocks.now) }
     ensures kept { OnErr result (maps.new ≡ maps.old) }
 {
     let decision = decision_on(rt, job, blocks, maps, workspace, gate)?;
-    let CarriedOut { verdict, answer } = decision.carry_out(
-        job.program,
-        job.call,
-        maps,
-        job.plan.test,
-    );
+    let LoopResult { verdict, answer } = decision.apply(job.program, job.call, maps, job.plan.test);
     Ok(LoopAnswer {
         verdict,
         answer,
-        course: blocks.course(),
+        strategy: blocks.strategy(),
     })
 }

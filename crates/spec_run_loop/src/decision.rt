@@ -2,15 +2,14 @@
 
 ghost use Rattle.std.specs.Prelude.{◌≡◌};
 ghost use Rattle.loop_core_sequential.specs.Dependences.{IsAhead};
-ghost use Rattle.loop_core_gather.specs.Decisions.{IsDecision};
-ghost use Rattle.loop_core_gather.specs.Gathered.{IsOutcome};
+ghost use Rattle.loop_core_gather.specs.{Decisions.{IsDecision}, Gathered.{IsOutcome}};
 
-use crate::course::Course;
 use crate::job::LoopJob;
 use array_maps::Maps;
-use loop_core_gather::{CarriedOut, Decision};
+use loop_core_gather::{Decision, LoopResult};
 use loop_core_model::Verdict;
-use loop_core_sequential::{Progress, go_on_in_order};
+use loop_core_sequential::{Progress, resume_in_order};
+use loop_core_split::Strategy;
 use loop_core_undo::UndoLog;
 
 /// The verdict on a loop, what its call answers, which is how many iterations ran in order, or would have, and which
@@ -19,20 +18,20 @@ use loop_core_undo::UndoLog;
 pub struct LoopAnswer {
     pub verdict: Verdict,
     pub answer: u32,
-    pub course: Course,
+    pub strategy: Strategy,
 }
 
 impl LoopAnswer {
     ghost use Rattle.loop_core_model.specs.declared.verdict.Verdict.TheVariants as verdicts;
 
     /// The answer on a loop that passes.
-    pub(crate) fn passed(answer: u32, course: Course) -> LoopAnswer
-        ensures { result ≡ record { verdict = verdicts.Parallel; answer = answer; course = course } }
+    pub(crate) fn passed(answer: u32, strategy: Strategy) -> LoopAnswer
+        ensures { result ≡ record { verdict = verdicts.Parallel; answer = answer; strategy = strategy } }
     {
         LoopAnswer {
             verdict: Verdict::Parallel,
             answer,
-            course,
+            strategy,
         }
     }
 }
@@ -45,7 +44,7 @@ pub(crate) fn carry_out_from(
     progress: Progress,
     log: &mut UndoLog,
     maps: &mut Maps,
-) -> CarriedOut
+) -> LoopResult
     requires sizes { maps.old.sizes ≡ job.now.program.sizes }
     requires ahead { IsAhead job.now.program job.now.call maps.old log.old progress }
     requires decided { IsDecision job.now.plan.test job.now.program job.now.call maps.old.words decision }
@@ -53,10 +52,10 @@ pub(crate) fn carry_out_from(
         maps.new }
 {
     match decision {
-        Decision::Discard { verdict } => CarriedOut {
+        Decision::Discard { verdict } => LoopResult {
             verdict,
-            answer: go_on_in_order(job.program, job.call, progress, log, maps),
+            answer: resume_in_order(job.program, job.call, progress, log, maps),
         },
-        commit => commit.carry_out(job.program, job.call, maps, job.plan.test),
+        commit => commit.apply(job.program, job.call, maps, job.plan.test),
     }
 }

@@ -4,8 +4,8 @@ ghost use Rattle.std.specs.Prelude.{◌≡◌, IfOk, IfSome};
 ghost use Rattle.bpf_step_model.specs.Run.{Ended};
 ghost use Rattle.loop_core_model.specs.Report.{verdict};
 
+use crate::cost_model::elements_of;
 use crate::job::LoopJob;
-use crate::paying::elements_of;
 use array_maps::Maps;
 use loop_core_model::Verdict;
 use loop_core_sequential::mark_iterations;
@@ -13,7 +13,7 @@ use loop_marks::LoopMarks;
 use std::alloc::AllocError;
 
 /// The fewest iterations of a loop that is judged so: room for marks takes as long to clear as blocks take for fewer.
-const FEWEST: u32 = 2048;
+const MIN_BATCHED_ITERATIONS: u32 = 2048;
 
 /// The verdict on a loop call from these maps, which are of the program's sizes, by marks of its iterations, which run on
 /// them in batches. `None` if it has few iterations, or one returns 1, or they can't be run so.
@@ -25,7 +25,7 @@ pub(crate) fn verdict_by_marks(job: &LoopJob, maps: &Maps) -> Result<Option<Verd
     // For the proof: the maps have as many words as their sizes add up to.
     let _sizes = maps.sizes();
     let _words = maps.words();
-    if job.call.n() < FEWEST {
+    if job.call.n() < MIN_BATCHED_ITERATIONS {
         return Ok(None);
     }
     let mut marks = LoopMarks::try_new(job.alloc, elements_of(maps), job.plan.test)?;

@@ -2,20 +2,18 @@
 
 ghost use Rattle.std.specs.Prelude.{◌≡◌, ◌+◌, ◌<◌, ◌≤◌, All, length, IfOk, OnErr};
 ghost use Rattle.loop_core_model.specs.declared.loop_test.Test.{Test};
-ghost use Rattle.loop_core_sequential.specs.Loops.{RanLoopInOrder};
-ghost use Rattle.loop_core_sequential.specs.Rests.{RanTo};
-ghost use Rattle.loop_core_sums.specs.Rounds.{share_start};
-ghost use Rattle.loop_core_sums.specs.Sums.{IsSumFor, IsSumOf, AreSumsOf};
+ghost use Rattle.loop_core_sequential.specs.{Loops.{RanLoopInOrder}, Rests.{RanTo}};
+ghost use Rattle.spec_run_loop.specs.{Rounds.{share_start}, Sums.{IsSumFor, IsSumOf, AreSumsOf}};
 ghost use Rattle.loop_core_gather.specs.Gathered.{IsOutcome};
-ghost use Rattle.spec_run_loop.specs.declared.course.Course.TheVariants.{Sums};
+ghost use Rattle.loop_core_split.specs.declared.strategy.Strategy.TheVariants.{Sums};
 
-use crate::course::Course;
+use crate::cost_model::elements_of;
 use crate::decision::LoopAnswer;
-use crate::paying::elements_of;
+use crate::{PartialReduction, ReductionLoop, Round};
 use array_maps::Maps;
 use loop_core_block::most_instructions;
 use loop_core_sequential::{in_order, range_in_order};
-use loop_core_sums::{PartialSum, Round, SumLoop};
+use loop_core_split::Strategy;
 use std::alloc::{AllocError, Global};
 use std::thread;
 use std::thread::Threads;
@@ -43,7 +41,7 @@ const SHARE_ITERATIONS: u32 = 2_048;
 pub(crate) fn run_sums<R: Threads + Sync>(
     rt: &R,
     alloc: Global,
-    of: &SumLoop,
+    of: &ReductionLoop,
     maps: &mut Maps,
     workers: u32,
 ) -> Result<LoopAnswer, AllocError>
@@ -52,28 +50,28 @@ pub(crate) fn run_sums<R: Threads + Sync>(
     requires few { workers ≤ 16 }
     ensures outcome { IfOk result (λ a. (test : Test) → IsOutcome test of.now.program of.now.call maps.old a.verdict
         a.answer maps.new) }
-    ensures course { IfOk result (λ a. a.course ≡ Sums workers) }
+    ensures strategy { IfOk result (λ a. a.strategy ≡ Sums workers) }
     ensures kept { OnErr result (maps.new ≡ maps.old) }
 {
     of.law_of_passing();
     // For the proof: the maps have as many words as their sizes add up to, each below 2^64.
     let _sizes = maps.sizes();
     let _words = maps.words();
-    let course = Course::Sums { workers };
+    let strategy = Strategy::Sums { workers };
     if workers == 1 {
         let answer = in_order(of.program, of.call, maps);
-        return Ok(LoopAnswer::passed(answer, course));
+        return Ok(LoopAnswer::passed(answer, strategy));
     }
     let mut sums = of.try_new_sums(alloc, workers)?;
     let elements = elements_of(maps);
     let alone = iterations_of(of, ALONE + ALONE_ELEMENT * elements);
     let share = iterations_of(of, SHARE + SHARE_ELEMENT * elements);
     let answer = in_rounds(rt, of, alone, share, sums.as_mut_slice(), maps);
-    Ok(LoopAnswer::passed(answer, course))
+    Ok(LoopAnswer::passed(answer, strategy))
 }
 
 /// How many iterations of a loop take this many instructions, by their most, to the next multiple of 2,048.
-fn iterations_of(of: &SumLoop, instructions: u32) -> u32
+fn iterations_of(of: &ReductionLoop, instructions: u32) -> u32
     ensures { 0 < result }
 {
     let most = most_instructions(of.program, of.call.callback()).max(1);
@@ -92,10 +90,10 @@ fn next_multiple(iterations: u32) -> u32
 /// which are of this size at first, up to the one in which an iteration breaks off. The maps are of the program's sizes.
 fn in_rounds<R: Threads + Sync>(
     rt: &R,
-    of: &SumLoop,
+    of: &ReductionLoop,
     alone: u32,
     share: u32,
-    sums: &mut [PartialSum],
+    sums: &mut [PartialReduction],
     maps: &mut Maps,
 ) -> u32
     requires alone { 0 < alone }
@@ -122,7 +120,7 @@ fn in_rounds<R: Threads + Sync>(
 
 /// Runs the iterations up to, and not with, an index in order on the maps, which are of the program's sizes, up to the
 /// first that breaks off. Gives the loop's answer where one did.
-fn run_alone(of: &SumLoop, to: u32, maps: &mut Maps) -> Option<u32>
+fn run_alone(of: &ReductionLoop, to: u32, maps: &mut Maps) -> Option<u32>
     requires within { to ≤ of.now.call.n }
     requires sizes { maps.old.sizes ≡ of.now.program.sizes }
     ensures { RanTo of.now.program of.now.call 0 to maps.old maps.new result }
@@ -161,9 +159,9 @@ fn next_round(done: u32, n: u32, share: u32, workers: u32) -> Round
 /// loop's answer where one did. The maps are of the program's sizes.
 fn run_round<R: Threads + Sync>(
     rt: &R,
-    of: &SumLoop,
+    of: &ReductionLoop,
     round: &Round,
-    sums: &mut [PartialSum],
+    sums: &mut [PartialReduction],
     maps: &mut Maps,
 ) -> Option<u32>
     requires within { round.now.to ≤ of.now.call.n }
@@ -180,7 +178,12 @@ fn run_round<R: Threads + Sync>(
 }
 
 /// Adds up the iterations of each share of a round: of several each in a thread of its own where one can be started.
-fn run_shares<R: Threads + Sync>(rt: &R, of: &SumLoop, round: &Round, sums: &mut [PartialSum])
+fn run_shares<R: Threads + Sync>(
+    rt: &R,
+    of: &ReductionLoop,
+    round: &Round,
+    sums: &mut [PartialReduction],
+)
     requires within { round.now.to ≤ of.now.call.n }
     requires few { round.now.shares ≤ 16 }
     requires count { length sums.old ≡ round.now.shares }
@@ -188,7 +191,7 @@ fn run_shares<R: Threads + Sync>(rt: &R, of: &SumLoop, round: &Round, sums: &mut
     ensures sums { AreSumsOf of.now round.now.from round.now.to sums.new }
     ensures fit { All (IsSumFor of.now) sums.new }
 {
-    let one = |share: usize, sum: &mut PartialSum|
+    let one = |share: usize, sum: &mut PartialReduction|
         requires { (round.now.to ≤ of.now.call.n) × (round.now.shares ≤ 16) × (share < round.now.shares)
             × IsSumFor of.now sum.now }
         ensures { IsSumOf of.entry.now (share_start round.entry.now share) (share_start round.entry.now (share + 1))

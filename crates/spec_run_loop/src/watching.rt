@@ -3,23 +3,20 @@
 ghost use Rattle.std.specs.Prelude.{◌≡◌, true, IfOk, OnErr};
 ghost use Rattle.loop_core_model.specs.declared.loop_test.Test.TheVariants as tests;
 ghost use Rattle.loop_core_gather.specs.Gathered.{IsOutcome};
-ghost use Rattle.loop_core_independent.specs.Independent.{AlwaysPasses};
-ghost use Rattle.spec_run_loop.specs.declared.way.BlockPlan.{BlockPlan};
-ghost use Rattle.spec_run_loop.specs.Courses.{IsWatchedCourse};
-ghost use Rattle.spec_run_loop.specs.Ways.{IsBlockPlan};
+ghost use Rattle.spec_run_loop.specs.{Independent.{AlwaysPasses}, declared.strategy.BlockPlan.{BlockPlan}};
+ghost use Rattle.spec_run_loop.specs.{Strategies.{IsWatchedStrategy}, StrategyPlans.{IsBlockPlan}};
 
 use crate::by_blocks::decision_on;
-use crate::course::Course;
+use crate::cost_model::elements_of;
 use crate::decision::{LoopAnswer, carry_out_from};
+use crate::independent::is_independent;
 use crate::job::LoopJob;
 use crate::marking::verdict_by_marks;
-use crate::paying::elements_of;
-use crate::way::BlockPlan;
+use crate::strategy::BlockPlan;
 use array_maps::Maps;
-use loop_core_gather::{CarriedOut, Decision};
-use loop_core_independent::is_independent;
+use loop_core_gather::{Decision, LoopResult};
 use loop_core_sequential::{WatchedLoop, in_order, in_order_watched};
-use loop_core_split::Gate;
+use loop_core_split::{Gate, Strategy};
 use spec_run_workers::Workspace;
 use std::alloc::AllocError;
 use std::thread::Threads;
@@ -53,7 +50,7 @@ pub(crate) fn run_watched<R: Threads + Sync, G: Gate>(
     requires plan { IsBlockPlan job.now.call.n otherwise.now }
     ensures outcome { IfOk result (λ a. IsOutcome job.now.plan.test job.now.program job.now.call maps.old a.verdict
         a.answer maps.new) }
-    ensures course { IfOk result (λ a. IsWatchedCourse job.now maps.old.words otherwise.now a.course) }
+    ensures strategy { IfOk result (λ a. IsWatchedStrategy job.now maps.old.words otherwise.now a.strategy) }
     ensures kept { OnErr result (maps.new ≡ maps.old) }
 {
     if never_conflicts(job)? {
@@ -69,13 +66,13 @@ pub(crate) fn run_independent(job: &LoopJob, maps: &mut Maps) -> LoopAnswer
     requires passes { AlwaysPasses job.now.program job.now.call }
     ensures outcome { IsOutcome tests.Flow job.now.program job.now.call maps.old result.verdict result.answer
         maps.new }
-    ensures course { (otherwise : BlockPlan) → IsWatchedCourse job.now maps.old.words otherwise result.course }
+    ensures strategy { (otherwise : BlockPlan) → IsWatchedStrategy job.now maps.old.words otherwise result.strategy }
 {
     // These tell the proof how many words the maps have, and that they are below 2^64.
     let _sizes = maps.sizes();
     let _words = maps.words();
     let answer = in_order(job.program, job.call, maps);
-    LoopAnswer::passed(answer, Course::Watched)
+    LoopAnswer::passed(answer, Strategy::Watched)
 }
 
 /// Runs a loop call in order on these maps, which are of the program's sizes, and watches it: where no iteration reads
@@ -94,7 +91,7 @@ fn watch<R: Threads + Sync, G: Gate>(
     requires plan { IsBlockPlan job.now.call.n otherwise.now }
     ensures outcome { IfOk result (λ a. IsOutcome job.now.plan.test job.now.program job.now.call maps.old a.verdict
         a.answer maps.new) }
-    ensures course { IfOk result (λ a. IsWatchedCourse job.now maps.old.words otherwise.now a.course) }
+    ensures strategy { IfOk result (λ a. IsWatchedStrategy job.now maps.old.words otherwise.now a.strategy) }
     ensures kept { OnErr result (maps.new ≡ maps.old) }
 {
     // For the proof: the maps have as many words as their sizes add up to, each below 2^64.
@@ -104,7 +101,7 @@ fn watch<R: Threads + Sync, G: Gate>(
     let progress = match in_order_watched(job.program, job.call, &mut log, maps) {
         WatchedLoop::Passed(answer) => {
             workspace.keep_log(log);
-            return Ok(LoopAnswer::passed(answer, Course::Watched));
+            return Ok(LoopAnswer::passed(answer, Strategy::Watched));
         }
         WatchedLoop::Dependent(progress) => progress,
     };
@@ -112,11 +109,11 @@ fn watch<R: Threads + Sync, G: Gate>(
         Some(verdict) => Decision::Discard { verdict },
         None => decision_on(rt, job, otherwise, maps, workspace, gate)?,
     };
-    let CarriedOut { verdict, answer } = carry_out_from(decision, job, progress, &mut log, maps);
+    let LoopResult { verdict, answer } = carry_out_from(decision, job, progress, &mut log, maps);
     workspace.keep_log(log);
     Ok(LoopAnswer {
         verdict,
         answer,
-        course: otherwise.course(),
+        strategy: otherwise.strategy(),
     })
 }

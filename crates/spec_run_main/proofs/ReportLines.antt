@@ -1,12 +1,9 @@
 -- Reports line by line. `line_of` tells the line of a loop call that main made.
 use Rattle.std.proofs.Common.{◌≡◌, ℕ, ℤ, pos, List, [], ◌∷◌, ◌++◌, map, refl, sym, ap, ◌∙◌}
-use Rattle.bpf_step_model.specs.declared.refused_call.RefusedCall.{RefusedCall}
-use Rattle.bpf_step_model.specs.State.{LoopCall}
+use Rattle.bpf_step_model.specs.{declared.refused_call.RefusedCall.{RefusedCall}, State.{LoopCall}}
 use Rattle.bpf_step_model.specs.Run.{BoundedResult, Ended, Stuck, Unfinished, mapped, followed}
 use Rattle.bpf_step_model.specs.ProgramInOrder.{LoopMade, Finished, valid_call, refused_call}
-use Rattle.loop_core_model.specs.declared.verdict.LoopReport.{LoopReport}
-use Rattle.loop_core_model.specs.declared.verdict.Verdict.{Verdict}
-use Rattle.loop_core_model.specs.declared.verdict.Verdict.TheVariants.{Refused}
+use Rattle.loop_core_model.specs.declared.verdict.{LoopReport.{LoopReport}, Verdict.{Verdict, TheVariants.{Refused}}}
 use Rattle.loop_core_model.specs.LeastBreak.{in_front_of, all_ended}
 use Rattle.loop_core_model.specs.Report.{line, with_lines, with_each_line, reported_with}
 use Rattle.spec_run_main.specs.Lines.{AreLines}

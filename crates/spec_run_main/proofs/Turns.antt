@@ -1,25 +1,21 @@
 -- Main's turns, one after another. `whole` is what is told of the whole program, and `told` what is told of it by what
 -- main still does.
-use Rattle.std.proofs.Common.{◌≡◌, ℕ, zero, suc, ◌+◌, ◌<◌, ◌≤◌, ◌^◌, List, [], length}
-use Rattle.std.proofs.Common.{refl, sym, ap, subst, ◌∙◌, arith}
+use Rattle.std.proofs.Common.{◌≡◌, ℕ, zero, suc, ◌+◌, ◌<◌, ◌≤◌, ◌^◌, List, [], length, refl, sym, ap, subst, ◌∙◌, arith}
 use Rattle.std.specs.List.{sum}
 use Rattle.array_maps.specs.MapList.{MapList, AreWords}
 use Rattle.bpf_insn_types.specs.Program.{Program}
-use Rattle.bpf_step_model.specs.declared.refused_call.RefusedCall.{RefusedCall}
-use Rattle.bpf_step_model.specs.State.{Machine, LoopCall, main_entry}
-use Rattle.bpf_step_model.specs.Run.{BoundedResult, Ended, mapped, followed}
-use Rattle.bpf_step_model.specs.Run.{StopReason, Exit, Loop, Refused, RunSegment, run}
-use Rattle.bpf_step_model.specs.LoopInOrder.{Looped, loop_in_order}
-use Rattle.bpf_step_model.specs.ProgramInOrder.{LoopMade, Finished, with_loop, resumed, after_loop, after_stop, after_segment, main_from, program_in_order, valid_call, refused_call}
+use Rattle.bpf_step_model.specs.{declared.refused_call.RefusedCall.{RefusedCall}, State.{Machine, LoopCall, main_entry}}
+use Rattle.bpf_step_model.specs.Run.{BoundedResult, Ended, mapped, followed, StopReason, Exit, Loop, Refused}
+use Rattle.bpf_step_model.specs.{Run.{RunSegment, run}, LoopInOrder.{Looped, loop_in_order}}
+use Rattle.bpf_step_model.specs.ProgramInOrder.{LoopMade, Finished, with_loop, resumed, after_loop, after_stop}
+use Rattle.bpf_step_model.specs.ProgramInOrder.{after_segment, main_from, program_in_order, valid_call, refused_call}
 use Rattle.bpf_verify_sound.specs.Soundness.{IsSoundProgram, AreMapWords, OverApproximatesCall, EachProgramEnds}
 use Rattle.bpf_verify_sound.specs.Soundness.{LoopEnds, ProgramEnds, EachCountIsSmall, most_from, most_after}
-use Rattle.bpf_step.specs.declared.main_function.Turned.{Turned}
-use Rattle.bpf_step.specs.declared.main_function.Turned.TheVariants as turned
-use Rattle.bpf_step.specs.Mains.{MainOf, MainIsAt, Waits}
+use Rattle.bpf_step.specs.{declared.main_function.Turned.{Turned}, Mains.{MainOf, MainIsAt, Waits}}
 use Rattle.bpf_step.specs.Turns.{IsFilled, StopsAs, RanMain}
 use Rattle.bpf_step.proofs.Limits.{few_slots, few_steps, few_counts, map_words}
-use Rattle.loop_core_sequential.specs.Loops.{RanLoopInOrder}
-use Rattle.loop_core_sequential.proofs.MapEffects.{map_effect, sizes_kept}
+use Rattle.bpf_step.specs.declared.main_function.Turned.TheVariants as turned
+use Rattle.loop_core_sequential.{specs.Loops.{RanLoopInOrder}, proofs.MapEffects.{map_effect, sizes_kept}}
 use Rattle.loop_core_sequential.proofs.SameOutcomes.{filled_calls_are_one_loop}
 use Rattle.spec_run_main.specs.Calls.{IsMadeAs}
 

@@ -2,12 +2,10 @@
 use Rattle.std.specs.Prelude.{◌≡◌, ℕ, List}
 use Rattle.array_maps.specs.MapList.{MapList}
 use Rattle.bpf_insn_types.specs.Program.{Program}
-use Rattle.bpf_step_model.specs.Run.{Ended}
-use Rattle.bpf_step_model.specs.ProgramInOrder.{program_in_order}
+use Rattle.bpf_step_model.specs.{Run.{Ended}, ProgramInOrder.{program_in_order}}
 use Rattle.bpf_verify_sound.specs.Soundness.{ProgramEnds}
 use Rattle.bpf_step.specs.Iterations.{EachIterationEnds}
-use Rattle.loop_core_model.specs.declared.verdict.LoopReport.{LoopReport}
-use Rattle.loop_core_model.specs.Report.{report_in_order}
+use Rattle.loop_core_model.specs.{declared.verdict.LoopReport.{LoopReport}, Report.{report_in_order}}
 
 -- a run from the old maps gave this return value, these lines of its loop calls and the new maps: exactly those of the
 -- program in order, where main takes at most 4,096 instructions up to each turn, and an iteration at most as many
@@ -17,7 +15,7 @@ pub record RanInOrder (program : Program) (argument : ℕ) (old new : MapList) (
   pub sizes : old.sizes ≡ program.sizes
   pub kept : new.sizes ≡ old.sizes
   -- the return value, each loop call's slot, answer and verdict, and the new maps' words are those reported
-  pub told : report_in_order program 4096 argument old.words
+  pub gives : report_in_order program 4096 argument old.words
       ≡ Ended (record { ret = ret; loops = loops; words = new.words })
   -- the program ends, and each valid loop call that it makes is within the abstract states
   pub calls : ProgramEnds program (program_in_order program 4096 argument old.words)

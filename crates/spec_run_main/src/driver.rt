@@ -22,8 +22,8 @@ pub fn run_main<L: LoopRunner>(
 ) -> Result<u64, L::Stop>
     requires sizes { maps.old.sizes ≡ program.now.sizes }
     requires room { min (most_from program.now 0) 4096 ≤ L.room runner.old }
-    requires begins { L.tells program.now runner.old [] runner.old }
-    ensures { IfOk result (λ ret. RanProgram (λ calls. L.tells program.now runner.old calls runner.new) program.now
+    requires begins { L.records program.now runner.old [] runner.old }
+    ensures { IfOk result (λ ret. RanProgram (λ calls. L.records program.now runner.old calls runner.new) program.now
         argument maps.old maps.new ret) }
 {
     law_of_accepted_runs();

@@ -24,10 +24,10 @@ pub struct RanInPlace {
 }
 
 /// Adds a line after the first ones, and gives how many there are then.
-fn tell(lines: &mut [LoopReport], calls: usize, line: LoopReport) -> usize
+fn add_line(lines: &mut [LoopReport], calls: usize, line: LoopReport) -> usize
     requires { calls < length lines.old }
     ensures count { result ≡ calls + 1 }
-    ensures told { take (calls + 1) lines.new ≡ take calls lines.old ++ line ∷ [] }
+    ensures added { take (calls + 1) lines.new ≡ take calls lines.old ++ line ∷ [] }
     ensures room { length lines.new ≡ length lines.old }
 {
     lines[calls] = line;
@@ -47,7 +47,7 @@ impl LoopRunner for InPlace<'_> {
 
     type Stop = Infallible;
 
-    ghost tells = { λ _ first calls now. (now.lines.ghost_name ≡ first.lines.ghost_name)
+    ghost records = { λ _ first calls now. (now.lines.ghost_name ≡ first.lines.ghost_name)
         × (length now.lines.now ≡ length first.lines.now)
         × AreLines loop_report_in_order calls (take now.calls now.lines.now) };
 
@@ -66,7 +66,7 @@ impl LoopRunner for InPlace<'_> {
             answer: i64::from(answer),
             verdict: Verdict::InOrder,
         };
-        self.calls = tell(self.lines, self.calls, line);
+        self.calls = add_line(self.lines, self.calls, line);
         Ok(answer)
     }
 
@@ -77,7 +77,7 @@ impl LoopRunner for InPlace<'_> {
             answer: call.answer,
             verdict: Verdict::Refused,
         };
-        self.calls = tell(self.lines, self.calls, line);
+        self.calls = add_line(self.lines, self.calls, line);
         Ok(())
     }
 }

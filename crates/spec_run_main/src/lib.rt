@@ -15,8 +15,10 @@
 
 mod driver;
 mod in_place;
+mod report;
 mod runner;
 
 pub use driver::run_main;
 pub use in_place::{RanInPlace, run_in_place};
+pub use report::Report;
 pub use runner::LoopRunner;

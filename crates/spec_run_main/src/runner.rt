@@ -6,7 +6,7 @@ ghost use Rattle.bpf_insn_types.specs.Program.{Program};
 ghost use Rattle.bpf_step_model.specs.ProgramInOrder.{LoopMade};
 ghost use Rattle.bpf_verify_sound.specs.Soundness.{OverApproximatesCall};
 ghost use Rattle.loop_core_sequential.specs.Loops.{RanLoopInOrder};
-ghost use Rattle.spec_run_main.specs.Calls.{HasTold, TellsValid, TellsRefused};
+ghost use Rattle.spec_run_main.specs.Calls.{HasRecorded, RecordsValid, RecordsRefused};
 
 use array_maps::Maps;
 use bpf_step::LoopCall;
@@ -20,7 +20,7 @@ pub trait LoopRunner {
     type Stop;
 
     /// That it recorded these loop calls of a program since its first state.
-    ghost tells: { Program → Self → List LoopMade → Self → Type 0 };
+    ghost records: { Program → Self → List LoopMade → Self → Type 0 };
 
     /// How many loop calls it still has room for.
     ghost room: { Self → ℕ };
@@ -35,17 +35,17 @@ pub trait LoopRunner {
     ) -> Result<u32, Self::Stop>
         requires known { OverApproximatesCall program.now call.now }
         requires sizes { maps.old.sizes ≡ program.now.sizes }
-        requires told { HasTold (tells program.now) self.old }
+        requires recorded { HasRecorded (records program.now) self.old }
         requires room { 0 < room self.old }
         ensures ran { IfOk result (λ answer. RanLoopInOrder program.now call.now maps.old maps.new answer) }
-        ensures told { IfOk result (λ answer.
-            TellsValid (tells program.now) program.now call.now maps.old.words answer self.old self.new) }
+        ensures recorded { IfOk result (λ answer.
+            RecordsValid (records program.now) program.now call.now maps.old.words answer self.old self.new) }
         ensures used { IfOk result (λ _. room self.old ≤ room self.new + 1) };
 
     /// Notes a loop call at a slot that was refused.
     fn note_refusal(&mut self, slot: u32, call: RefusedCall) -> Result<(), Self::Stop>
         requires { 0 < room self.old }
-        ensures told { IfOk result (λ _. (program : Program) → TellsRefused (tells program) slot call self.old
+        ensures recorded { IfOk result (λ _. (program : Program) → RecordsRefused (records program) slot call self.old
             self.new) }
         ensures used { IfOk result (λ _. room self.old ≤ room self.new + 1) };
 }

@@ -2,20 +2,15 @@
 use Rattle.std.proofs.Common.{◌≡◌, ℕ, ◌+◌, ◌≤◌, List, Option, Some, None, refl, sym, ap, subst, ◌∙◌, arith}
 use Rattle.array_maps.specs.MapList.{MapList}
 use Rattle.bpf_insn_types.specs.Program.{Program}
-use Rattle.bpf_step_model.specs.declared.refused_call.RefusedCall.{RefusedCall}
-use Rattle.bpf_step_model.specs.State.{Machine, LoopCall}
+use Rattle.bpf_step_model.specs.{declared.refused_call.RefusedCall.{RefusedCall}, State.{Machine, LoopCall}}
 use Rattle.bpf_step_model.specs.Run.{BoundedResult, Ended, Stuck, Unfinished, mapped, followed}
-use Rattle.bpf_step_model.specs.LoopInOrder.{Looped, loop_in_order}
-use Rattle.bpf_step_model.specs.ProgramInOrder.{Finished, with_loop, after_loop, main_from, program_in_order, valid_call}
-use Rattle.bpf_step_model.specs.ProgramInOrder.{refused_call}
+use Rattle.bpf_step_model.specs.{LoopInOrder.{Looped, loop_in_order}, ProgramInOrder.{valid_call, refused_call}}
+use Rattle.bpf_step_model.specs.ProgramInOrder.{Finished, with_loop, after_loop, main_from, program_in_order}
 use Rattle.bpf_verify_sound.specs.Soundness.{OverApproximatesCall, ProgramEnds, most_from}
+use Rattle.bpf_step.specs.{Mains.{MainOf}, Turns.{IsFilled}}
 use Rattle.bpf_step.specs.declared.main_function.Turned.TheVariants as turned
-use Rattle.bpf_step.specs.Mains.{MainOf}
-use Rattle.bpf_step.specs.Turns.{IsFilled}
-use Rattle.spec_run_main.proofs.Turns.{StillRuns, NextTurn, exits, refuses, refusal_lessens, at_call}
-use Rattle.spec_run_main.proofs.Turns.{call_sizes}
-use Rattle.spec_run_replay.specs.FirstLoop.{ValidLoop, first_of, first_loop}
-use Rattle.spec_run_replay.specs.FoundLoop.{CameToLoop}
+use Rattle.spec_run_main.proofs.Turns.{StillRuns, NextTurn, exits, refuses, refusal_lessens, at_call, call_sizes}
+use Rattle.spec_run_replay.specs.{FirstLoop.{ValidLoop, first_of, first_loop}, FoundLoop.{CameToLoop}}
 use Rattle.spec_run_replay.specs.declared.first_loop.NumberedCall.{NumberedCall}
 
 -- a refused call before is one number more
@@ -32,25 +27,25 @@ valid_made : (number answer : ℕ) (words : List ℕ) (call : LoopCall) (e : Bou
     → mapped (first_of number)
     (mapped (with_loop (valid_call call answer words)) e) ≡ Ended valid
     → valid ≡ Some (record { number = number; call = call; words = words })
-valid_made number answer words call (Ended f) valid told = cc
-valid_made number answer words call Stuck valid told = absurd cc
-valid_made number answer words call Unfinished valid told = absurd cc
+valid_made number answer words call (Ended f) valid is = cc
+valid_made number answer words call Stuck valid is = absurd cc
+valid_made number answer words call Unfinished valid is = absurd cc
 
 valid_first : (number : ℕ) (go_on : Machine → List ℕ → BoundedResult Finished) (call : LoopCall) (next : Machine)
     (words : List ℕ) (e : BoundedResult Looped) (valid : Option ValidLoop)
     → mapped (first_of number) (followed (after_loop go_on call next words) e) ≡ Ended valid
     → valid ≡ Some (record { number = number; call = call; words = words })
-valid_first number go_on call next words (Ended l) valid told =
-    valid_made number l.answer words call (go_on _ l.words) valid told
-valid_first number go_on call next words Stuck valid told = absurd cc
-valid_first number go_on call next words Unfinished valid told = absurd cc
+valid_first number go_on call next words (Ended l) valid is =
+    valid_made number l.answer words call (go_on _ l.words) valid is
+valid_first number go_on call next words Stuck valid is = absurd cc
+valid_first number go_on call next words Unfinished valid is = absurd cc
 
--- a program that ends has its first valid loop call told
-first_told : (program : Program) (e : BoundedResult Finished) → ProgramEnds program e
+-- a program that ends has a first valid loop call, or none
+first_ended : (program : Program) (e : BoundedResult Finished) → ProgramEnds program e
     → (valid : Option ValidLoop) × (mapped (first_of 0) e ≡ Ended valid)
-first_told program (Ended f) ends = (first_of 0 f, refl)
-first_told program Stuck ends = absurd ends
-first_told program Unfinished ends = absurd ends
+first_ended program (Ended f) ends = (first_of 0 f, refl)
+first_ended program Stuck ends = absurd ends
+first_ended program Unfinished ends = absurd ends
 
 -- before a turn the program's first valid loop call is the first that main still makes, numbered from here
 pub record StillSeeks (program : Program) (argument : ℕ) (main : MainOf) (first now : MapList) (number : ℕ) : Type 0
@@ -64,7 +59,7 @@ module _ {program : Program} {argument : ℕ} {main after : MainOf} {first now n
   -- main ends without a valid loop call
   pub ends_without : {ret : ℕ} → NextTurn main now (turned.Exit ret) after new
       → CameToLoop program argument first new None
-  ends_without {ret} next = record { valid = None; told = (exits seeks.still same next).0; is = tt }
+  ends_without {ret} next = record { valid = None; first = (exits seeks.still same next).0; is = tt }
 
   -- a call was refused, and main goes on
   pub goes_on : {slot : ℕ} {call : RefusedCall} → NextTurn main now (turned.Refused slot call) after new
@@ -85,12 +80,12 @@ module _ {program : Program} {argument : ℕ} {main after : MainOf} {first now n
       → CameToLoop program argument first new (Some found)
   calls ends {call} next found is_number is_call =
       let this = at_call seeks.still same next in
-      let first = first_told program (program_in_order program 4096 argument first.words) ends in
+      let first = first_ended program (program_in_order program 4096 argument first.words) ends in
       let is = valid_first number (main_from program 4096 this.turns) this.made this.m new.words
       (loop_in_order program 4096 this.made new.words) first.0 (sym this.rest ∙ first.1) in
       record {
         valid = Some (record { number = number; call = this.made; words = new.words });
-        told = first.1 ∙ ap Ended is;
+        first = first.1 ∙ ap Ended is;
         is = record {
           number = is_number;
           filled = subst (IsFilled program this.made) (sym is_call) this.is.filled;

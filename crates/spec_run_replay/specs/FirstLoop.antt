@@ -1,8 +1,7 @@
 -- The first valid loop call of a program.
 use Rattle.std.specs.Prelude.{ℕ, ◌+◌, List, [], ◌∷◌, Option, Some, None}
 use Rattle.bpf_insn_types.specs.Program.{Program}
-use Rattle.bpf_step_model.specs.State.{LoopCall}
-use Rattle.bpf_step_model.specs.Run.{BoundedResult, mapped}
+use Rattle.bpf_step_model.specs.{State.{LoopCall}, Run.{BoundedResult, mapped}}
 use Rattle.bpf_step_model.specs.ProgramInOrder.{LoopMade, Finished, program_in_order}
 
 -- a valid loop call: its number among all that main made, the call, and the words as they were at it

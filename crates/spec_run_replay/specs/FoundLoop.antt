@@ -5,8 +5,7 @@ use Rattle.bpf_insn_types.specs.Program.{Program}
 use Rattle.bpf_step_model.specs.Run.{Ended}
 use Rattle.bpf_verify_sound.specs.Soundness.{AreMapWords, OverApproximatesCall}
 use Rattle.bpf_step.specs.Turns.{IsFilled}
-use Rattle.spec_run_replay.specs.declared.first_loop.NumberedCall.{NumberedCall}
-use Rattle.spec_run_replay.specs.FirstLoop.{ValidLoop, first_loop}
+use Rattle.spec_run_replay.specs.{declared.first_loop.NumberedCall.{NumberedCall}, FirstLoop.{ValidLoop, first_loop}}
 
 -- a call that main handed out over these maps is this one
 pub record IsAtCall (program : Program) (maps : MapList) (valid : ValidLoop) (found : NumberedCall) : Type 0 where
@@ -27,5 +26,5 @@ IsFirstLoop program maps _ _ = ⊥
 pub record CameToLoop (program : Program) (argument : ℕ) (old new : MapList) (found : Option NumberedCall) : Type 0
   where
     pub valid : Option ValidLoop
-    pub told : first_loop program 4096 argument old.words ≡ Ended valid
+    pub first : first_loop program 4096 argument old.words ≡ Ended valid
     pub is : IsFirstLoop program new valid found

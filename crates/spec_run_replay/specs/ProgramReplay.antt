@@ -2,31 +2,25 @@
 use Rattle.std.specs.Prelude.{◌≡◌, ℕ, pos, List, Option, Some, None, Result, Ok, Err}
 use Rattle.bpf_insn_types.specs.Program.{Program}
 use Rattle.bpf_step_model.specs.Run.{BoundedResult, Ended, mapped}
-use Rattle.loop_core_model.specs.declared.event.Event.{Event}
-use Rattle.loop_core_model.specs.declared.loop_test.Test.{Test}
-use Rattle.loop_core_model.specs.declared.verdict.LoopReport.{LoopReport}
-use Rattle.loop_core_model.specs.declared.faults.SplitFault.{SplitFault}
-use Rattle.loop_core_model.specs.Split.{split_fault}
-use Rattle.loop_core_model.specs.declared.replay_fault.ReplayFault.{ReplayFault}
-use Rattle.loop_core_model.specs.Outcome.{Outcome, replayed}
-use Rattle.spec_run_replay.specs.declared.replaying.ReplayRefusal.{ReplayRefusal}
-use Rattle.spec_run_replay.specs.declared.replaying.ReplayRefusal.TheVariants.{NoLoop, Split, Schedule}
-use Rattle.spec_run_replay.specs.declared.replaying.Replayed.{Replayed}
-use Rattle.spec_run_replay.specs.declared.replaying.NoReplay.{NoReplay}
+use Rattle.loop_core_model.specs.declared.{event.Event.{Event}, loop_test.Test.{Test}, verdict.LoopReport.{LoopReport}}
+use Rattle.loop_core_model.specs.{declared.faults.SplitFault.{SplitFault}, Split.{split_fault}}
+use Rattle.loop_core_model.specs.{declared.replay_fault.ReplayFault.{ReplayFault}, Outcome.{Outcome, replayed}}
+use Rattle.spec_run_replay.specs.declared.replaying.ReplayRefusal.{ReplayRefusal, TheVariants.{NoLoop, Split, Schedule}}
+use Rattle.spec_run_replay.specs.declared.replaying.{Replayed.{Replayed}, NoReplay.{NoReplay}}
 use Rattle.spec_run_replay.specs.declared.replaying.NoReplay.TheVariants.{Refused, Memory}
 use Rattle.spec_run_replay.specs.FirstLoop.{ValidLoop, first_loop}
 
 -- a loop that was replayed: its number among the program's loop calls, its line, and the words after it
 pub record LoopReplay : Type 0 where
   pub number : ℕ
-  pub told : LoopReport
+  pub report : LoopReport
   pub words : List ℕ
 
 -- a loop with its outcome
 abbrev pub with_outcome : ValidLoop → Outcome → LoopReplay
 with_outcome valid o = record {
   number = valid.number;
-  told = record { slot = valid.call.slot; answer = pos o.answer; verdict = o.verdict };
+  report = record { slot = valid.call.slot; answer = pos o.answer; verdict = o.verdict };
   words = o.words;
 }
 
@@ -64,6 +58,6 @@ pub record ReplaysFrom (test : Test) (program : Program) (argument : ℕ) (words
 
 -- what is given or refused is as wanted, or memory ran out
 abbrev pub ReplaysUnlessMemory : (Result LoopReplay ReplayRefusal → Type 0) → Result Replayed NoReplay → Type 0
-ReplaysUnlessMemory wanted (Ok r) = wanted (Ok (record { number = r.number; told = r.told; words = r.maps.words }))
+ReplaysUnlessMemory wanted (Ok r) = wanted (Ok (record { number = r.number; report = r.report; words = r.maps.words }))
 ReplaysUnlessMemory wanted (Err (Refused refusal)) = wanted (Err refusal)
 ReplaysUnlessMemory wanted (Err Memory) = Unit {0}

@@ -21,7 +21,7 @@ pub struct Replayed {
     /// Its number among the loop calls that main made, refused ones included, from 0.
     pub number: usize,
     /// Its line in the report.
-    pub told: LoopReport,
+    pub report: LoopReport,
     /// The maps after it.
     pub maps: Maps,
 }
@@ -98,7 +98,7 @@ pub fn replay(
     match replay_loop(alloc, program, &first.call, &maps, &split, events, test) {
         Ok(outcome) => Ok(Replayed {
             number: first.number,
-            told: LoopReport {
+            report: LoopReport {
                 slot: first.call.slot(),
                 answer: i64::from(outcome.answer),
                 verdict: outcome.verdict,

@@ -1,18 +1,12 @@
 -- A loop that is run as one block.
-use Rattle.std.proofs.Common.{◌≡◌, ℕ, Bool, true, false, List, [], ◌∷◌, ◌++◌}
-use Rattle.std.proofs.Common.{map, None, refl, sym, ◌∙◌, ap, subst, arith}
-use Rattle.std.specs.Prelude.{not, ◌&&◌, ◌||◌, ◌==◌}
-use Rattle.std.specs.List.{All, list_any}
-use Rattle.std.proofs.lemmas.Bool.Decides.{nat_tests}
-use Rattle.std.proofs.lemmas.List.Elements.{All-nil, All-cons}
+use Rattle.std.proofs.Common.{◌≡◌, ℕ, Bool, true, false, List, [], ◌∷◌, ◌++◌, map, None, refl, sym, ◌∙◌, ap, subst}
+use Rattle.std.{proofs.Common.{arith}, specs.{Prelude.{not, ◌&&◌, ◌||◌, ◌==◌}, List.{All, list_any}}}
+use Rattle.std.proofs.lemmas.{Bool.Decides.{nat_tests}, List.Elements.{All-nil, All-cons}}
 use Rattle.bpf_insn_types.specs.Program.{Program}
-use Rattle.bpf_step_model.specs.State.{LoopCall}
-use Rattle.bpf_step_model.specs.Iteration.{Iterated}
+use Rattle.bpf_step_model.specs.{State.{LoopCall}, Iteration.{Iterated}}
 use Rattle.loop_core_model.specs.Gather.{Block, least_of, starts_late, lacks_some, twice, stands_in, gather_fault}
 use Rattle.loop_core_model.specs.Intervals.{blocks_of, start_of, end_of}
-use Rattle.loop_core_block.specs.declared.block.Block.{Block as Held}
-use Rattle.loop_core_block.specs.Ran.{as_gathered}
-use Rattle.loop_core_block.specs.Shown.{shown}
+use Rattle.loop_core_block.specs.{declared.block.Block.{Block as Held}, Ran.{as_gathered}, Shown.{shown}}
 
 by_tests : (bounds : List ℕ) (blocks : List Block) → lacks_some bounds blocks ≡ false → twice blocks ≡ false →
     list_any (λ (b : Block). not (stands_in bounds b)) blocks ≡ false → gather_fault bounds blocks ≡ None

@@ -2,32 +2,20 @@
 use Rattle.std.proofs.Common.{◌≡◌, ℕ, zero, suc, ◌+◌, ◌<◌, ◌≤◌, min, Bool, true, false, ◌||◌, IsTrue, ◌⊎◌, inl, inr}
 use Rattle.std.proofs.Common.{List, [], ◌∷◌, ◌++◌, Option, Some, None, map, length, refl, sym, ◌∙◌, ap, subst, arith}
 use Rattle.std.specs.Prelude.{nat_lt, ◌==◌, ◌&&◌, is_none, slice_get, slice_index, if◌then◌else◌}
-use Rattle.std.specs.Option.{option_to_list}
-use Rattle.std.specs.List.{AllByRecursion}
-use Rattle.std.proofs.lemmas.Bool.{ltb-true, lt-ltb, eq-eqb, ne_eqb, cases_eq, cases_lt}
-use Rattle.std.proofs.lemmas.Grind.{flat_map-append}
-use Rattle.std.proofs.lemmas.List.{map-append}
+use Rattle.std.{specs.{Option.{option_to_list}, List.{AllByRecursion}}, proofs.lemmas.Grind.{flat_map-append}}
+use Rattle.std.proofs.lemmas.{Bool.{ltb-true, lt-ltb, eq-eqb, ne_eqb, cases_eq, cases_lt}, List.{map-append}}
 use Rattle.bpf_insn_types.specs.Program.{Program}
-use Rattle.bpf_step_model.specs.State.{LoopCall}
-use Rattle.bpf_step_model.specs.Run.{BoundedResult}
-use Rattle.bpf_step_model.specs.Iteration.{Iterated}
-use Rattle.loop_core_model.specs.declared.loop_test.Test.{Test}
-use Rattle.loop_core_model.specs.LeastBreak.{lesser}
-use Rattle.loop_core_model.specs.Block.{break_from}
-use Rattle.loop_core_model.specs.Split.{split_fault}
-use Rattle.loop_core_model.specs.Gather.{Block, starts_late, block_numbered, least_of}
-use Rattle.loop_core_model.specs.Gather.{is_bound, stands_in, gather_fault}
-use Rattle.loop_core_model.specs.Intervals.{blocks_of, start_of}
-use Rattle.loop_core_model.proofs.SplitLaws.{faultless, rising}
-use Rattle.loop_core_model.proofs.ScheduleLaws.{no_fault}
-use Rattle.loop_core_model.proofs.Steps as steps
+use Rattle.bpf_step_model.specs.{State.{LoopCall}, Run.{BoundedResult}, Iteration.{Iterated}}
+use Rattle.loop_core_model.specs.{declared.loop_test.Test.{Test}, LeastBreak.{lesser}, Block.{break_from}}
+use Rattle.loop_core_model.specs.{Split.{split_fault}, Gather.{gather_fault}, Intervals.{blocks_of, start_of}}
+use Rattle.loop_core_model.specs.Gather.{Block, starts_late, block_numbered, least_of, is_bound, stands_in}
+use Rattle.loop_core_model.proofs.{SplitLaws.{faultless, rising}, ScheduleLaws.{no_fault}}
 use Rattle.loop_core_model.proofs.RunBlocks.{numbers, some_times, once_each, none_foreign, none_lacks}
-use Rattle.loop_board.specs.Sums.{times, once_below}
+use Rattle.loop_core_model.proofs.Steps as steps
+use Rattle.loop_board.specs.{Sums.{times, once_below}, Seats.{histories}}
 use Rattle.loop_board.specs.History.{History, Legal, no_post, times_drawn, times_posted, times_seen, some_found_none}
-use Rattle.loop_board.specs.Seats.{histories}
 use Rattle.loop_board.proofs.Sums.{times-append, times_first, times_more, once_below-below}
-use Rattle.loop_core_block.specs.Blocks.{BlockOf}
-use Rattle.loop_core_block.specs.Ran.{iterations_of, as_gathered, RecordsRun}
+use Rattle.loop_core_block.specs.{Blocks.{BlockOf}, Ran.{iterations_of, as_gathered, RecordsRun}}
 use Rattle.spec_run_workers.specs.Worked.{runs_of, worked_numbers, breaks_of, StandsIn}
 use Rattle.spec_run_workers.specs.CompleteLaw.{WorkerOf, seats_of, blocks_of_all, IsWorkerOf, WorkersComplete}
 use Rattle.spec_run_workers.proofs.StillWorks.{all_append}
@@ -263,7 +251,7 @@ module _ (test : Test) (program : Program) (call : LoopCall) (words : List ℕ) 
       omega arith
 
   break_is : (b : BlockOf) → RecordsRun test program call words b → break_from b.first (gathered_of b).ran ≡ b.broke
-  break_is b is = ap (λ (e : BoundedResult (List Iterated)). break_from b.first (iterations_of e)) is.told
+  break_is b is = ap (λ (e : BoundedResult (List Iterated)). break_from b.first (iterations_of e)) is.ended
       ∙ sym is.broke
 
   late_by : (s x : ℕ) (o : Option ℕ) → 0 < times x (option_to_list o) → x < s → starts_late o s ≡ true

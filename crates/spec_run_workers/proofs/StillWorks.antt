@@ -1,26 +1,18 @@
 -- What a worker's loop keeps.
-use Rattle.std.proofs.Common.{◌≡◌, ℕ, zero, suc, ◌+◌, ◌-◌, ◌<◌, ◌≤◌, max, Bool, true, false, inl, inr}
-use Rattle.std.proofs.Common.{List, [], ◌∷◌, ◌++◌, Option, Some, None, All, map, length, refl, sym, ◌∙◌}
-use Rattle.std.proofs.Common.{ap, subst, arith, append_assoc, append-nil, length-append}
-use Rattle.std.specs.Prelude.{nat_lt, slice_index, if◌then◌else◌, Result, Ok, Err, OnErr}
-use Rattle.std.proofs.lemmas.Bool.{ltb-true}
-use Rattle.std.specs.Option.{option_to_list}
-use Rattle.std.specs.List.{AllByRecursion}
-use Rattle.std.proofs.lemmas.Grind.{flat_map-append}
-use Rattle.std.proofs.lemmas.List.{map-append, length-map}
+use Rattle.std.proofs.Common.{◌≡◌, ℕ, zero, suc, ◌+◌, ◌-◌, ◌<◌, ◌≤◌, max, Bool, true, false, inl, inr, List, [], ◌∷◌}
+use Rattle.std.proofs.Common.{◌++◌, Option, Some, None, All, map, length, refl, sym, ◌∙◌, ap, subst, arith}
+use Rattle.std.proofs.{Common.{append_assoc, append-nil, length-append}, lemmas.Bool.{ltb-true}}
+use Rattle.std.specs.{Prelude.{nat_lt, slice_index, if◌then◌else◌, Result, Ok, Err, OnErr}, Option.{option_to_list}}
+use Rattle.std.{specs.List.{AllByRecursion}, proofs.lemmas.{Grind.{flat_map-append}, List.{map-append, length-map}}}
 use Rattle.bpf_insn_types.specs.Program.{Program}
-use Rattle.bpf_step_model.specs.State.{LoopCall}
-use Rattle.bpf_step_model.specs.Iteration.{iteration}
-use Rattle.loop_core_model.specs.declared.loop_test.Test.{Test}
-use Rattle.loop_core_model.specs.Split.{split_fault}
-use Rattle.loop_core_model.proofs.FirstBreak.{FirstIs, IsFirst, breaking, scan_first}
+use Rattle.bpf_step_model.specs.{State.{LoopCall}, Iteration.{iteration}}
+use Rattle.loop_core_model.specs.{declared.loop_test.Test.{Test}, Split.{split_fault}}
+use Rattle.loop_core_model.proofs.{FirstBreak.{FirstIs, IsFirst, breaking, scan_first}, SplitLaws.{faultless, rising}}
 use Rattle.loop_core_model.specs.Intervals.{blocks_of, start_of, end_of}
-use Rattle.loop_core_model.proofs.SplitLaws.{faultless, rising}
 use Rattle.loop_board.specs.Seats.{SeatRecord, after_draw, after_none, after_look, after_post}
-use Rattle.loop_core_block.specs.Blocks.{BlockOf}
-use Rattle.loop_core_block.specs.Ran.{RecordsRun}
-use Rattle.spec_run_workers.specs.Worked.{runs_of, worked_numbers, breaks_of, StandsIn, DidMore}
-use Rattle.spec_run_workers.specs.Worked.{Worked, WorkerStopped, Took, NotRun}
+use Rattle.loop_core_block.specs.{Blocks.{BlockOf}, Ran.{RecordsRun}}
+use Rattle.spec_run_workers.specs.Worked.{runs_of, worked_numbers, breaks_of, StandsIn, DidMore, Worked, WorkerStopped}
+use Rattle.spec_run_workers.specs.Worked.{Took, NotRun}
 
 -- one more than the greatest number drawn
 abbrev pub above : List ℕ → ℕ
@@ -359,7 +351,7 @@ module _ (test : Test) (program : Program) (call : LoopCall) (words : List ℕ) 
         index =
         subst (λ (o : Option ℕ). FirstIs (breaking (λ i. iteration program 4096 call i words)) b.first
         (b.first + (b.past - b.first)) o) (sym ran.broke ∙ broke)
-        (scan_first (λ i. iteration program 4096 call i words) (b.past - b.first) b.first ran.ran ran.told) in
+        (scan_first (λ i. iteration program 4096 call i words) (b.past - b.first) b.first ran.ran ran.ended) in
         let from = here.from in
         let low = here.within in
         let n = sound.last in

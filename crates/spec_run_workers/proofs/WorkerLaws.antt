@@ -1,24 +1,13 @@
 -- Workers that are done, one after another.
-use Rattle.std.proofs.Common.{◌≡◌, ℕ, zero, suc, ◌+◌, ◌<◌, ◌≤◌, List, [], ◌∷◌, ◌++◌, None, All, map, length}
-use Rattle.std.proofs.Common.{Some, refl, sym, ◌∙◌, ap, subst, arith, append-nil, length-append}
-use Rattle.std.specs.Prelude.{Result, IfOk, Option}
-use Rattle.std.proofs.lemmas.List.Elements.{All-pop}
-use Rattle.std.specs.List.{AllByRecursion}
-use Rattle.std.proofs.lemmas.Grind.{flat_map-append}
+use Rattle.std.proofs.Common.{◌≡◌, ℕ, zero, suc, ◌+◌, ◌<◌, ◌≤◌, List, [], ◌∷◌, ◌++◌, None, All, map, length, Some, refl}
+use Rattle.std.proofs.{Common.{sym, ◌∙◌, ap, subst, arith, append-nil, length-append}, lemmas.List.Elements.{All-pop}}
+use Rattle.std.{specs.{Prelude.{Result, IfOk, Option}, List.{AllByRecursion}}, proofs.lemmas.Grind.{flat_map-append}}
 use Rattle.std.proofs.lemmas.List.{map-append}
-use Rattle.loop_core_model.specs.Split.{split_fault}
-use Rattle.loop_core_model.specs.Gather.{gather_fault}
-use Rattle.loop_core_model.specs.Intervals.{blocks_of}
-use Rattle.loop_board.specs.History.{Legal}
-use Rattle.loop_board.specs.Seats.{BoardId, SeatRecord, new_seat, histories}
-use Rattle.loop_core_block.specs.Blocks.{BlockOf}
-use Rattle.loop_core_block.specs.Loops.{LoopOf}
-use Rattle.loop_core_block.specs.LoopBlocks.{RecordsRunOf}
-use Rattle.loop_core_block.specs.Ran.{as_gathered}
-use Rattle.spec_run_workers.specs.Worked.{Worked}
+use Rattle.loop_core_model.specs.{Split.{split_fault}, Gather.{gather_fault}, Intervals.{blocks_of}}
+use Rattle.loop_board.specs.{History.{Legal}, Seats.{BoardId, SeatRecord, new_seat, histories}}
+use Rattle.loop_core_block.specs.{Blocks.{BlockOf}, Loops.{LoopOf}, LoopBlocks.{RecordsRunOf}, Ran.{as_gathered}}
+use Rattle.spec_run_workers.{specs.Worked.{Worked}, proofs.{StillWorks.{all_append}, CompleteLaws.{each_runs}}}
 use Rattle.spec_run_workers.specs.CompleteLaw.{WorkerOf, seats_of, blocks_of_all, IsWorkerOf, WorkersComplete}
-use Rattle.spec_run_workers.proofs.StillWorks.{all_append}
-use Rattle.spec_run_workers.proofs.CompleteLaws.{each_runs}
 use Rattle.spec_run_workers.specs.Workers.{IsWorkerAt, AreOfWorkers}
 
 -- what holds of each image by index holds of all images

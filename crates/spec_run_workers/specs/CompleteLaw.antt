@@ -1,16 +1,11 @@
 -- Whatever the workers did, in whatever order, their blocks are complete.
-use Rattle.std.specs.Prelude.{◌≡◌, ℕ, ◌<◌, ◌≤◌, List, map, length, None}
-use Rattle.std.specs.List.{AllByRecursion, flat_map}
+use Rattle.std.specs.{Prelude.{◌≡◌, ℕ, ◌<◌, ◌≤◌, List, map, length, None}, List.{AllByRecursion, flat_map}}
 use Rattle.bpf_insn_types.specs.Program.{Program}
 use Rattle.bpf_step_model.specs.State.{LoopCall}
-use Rattle.loop_core_model.specs.declared.loop_test.Test.{Test}
-use Rattle.loop_core_model.specs.Split.{split_fault}
-use Rattle.loop_core_model.specs.Gather.{gather_fault}
+use Rattle.loop_core_model.specs.{declared.loop_test.Test.{Test}, Split.{split_fault}, Gather.{gather_fault}}
 use Rattle.loop_core_model.specs.Intervals.{blocks_of}
-use Rattle.loop_board.specs.History.{Legal}
-use Rattle.loop_board.specs.Seats.{SeatRecord, new_seat, histories}
-use Rattle.loop_core_block.specs.Blocks.{BlockOf}
-use Rattle.loop_core_block.specs.Ran.{as_gathered, RecordsRun}
+use Rattle.loop_board.specs.{History.{Legal}, Seats.{SeatRecord, new_seat, histories}}
+use Rattle.loop_core_block.specs.{Blocks.{BlockOf}, Ran.{as_gathered, RecordsRun}}
 use Rattle.spec_run_workers.specs.Worked.{Worked}
 
 -- a worker that is done: its seat, and the blocks that it ran

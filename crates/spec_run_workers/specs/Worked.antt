@@ -1,14 +1,11 @@
 -- What one worker does at its seat, and which blocks it runs.
 use Rattle.std.specs.Prelude.{◌≡◌, ℕ, ◌<◌, ◌⊎◌, nat_lt, true, false, if◌then◌else◌, List, [], ◌∷◌, ◌++◌, map, length}
-use Rattle.std.specs.Option.{option_to_list}
-use Rattle.std.specs.List.{AllByRecursion, flat_map}
+use Rattle.std.specs.{Option.{option_to_list}, List.{AllByRecursion, flat_map}}
 use Rattle.bpf_insn_types.specs.Program.{Program}
 use Rattle.bpf_step_model.specs.State.{LoopCall}
-use Rattle.loop_core_model.specs.declared.loop_test.Test.{Test}
-use Rattle.loop_core_model.specs.Intervals.{blocks_of, start_of, end_of}
+use Rattle.loop_core_model.specs.{declared.loop_test.Test.{Test}, Intervals.{blocks_of, start_of, end_of}}
 use Rattle.loop_board.specs.Seats.{SeatRecord}
-use Rattle.loop_core_block.specs.Blocks.{BlockOf}
-use Rattle.loop_core_block.specs.Ran.{RecordsRun}
+use Rattle.loop_core_block.specs.{Blocks.{BlockOf}, Ran.{RecordsRun}}
 
 -- of the blocks claimed, in order, and of what the look after each answered: the numbers of those that are run, which
 -- are all that don't start past that answer

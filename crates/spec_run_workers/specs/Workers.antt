@@ -1,12 +1,8 @@
 -- The workers of a loop, once they are done.
-use Rattle.std.specs.Prelude.{◌≡◌, ℕ, List, map, length, None}
-use Rattle.std.specs.List.{AllByRecursion}
+use Rattle.std.specs.{Prelude.{◌≡◌, ℕ, List, map, length, None}, List.{AllByRecursion}}
 use Rattle.loop_core_model.specs.Gather.{gather_fault}
 use Rattle.loop_board.specs.Seats.{BoardId, SeatRecord}
-use Rattle.loop_core_block.specs.Blocks.{BlockOf}
-use Rattle.loop_core_block.specs.Loops.{LoopOf}
-use Rattle.loop_core_block.specs.Ran.{as_gathered}
-use Rattle.loop_core_block.specs.Shown.{shown}
+use Rattle.loop_core_block.specs.{Blocks.{BlockOf}, Loops.{LoopOf}, Ran.{as_gathered}, Shown.{shown}}
 use Rattle.spec_run_workers.specs.CompleteLaw.{WorkerOf, seats_of, blocks_of_all, IsWorkerOf}
 use Rattle.spec_run_workers.specs.declared.worker.Worker.{Worker}
 

@@ -3,9 +3,7 @@
 ghost use Rattle.std.specs.Prelude.{◌≡◌, All, map, vec_len, IfOk};
 ghost use Rattle.loop_core_model.specs.Intervals.{blocks_of};
 ghost use Rattle.loop_board.specs.Seats.{BoardId, new_seat};
-ghost use Rattle.loop_core_block.specs.Loops.{LoopOf};
-ghost use Rattle.loop_core_block.specs.LoopBlocks.{RecordsRunOf};
-ghost use Rattle.loop_core_block.specs.Shown.{shown};
+ghost use Rattle.loop_core_block.specs.{Loops.{LoopOf}, LoopBlocks.{RecordsRunOf}, Shown.{shown}};
 ghost use Rattle.spec_run_workers.specs.Workers.{board_worker, IsWorkerAt, AreOfWorkers, AreFaultless};
 
 use crate::working::work;

@@ -1,10 +1,8 @@
 //! A worker's loop.
 
-ghost use Rattle.std.specs.Prelude.{◌≡◌, ◌<◌, All, map, IfOk, OnErr};
-ghost use Rattle.std.specs.Option.{option_to_list};
+ghost use Rattle.std.specs.{Prelude.{◌≡◌, ◌<◌, All, map, IfOk, OnErr}, Option.{option_to_list}};
 ghost use Rattle.loop_core_model.specs.Intervals.{blocks_of};
-ghost use Rattle.loop_core_block.specs.LoopBlocks.{RecordsRunOf};
-ghost use Rattle.loop_core_block.specs.Shown.{shown};
+ghost use Rattle.loop_core_block.specs.{LoopBlocks.{RecordsRunOf}, Shown.{shown}};
 ghost use Rattle.spec_run_workers.specs.Worked.{Worked, WorkerStopped, Took, NotRun};
 
 use loop_board::{Board, BoardSeat};

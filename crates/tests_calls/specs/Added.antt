@@ -1,7 +1,6 @@
 -- An access that tests make.
 use Rattle.std.specs.Prelude.{ℕ}
-use Rattle.array_maps.specs.declared.access.Op.TheVariants.{Add}
-use Rattle.array_maps.specs.Accesses.{Access, Reduce}
+use Rattle.array_maps.specs.{declared.access.Op.TheVariants.{Add}, Accesses.{Access, Reduce}}
 
 -- an operand added to an element
 abbrev pub addition : ℕ → ℕ → Access

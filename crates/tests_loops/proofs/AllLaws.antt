@@ -1,6 +1,5 @@
 -- What holds of each element of lists.
-use Rattle.std.proofs.Common.{◌≡◌, List, [], ◌∷◌, ◌++◌, All, Some}
-use Rattle.std.specs.Prelude.{Result, IfOk}
+use Rattle.std.{proofs.Common.{◌≡◌, List, [], ◌∷◌, ◌++◌, All, Some}, specs.Prelude.{Result, IfOk}}
 use Rattle.std.proofs.lemmas.List.Elements.{All-append, All-push, All-pop, All-same}
 
 -- of a list with one element more

@@ -1,12 +1,10 @@
 -- The loop call that main comes to.
-use Rattle.bpf_step_model.specs.Run.{StopReason, Exit, Loop, Refused}
-use Rattle.bpf_step_model.specs.State.{LoopCall}
+use Rattle.bpf_step_model.specs.{Run.{StopReason, Exit, Loop, Refused}, State.{LoopCall}}
 use Rattle.bpf_verify_sound.specs.Soundness.{OverApproximatesCall}
+use Rattle.bpf_step.specs.{Mains.{MainOf}, Turns.{StopsAs}}
 use Rattle.bpf_step.specs.declared.main_function.Turned.TheVariants as turned
-use Rattle.bpf_step.specs.Mains.{MainOf}
-use Rattle.bpf_step.specs.Turns.{StopsAs}
 
--- a call that is told is as is known
+-- a call that is made is as is known
 pub known_call : (main : MainOf) (turn : StopReason) (call : LoopCall) → StopsAs main turn (turned.Loop call)
     → OverApproximatesCall main.program call
 known_call main (Loop made next) call turns = turns.1

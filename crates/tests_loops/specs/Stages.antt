@@ -1,11 +1,8 @@
 -- A loop at its call.
 use Rattle.std.specs.Prelude.{◌≡◌, None}
 use Rattle.bpf_verify_sound.specs.Soundness.{OverApproximatesCall}
-use Rattle.loop_core_model.specs.declared.loop_test.Test.{Test}
-use Rattle.loop_core_model.specs.Split.{split_fault}
-use Rattle.loop_core_block.specs.declared.block.Block.{Block}
-use Rattle.loop_core_block.specs.Ran.{RecordsRun}
-use Rattle.loop_core_block.specs.Shown.{shown}
+use Rattle.loop_core_model.specs.{declared.loop_test.Test.{Test}, Split.{split_fault}}
+use Rattle.loop_core_block.specs.{declared.block.Block.{Block}, Ran.{RecordsRun}, Shown.{shown}}
 use Rattle.tests_loops.specs.declared.stage.Stage.{Stage}
 
 -- main of the program made the call, the maps are of its sizes, and the bounds split the call's iterations

@@ -1,31 +1,21 @@
 -- What an operation leaves of two spans contains its meaning on each pair of their words.
 use Rattle.std.proofs.Common.{◌≡◌, ◌∙◌, ℕ, ◌+◌, ◌-◌, ◌*◌, ◌/◌, ◌%◌, ◌^◌, ◌<◌, true, ◌&&◌, refl, sym, ap, subst, arith}
-use Rattle.std.specs.Prelude.{nat_lt, if◌then◌else◌}
-use Rattle.std.proofs.Math.Nat.{mod-eq_of_lt, mod-mod}
-use Rattle.std.proofs.lemmas.Nat.{mod_below}
-use Rattle.std.proofs.lemmas.Bool.{ltb-true, and_parts, cond-true, lt-ltb}
-use Rattle.bpf_insn_types.specs.declared.insn.Width.{Width}
-use Rattle.bpf_insn_types.specs.declared.insn.Width.TheVariants.{W32, W64}
-use Rattle.bpf_insn_types.specs.declared.insn.AluOp.{AluOp}
-use Rattle.bpf_insn_types.specs.declared.insn.AluOp.TheVariants.{Add, Sub, Mul, Div, Sdiv, Or, And, Lsh}
-use Rattle.bpf_insn_types.specs.declared.insn.AluOp.TheVariants.{Rsh, Mod, Smod, Xor, Mov, Arsh}
-use Rattle.bpf_insn_types.specs.declared.insn.ByteOrder.{ByteOrder}
-use Rattle.bpf_insn_types.specs.declared.insn.ByteOrder.TheVariants.{Le, Be, Swap}
-use Rattle.bpf_insn_types.specs.declared.insn.EndianBits.{EndianBits}
-use Rattle.bpf_insn_types.specs.declared.insn.MovsxBits.{MovsxBits}
-use Rattle.bpf_insn_types.specs.declared.insn.MovsxBits.TheVariants.{B8, B16 as Low16, B32 as Low32}
-use Rattle.bpf_insn_types.specs.Words.{modulus, computed, alu, negated, moved_signed, sign_extended}
-use Rattle.bpf_insn_types.specs.Words.{in_order, low_modulus, endian_modulus}
-use Rattle.bpf_insn_types.specs.WordBounds.{ResultsFit}
+use Rattle.std.{specs.Prelude.{nat_lt, if◌then◌else◌}, proofs.Math.Nat.{mod-eq_of_lt, mod-mod}}
+use Rattle.std.proofs.lemmas.{Nat.{mod_below}, Bool.{ltb-true, and_parts, cond-true, lt-ltb}}
+use Rattle.bpf_insn_types.specs.declared.insn.{Width.{Width, TheVariants.{W32, W64}}, AluOp.{AluOp}}
+use Rattle.bpf_insn_types.specs.declared.insn.AluOp.TheVariants.{Add, Sub, Mul, Div, Sdiv, Or, And, Lsh, Rsh, Mod, Smod}
+use Rattle.bpf_insn_types.specs.declared.insn.{AluOp.TheVariants.{Xor, Mov, Arsh}, ByteOrder.{ByteOrder}}
+use Rattle.bpf_insn_types.specs.declared.insn.{ByteOrder.TheVariants.{Le, Be, Swap}, EndianBits.{EndianBits}}
+use Rattle.bpf_insn_types.specs.declared.insn.MovsxBits.{MovsxBits, TheVariants.{B8, B16 as Low16, B32 as Low32}}
+use Rattle.bpf_insn_types.specs.Words.{modulus, computed, alu, negated, moved_signed, sign_extended, in_order}
+use Rattle.bpf_insn_types.specs.{Words.{low_modulus, endian_modulus}, WordBounds.{ResultsFit}}
 use Rattle.bpf_insn_types.proofs.WordLaws.{modulus-positive}
 use Rattle.value_range.specs.Spans.{Span, IsSpan, Contains, is_exact, exact, top, norm}
-use Rattle.value_range.proofs.Multiples.{multiple-zero, zero-multiple}
+use Rattle.value_range.{proofs.Multiples.{multiple-zero, zero-multiple}, specs.declared.operation.Operation.{Operation}}
 use Rattle.value_range.proofs.SpanLaws.{contains_by_test, exact-contains, exact-number, top-contains, number-word}
-use Rattle.value_range.specs.declared.operation.Operation.{Operation}
 use Rattle.value_range.specs.declared.operation.Operation.TheVariants.{Alu, Neg, Movsx, Endian}
-use Rattle.value_range.specs.AluRows.{meant, low32, range_at_width, operand, negative, extended_range}
-use Rattle.value_range.specs.AluRows.{top_bits, little, ordered, alu_row, row, alu_reads_exact}
-use Rattle.value_range.specs.AluRows.{reads_exact, of_operands, span_of}
+use Rattle.value_range.specs.AluRows.{meant, low32, range_at_width, operand, negative, extended_range, top_bits, little}
+use Rattle.value_range.specs.AluRows.{ordered, alu_row, row, alu_reads_exact, reads_exact, of_operands, span_of}
 use Rattle.value_range.proofs.RowContains.{difference-contains, alu_row-contains}
 
 -- the part of a word that an operation takes

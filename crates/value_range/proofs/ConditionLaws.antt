@@ -1,11 +1,8 @@
 -- The opposite of a comparison says that it doesn't hold.
 use Rattle.std.proofs.Common.{◌≡◌, ℕ, ℤ, pos, negsuc, ◌%◌, Bool, true, false, not, refl, arith}
-use Rattle.std.specs.Prelude.{◌==◌, nat_lt, nat_le, int_lt, int_le}
-use Rattle.std.proofs.lemmas.Bool.Decides.{nat_tests}
-use Rattle.bpf_insn_types.specs.declared.insn.Width.{Width}
-use Rattle.bpf_insn_types.specs.declared.insn.Compare.{Compare}
+use Rattle.std.{specs.Prelude.{◌==◌, nat_lt, nat_le, int_lt, int_le}, proofs.lemmas.Bool.Decides.{nat_tests}}
+use Rattle.bpf_insn_types.specs.{declared.insn.{Width.{Width}, Compare.{Compare}}, Words.{modulus, signed, holds}}
 use Rattle.bpf_insn_types.specs.declared.insn.Compare.TheVariants.{Eq, Gt, Ge, Set, Ne, Sgt, Sge, Lt, Le, Slt, Sle}
-use Rattle.bpf_insn_types.specs.Words.{modulus, signed, holds}
 use Rattle.value_range.specs.RefineRows.{says, opposite}
 
 not-not : (b : Bool) → b ≡ not (not b)

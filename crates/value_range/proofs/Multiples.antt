@@ -1,14 +1,12 @@
 -- Multiples of powers of two, and rounding to them.
-use Rattle.std.proofs.Common.{◌≡◌, ◌∙◌, ℕ, zero, suc, ◌+◌, ◌-◌, ◌*◌, ◌/◌, ◌%◌, ◌^◌}
-use Rattle.std.proofs.Common.{◌<◌, ◌≤◌, min, refl, sym, ap, subst, arith, ⊎_elim}
-use Rattle.std.specs.Int.Count.{count_trailing_zeros, under}
+use Rattle.std.proofs.Common.{◌≡◌, ◌∙◌, ℕ, zero, suc, ◌+◌, ◌-◌, ◌*◌, ◌/◌, ◌%◌, ◌^◌, ◌<◌, ◌≤◌, min, refl, sym, ap, subst}
+use Rattle.std.{proofs.{Common.{arith, ⊎_elim}, lemmas.Bool.{cases_lt}}, specs.Int.Count.{count_trailing_zeros, under}}
 use Rattle.std.specs.Int.{◌∣◌, w64, trailing_zeros, next_multiple_of}
-use Rattle.std.proofs.Math.Nat.{min-le_left, min-le_right, dvd-mul_right, dvd-mul_left, dvd_trans}
-use Rattle.std.proofs.Math.Nat.{dvd-add, dvd-sub, dvd-mod_iff, mul-dvd-mul, dvd-zero, div-mul_cancel}
-use Rattle.std.proofs.Math.Nat.{mod_self, mod-eq_of_lt, mul-le-mul_right, div-mul-le_self}
+use Rattle.std.proofs.Math.Nat.{min-le_left, min-le_right, dvd-mul_right, dvd-mul_left, dvd_trans, dvd-add, dvd-sub}
+use Rattle.std.proofs.Math.Nat.{dvd-mod_iff, mul-dvd-mul, dvd-zero, div-mul_cancel, mod_self, mod-eq_of_lt}
+use Rattle.std.proofs.Math.Nat.{mul-le-mul_right, div-mul-le_self}
 use Rattle.std.proofs.lemmas.Nat.{pow_pos, pow-add, mod-pow-add, mod_below, div-add-mod', shr_split, trailing_le}
 use Rattle.std.proofs.lemmas.Nat.Gcd.{dvd_of_mod-eq-zero, mod-eq-zero_of_dvd}
-use Rattle.std.proofs.lemmas.Bool.{cases_lt}
 use Rattle.value_range.specs.Spans.{rounded_up, rounded_down}
 
 -- powers divide each other in their order

@@ -1,24 +1,18 @@
 -- What is left of two spans holds every pair of their words that meets the condition.
-use Rattle.std.proofs.Common.{◌≡◌, ◌∙◌, ℕ, ◌+◌, ◌-◌, ◌%◌, ◌^◌, ◌<◌, ◌≤◌, min, max, Bool}
-use Rattle.std.proofs.Common.{true, false, not, ◌&&◌, refl, sym, subst, arith, ⊎_elim}
+use Rattle.std.proofs.Common.{◌≡◌, ◌∙◌, ℕ, ◌+◌, ◌-◌, ◌%◌, ◌^◌, ◌<◌, ◌≤◌, min, max, Bool, true, false, not, ◌&&◌, refl}
+use Rattle.std.{proofs.Common.{sym, subst, arith, ⊎_elim}, specs.declared.option.Option.TheVariants.{None, Some}}
 use Rattle.std.specs.Prelude.{◌==◌, nat_lt, nat_le, if◌then◌else◌, IfSome, IfNone}
-use Rattle.std.specs.declared.option.Option.TheVariants.{None, Some}
-use Rattle.std.proofs.Math.Nat.{mod-eq_of_lt, le-min, max-le}
-use Rattle.std.proofs.lemmas.Bool.{ltb-true, leb-true, eqb-true, eqb-false, and_parts}
-use Rattle.std.proofs.lemmas.Bool.{not-true, false≢true, false_from_ne_true}
-use Rattle.bpf_insn_types.specs.declared.insn.Width.{Width}
-use Rattle.bpf_insn_types.specs.declared.insn.Width.TheVariants.{W32, W64}
-use Rattle.bpf_insn_types.specs.declared.insn.Compare.{Compare}
+use Rattle.std.proofs.{Math.Nat.{mod-eq_of_lt, le-min, max-le}, lemmas.Bool.{false_from_ne_true}}
+use Rattle.std.proofs.lemmas.Bool.{ltb-true, leb-true, eqb-true, eqb-false, and_parts, not-true, false≢true}
+use Rattle.bpf_insn_types.specs.declared.insn.{Width.{Width, TheVariants.{W32, W64}}, Compare.{Compare}}
 use Rattle.bpf_insn_types.specs.declared.insn.Compare.TheVariants.{Eq, Gt, Ge, Set, Ne, Sgt, Sge, Lt, Le, Slt, Sle}
 use Rattle.bpf_insn_types.specs.Words.{modulus, compared, holds}
 use Rattle.value_range.specs.Spans.{Span, IsSpan, Contains, is_exact, rounded_up, rounded_down, norm}
-use Rattle.value_range.proofs.Multiples.{apart, up-most, down-least}
+use Rattle.value_range.{proofs.Multiples.{apart, up-most, down-least}, specs.declared.condition.Condition.{Condition}}
 use Rattle.value_range.proofs.SpanLaws.{contains_by_test, norm-contains, exact-number, number-word, max-one}
-use Rattle.value_range.specs.declared.condition.Condition.{Condition}
-use Rattle.value_range.specs.declared.condition.Condition.TheVariants.{Holds, NotSet}
-use Rattle.value_range.specs.RefineLaw.{RefinedContains}
-use Rattle.value_range.specs.RefineRows.{Refined, says, within, equal, without, different, greater}
-use Rattle.value_range.specs.RefineRows.{not_less, swapped, tested, refine_row, refined}
+use Rattle.value_range.specs.{declared.condition.Condition.TheVariants.{Holds, NotSet}, RefineLaw.{RefinedContains}}
+use Rattle.value_range.specs.RefineRows.{Refined, says, within, equal, without, different, greater, not_less, swapped}
+use Rattle.value_range.specs.RefineRows.{tested, refine_row, refined}
 
 -- whichever is chosen, by what the test finds
 has_by_test : (x y : ℕ) (p q : Refined) (b : Bool) → (b ≡ true → RefinedContains p x y)

@@ -1,13 +1,9 @@
 -- What is left of equal words, as it is computed.
 use Rattle.std.proofs.Common.{◌≡◌, ◌∙◌, ℕ, ◌*◌, ◌%◌, ◌^◌, ◌<◌, ◌≤◌, min, max, sym, ap, subst, arith}
-use Rattle.std.specs.Prelude.{nat_lt}
-use Rattle.std.specs.declared.option.Option.TheVariants.{None, Some}
+use Rattle.std.{specs.{Prelude.{nat_lt}, declared.option.Option.TheVariants.{None, Some}}, proofs.lemmas.Nat.{one_shl}}
 use Rattle.std.proofs.lemmas.Bool.{cond-true, cond-false, lt-ltb, le-ltb}
-use Rattle.std.proofs.lemmas.Nat.{one_shl}
-use Rattle.value_range.specs.Spans.{Span, IsSpan, rounded_up, rounded_down, norm}
-use Rattle.value_range.specs.RefineRows.{equal}
-use Rattle.value_range.proofs.Multiples.{down-multiple, up-most, up-least}
-use Rattle.value_range.proofs.SpanLaws.{norm-rounded}
+use Rattle.value_range.specs.{Spans.{Span, IsSpan, rounded_up, rounded_down, norm}, RefineRows.{equal}}
+use Rattle.value_range.proofs.{Multiples.{down-multiple, up-most, up-least}, SpanLaws.{norm-rounded}}
 use Rattle.value_range.proofs.RefineSpans.{few-zeros}
 
 -- rounding inward leaves nothing where the greatest multiple is below the least number

@@ -1,22 +1,16 @@
 -- What a condition leaves is two spans.
-use Rattle.std.proofs.Common.{◌≡◌, ℕ, ◌+◌, ◌-◌, ◌^◌, ◌<◌, ◌≤◌, min, max, Bool, true}
-use Rattle.std.proofs.Common.{false, ◌&&◌, not, refl, subst, arith, ⊎_elim}
-use Rattle.std.specs.Prelude.{◌==◌, nat_lt, nat_le, if◌then◌else◌}
-use Rattle.std.specs.declared.option.Option.TheVariants.{None, Some}
-use Rattle.std.proofs.Math.Nat.{le-min, max-le, min-le_left}
+use Rattle.std.proofs.Common.{◌≡◌, ℕ, ◌+◌, ◌-◌, ◌^◌, ◌<◌, ◌≤◌, min, max, Bool, true, false, ◌&&◌, not, refl, subst}
+use Rattle.std.{proofs.Common.{arith, ⊎_elim}, specs.Prelude.{◌==◌, nat_lt, nat_le, if◌then◌else◌}}
+use Rattle.std.{specs.declared.option.Option.TheVariants.{None, Some}, proofs.Math.Nat.{le-min, max-le, min-le_left}}
 use Rattle.std.proofs.lemmas.Bool.{cases_lt, ltb-false, leb-false, eqb-false}
-use Rattle.bpf_insn_types.specs.declared.insn.Width.{Width}
-use Rattle.bpf_insn_types.specs.declared.insn.Width.TheVariants.{W32, W64}
+use Rattle.bpf_insn_types.specs.declared.insn.Width.{Width, TheVariants.{W32, W64}}
 use Rattle.bpf_insn_types.specs.declared.insn.Compare.TheVariants.{Eq, Gt, Ge, Set, Ne, Sgt, Sge, Lt, Le, Slt, Sle}
-use Rattle.value_range.specs.Spans.{Span, IsSpan, is_exact, rounded_up, rounded_down, norm}
-use Rattle.value_range.proofs.Multiples.{multiple-add, pow-multiple, apart as step-between}
-use Rattle.value_range.proofs.Multiples.{up-multiple, up-most, down-most}
-use Rattle.value_range.proofs.SpanLaws.{is_by_test, norm-span, norm-some}
-use Rattle.value_range.specs.declared.condition.Condition.{Condition}
-use Rattle.value_range.specs.declared.condition.Condition.TheVariants.{Holds, NotSet}
-use Rattle.value_range.specs.RefineLaw.{AreSpans}
-use Rattle.value_range.specs.RefineRows.{Refined, says, equal, without, apart, different, greater}
-use Rattle.value_range.specs.RefineRows.{not_less, swapped, tested, refine_row, refined}
+use Rattle.value_range.specs.{Spans.{Span, IsSpan, is_exact, rounded_up, rounded_down, norm}, RefineLaw.{AreSpans}}
+use Rattle.value_range.proofs.Multiples.{multiple-add, pow-multiple, apart as step-between, up-multiple, up-most}
+use Rattle.value_range.proofs.{Multiples.{down-most}, SpanLaws.{is_by_test, norm-span, norm-some}}
+use Rattle.value_range.specs.declared.condition.Condition.{Condition, TheVariants.{Holds, NotSet}}
+use Rattle.value_range.specs.RefineRows.{Refined, says, equal, without, apart, different, greater, not_less, swapped}
+use Rattle.value_range.specs.RefineRows.{tested, refine_row, refined}
 
 pub greater-first : (a : Span) (n : ℕ) → IsSpan a → n < a.hi → rounded_up a.zeros (max a.lo (n + 1)) ≤ a.hi
 greater-first a n i above =

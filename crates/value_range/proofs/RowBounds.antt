@@ -1,18 +1,13 @@
 -- What each row's bounds have between them, and that there is something.
-use Rattle.std.proofs.Common.{◌≡◌, ◌∙◌, ℕ, ◌+◌, ◌-◌, ◌*◌, ◌/◌, ◌%◌, ◌^◌, ◌<◌, ◌≤◌, min}
-use Rattle.std.proofs.Common.{max, refl, sym, ap, subst, arith, inl, inr, ⊎_elim}
-use Rattle.std.specs.Prelude.{◌⊎◌, bit_and, bit_or, bit_xor}
-use Rattle.std.specs.Int.{w64, leading_zeros}
-use Rattle.std.proofs.Math.Nat.{le-min, max-le, div-mul-le_self, zero-div, pow-suc}
-use Rattle.std.proofs.lemmas.Nat.{mul-le, pow_pos, and_le_l, and_le_r, or_lt, xor_lt, le_or_l, le_or_r}
-use Rattle.std.proofs.lemmas.Nat.{and_mod, or_mod, xor_mod, leading_length, le-div, field_of}
-use Rattle.std.proofs.Math.Pow.{pow_mono}
-use Rattle.std.proofs.lemmas.Bool.{cases_lt}
-use Rattle.value_range.specs.Spans.{Span, IsSpan, Contains, rounded_up, norm}
+use Rattle.std.proofs.Common.{◌≡◌, ◌∙◌, ℕ, ◌+◌, ◌-◌, ◌*◌, ◌/◌, ◌%◌, ◌^◌, ◌<◌, ◌≤◌, min, max, refl, sym, ap, subst}
+use Rattle.std.{proofs.Common.{arith, inl, inr, ⊎_elim}, specs.Prelude.{◌⊎◌, bit_and, bit_or, bit_xor}}
+use Rattle.std.{specs.Int.{w64, leading_zeros}, proofs.Math.Nat.{le-min, max-le, div-mul-le_self, zero-div, pow-suc}}
+use Rattle.std.proofs.lemmas.Nat.{mul-le, pow_pos, and_le_l, and_le_r, or_lt, xor_lt, le_or_l, le_or_r, and_mod, or_mod}
+use Rattle.std.proofs.{lemmas.{Nat.{xor_mod, leading_length, le-div, field_of}, Bool.{cases_lt}}, Math.Pow.{pow_mono}}
+use Rattle.value_range.specs.{Spans.{Span, IsSpan, Contains, rounded_up, norm}, AluRows.{filled}}
 use Rattle.value_range.proofs.Multiples.{min-first, min-second, zero-multiple, multiple-zero, multiple-add}
 use Rattle.value_range.proofs.Multiples.{multiple-sub, multiple-mul, pow-multiple, up-most}
 use Rattle.value_range.proofs.SpanLaws.{norm-contains, lo-in, max-one}
-use Rattle.value_range.specs.AluRows.{filled}
 
 -- a number lies between bounds, and is a multiple
 abbrev pub Between : ℕ → ℕ → ℕ → ℕ → Type 0

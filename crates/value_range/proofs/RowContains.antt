@@ -1,29 +1,21 @@
 -- Each row of an operator contains what it computes of every pair of numbers in its operands.
-use Rattle.std.proofs.Common.{◌≡◌, ◌∙◌, ℕ, ◌+◌, ◌-◌, ◌*◌, ◌/◌, ◌%◌, ◌^◌, ◌<◌, ◌≤◌, min}
-use Rattle.std.proofs.Common.{max, Bool, true, false, refl, sym, ap, subst, arith}
+use Rattle.std.proofs.Common.{◌≡◌, ◌∙◌, ℕ, ◌+◌, ◌-◌, ◌*◌, ◌/◌, ◌%◌, ◌^◌, ◌<◌, ◌≤◌, min, max, Bool, true, false, refl}
+use Rattle.std.proofs.{Common.{sym, ap, subst, arith}, lemmas.Nat.{pow_pos, mod_below, shr_le}}
 use Rattle.std.specs.Prelude.{◌==◌, nat_lt, nat_le, if◌then◌else◌, bit_and, bit_or, bit_xor}
-use Rattle.std.proofs.Math.Nat.{mod-eq_of_lt, add-mul-mod_self_left, add-mod_left}
-use Rattle.std.proofs.lemmas.Nat.{pow_pos, mod_below, shr_le}
-use Rattle.std.proofs.Math.Nat.{div-le_self, mod-le}
+use Rattle.std.proofs.Math.Nat.{mod-eq_of_lt, add-mul-mod_self_left, add-mod_left, div-le_self, mod-le}
 use Rattle.std.proofs.lemmas.Bool.{ltb-true, leb-true, eqb-true, eqb-false, cond-true, cond-false, lt-ltb, ne_eqb}
-use Rattle.bpf_insn_types.specs.declared.insn.Width.{Width}
-use Rattle.bpf_insn_types.specs.declared.insn.Width.TheVariants.{W32, W64}
-use Rattle.bpf_insn_types.specs.declared.insn.AluOp.{AluOp}
-use Rattle.bpf_insn_types.specs.declared.insn.AluOp.TheVariants.{Add, Sub, Mul, Div, Sdiv, Or, And, Lsh}
-use Rattle.bpf_insn_types.specs.declared.insn.AluOp.TheVariants.{Rsh, Mod, Smod, Xor, Mov, Arsh}
+use Rattle.bpf_insn_types.specs.declared.insn.{Width.{Width, TheVariants.{W32, W64}}, AluOp.{AluOp}}
+use Rattle.bpf_insn_types.specs.declared.insn.AluOp.TheVariants.{Add, Sub, Mul, Div, Sdiv, Or, And, Lsh, Rsh, Mod, Smod}
+use Rattle.bpf_insn_types.{specs.declared.insn.AluOp.TheVariants.{Xor, Mov, Arsh}, proofs.WordLaws.{modulus-positive}}
 use Rattle.bpf_insn_types.specs.Words.{modulus, shift, quotient, remainder, arithmetic_shift, computed}
-use Rattle.bpf_insn_types.proofs.WordLaws.{modulus-positive}
 use Rattle.value_range.specs.Spans.{Span, IsSpan, Contains, is_exact, exact, top, norm}
-use Rattle.value_range.proofs.Multiples.{coarser, min-first, min-second, multiple-zero, multiple-add}
-use Rattle.value_range.proofs.Multiples.{multiple-sub, multiple-mul, multiple-wrap, pow-multiple}
-use Rattle.value_range.proofs.SpanLaws.{contains_by_test, norm-contains, exact-contains}
-use Rattle.value_range.proofs.SpanLaws.{exact-number, top-contains}
-use Rattle.value_range.specs.AluRows.{filled, added, subtracted, multiplied, divided, left_over}
-use Rattle.value_range.specs.AluRows.{with_bits, common_bits, other_bits, shifted_left_by, shifted_left}
-use Rattle.value_range.specs.AluRows.{shifted_right, shifted_signed, alu_row}
+use Rattle.value_range.proofs.Multiples.{coarser, min-first, min-second, multiple-zero, multiple-add, multiple-sub}
+use Rattle.value_range.proofs.{Multiples.{multiple-mul, multiple-wrap, pow-multiple}, RowBounds.{right-between}}
+use Rattle.value_range.proofs.SpanLaws.{contains_by_test, norm-contains, exact-contains, exact-number, top-contains}
+use Rattle.value_range.specs.AluRows.{filled, added, subtracted, multiplied, divided, left_over, with_bits, common_bits}
+use Rattle.value_range.specs.AluRows.{other_bits, shifted_left_by, shifted_left, shifted_right, shifted_signed, alu_row}
 use Rattle.value_range.proofs.RowBounds.{norm-between, sum-between, difference-between, product-between}
-use Rattle.value_range.proofs.RowBounds.{quotient-between, or-between, xor-between, and-between}
-use Rattle.value_range.proofs.RowBounds.{left-between, right-between}
+use Rattle.value_range.proofs.RowBounds.{quotient-between, or-between, xor-between, and-between, left-between}
 
 -- a multiple keeps its trailing zeros modulo the width
 wrapped-multiple : (width : Width) (z n : ℕ) → n % 2 ^ z ≡ 0 → n % modulus width % 2 ^ z ≡ 0

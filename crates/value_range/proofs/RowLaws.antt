@@ -1,16 +1,9 @@
 -- Shifts and masks, as they are computed.
 use Rattle.std.proofs.Common.{◌≡◌, ◌∙◌, ℕ, ◌+◌, ◌-◌, ◌*◌, ◌/◌, ◌%◌, ◌^◌, ◌<◌, ◌≤◌, min, sym, ap, arith}
-use Rattle.std.specs.Prelude.{nat_lt}
-use Rattle.std.specs.Int.{w64, leading_zeros}
-use Rattle.std.proofs.Math.Nat.{mod-eq_of_lt}
-use Rattle.std.proofs.lemmas.Nat.{mul-le, leading_le, shl_whole}
-use Rattle.std.proofs.lemmas.Nat.Bits.{ones_shr}
-use Rattle.std.proofs.lemmas.Bool.{cond-true, lt-ltb}
-use Rattle.bpf_insn_types.specs.declared.insn.Width.{Width}
-use Rattle.bpf_insn_types.specs.Words.{modulus}
-use Rattle.bpf_insn_types.proofs.WordLaws.{modulus-most}
-use Rattle.value_range.specs.Spans.{Span, IsSpan, norm}
-use Rattle.value_range.specs.AluRows.{filled, shifted_left_by}
+use Rattle.std.{specs.{Prelude.{nat_lt}, Int.{w64, leading_zeros}}, proofs.Math.Nat.{mod-eq_of_lt}}
+use Rattle.std.proofs.lemmas.{Nat.{mul-le, leading_le, shl_whole, Bits.{ones_shr}}, Bool.{cond-true, lt-ltb}}
+use Rattle.bpf_insn_types.{specs.{declared.insn.Width.{Width}, Words.{modulus}}, proofs.WordLaws.{modulus-most}}
+use Rattle.value_range.specs.{Spans.{Span, IsSpan, norm}, AluRows.{filled, shifted_left_by}}
 use Rattle.value_range.proofs.RowBounds.{below-filled, filled-least}
 
 -- a shift in 128 bits loses nothing, nor does one whose result is a word

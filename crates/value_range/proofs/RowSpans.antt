@@ -1,33 +1,22 @@
 -- Each row leaves a span.
-use Rattle.std.proofs.Common.{◌≡◌, ℕ, ◌+◌, ◌-◌, ◌*◌, ◌/◌, ◌%◌, ◌^◌, ◌<◌, ◌≤◌, min, max, arith}
-use Rattle.std.specs.Prelude.{◌==◌, nat_lt, nat_le, if◌then◌else◌, bit_or}
+use Rattle.std.proofs.{Common.{◌≡◌, ℕ, ◌+◌, ◌-◌, ◌*◌, ◌/◌, ◌%◌, ◌^◌, ◌<◌, ◌≤◌, min, max, arith}, lemmas.Nat.{shr_le}}
+use Rattle.std.{specs.Prelude.{◌==◌, nat_lt, nat_le, if◌then◌else◌, bit_or}, proofs.lemmas.Bool.{ltb-true, eqb-false}}
 use Rattle.std.proofs.Math.Nat.{div-le_self, min-le_left, min-le_right, max-le}
-use Rattle.std.proofs.lemmas.Nat.{shr_le}
-use Rattle.std.proofs.lemmas.Bool.{ltb-true, eqb-false}
-use Rattle.bpf_insn_types.specs.declared.insn.Width.{Width}
-use Rattle.bpf_insn_types.specs.declared.insn.Width.TheVariants.{W32, W64}
-use Rattle.bpf_insn_types.specs.declared.insn.AluOp.{AluOp}
-use Rattle.bpf_insn_types.specs.declared.insn.AluOp.TheVariants.{Add, Sub, Mul, Div, Sdiv, Or, And, Lsh}
-use Rattle.bpf_insn_types.specs.declared.insn.AluOp.TheVariants.{Rsh, Mod, Smod, Xor, Mov, Arsh}
-use Rattle.bpf_insn_types.specs.declared.insn.ByteOrder.{ByteOrder}
-use Rattle.bpf_insn_types.specs.declared.insn.ByteOrder.TheVariants.{Le, Be, Swap}
-use Rattle.bpf_insn_types.specs.declared.insn.EndianBits.{EndianBits}
-use Rattle.bpf_insn_types.specs.declared.insn.EndianBits.TheVariants.{B16, B32, B64}
-use Rattle.bpf_insn_types.specs.Words.{modulus, shift, low_modulus, endian_modulus}
-use Rattle.bpf_insn_types.specs.WordBounds.{ResultsFit}
-use Rattle.bpf_insn_types.proofs.WordLaws.{modulus-most}
-use Rattle.value_range.specs.Spans.{Span, IsSpan, is_exact, exact, top, norm}
+use Rattle.bpf_insn_types.specs.declared.insn.{Width.{Width, TheVariants.{W32, W64}}, AluOp.{AluOp}}
+use Rattle.bpf_insn_types.specs.declared.insn.AluOp.TheVariants.{Add, Sub, Mul, Div, Sdiv, Or, And, Lsh, Rsh, Mod, Smod}
+use Rattle.bpf_insn_types.specs.declared.insn.{AluOp.TheVariants.{Xor, Mov, Arsh}, ByteOrder.{ByteOrder}}
+use Rattle.bpf_insn_types.specs.declared.insn.{ByteOrder.TheVariants.{Le, Be, Swap}, EndianBits.{EndianBits}}
+use Rattle.bpf_insn_types.specs.{declared.insn.EndianBits.TheVariants.{B16, B32, B64}, WordBounds.{ResultsFit}}
+use Rattle.bpf_insn_types.{specs.Words.{modulus, shift, low_modulus, endian_modulus}, proofs.WordLaws.{modulus-most}}
+use Rattle.value_range.specs.{Spans.{Span, IsSpan, is_exact, exact, top, norm}, AluRows.{of_operands, span_of}}
 use Rattle.value_range.proofs.SpanLaws.{is_by_test, exact-span, norm-span, up_to-span, top-span}
-use Rattle.value_range.specs.declared.operation.Operation.{Operation}
-use Rattle.value_range.specs.declared.operation.Operation.TheVariants.{Alu, Neg, Movsx, Endian}
-use Rattle.value_range.specs.AluRows.{meant, low32, range_at_width, operand, filled, added, subtracted}
-use Rattle.value_range.specs.AluRows.{multiplied, divided_by, divided, left_over_by, left_over, with_bits}
-use Rattle.value_range.specs.AluRows.{common_bits, other_bits, shifted_left_by, shifted_left, shifted_right_by}
-use Rattle.value_range.specs.AluRows.{shifted_right, shifted_signed, negative, extended_range, top_bits, little}
-use Rattle.value_range.specs.AluRows.{ordered, alu_row, row, reads_exact, of_operands, span_of}
-use Rattle.value_range.proofs.RowBounds.{zero_some, added_some, subtracted_some, multiplied_some}
-use Rattle.value_range.proofs.RowBounds.{divided_some, with_bits_some, shifted_left_some, shifted_right_some}
-use Rattle.value_range.proofs.RowBounds.{or-word, filled-least}
+use Rattle.value_range.specs.declared.operation.Operation.{Operation, TheVariants.{Alu, Neg, Movsx, Endian}}
+use Rattle.value_range.specs.AluRows.{meant, low32, range_at_width, operand, filled, added, subtracted, multiplied}
+use Rattle.value_range.specs.AluRows.{divided_by, divided, left_over_by, left_over, with_bits, common_bits, other_bits}
+use Rattle.value_range.specs.AluRows.{shifted_left_by, shifted_left, shifted_right_by, shifted_right, shifted_signed}
+use Rattle.value_range.specs.AluRows.{negative, extended_range, top_bits, little, ordered, alu_row, row, reads_exact}
+use Rattle.value_range.proofs.RowBounds.{zero_some, added_some, subtracted_some, multiplied_some, divided_some}
+use Rattle.value_range.proofs.RowBounds.{with_bits_some, shifted_left_some, shifted_right_some, or-word, filled-least}
 
 -- those with n trailing zeros
 spread-span : (width : Width) (z : ℕ) → z ≤ 64 → IsSpan (norm 0 (modulus width - 1) z)

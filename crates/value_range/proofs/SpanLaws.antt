@@ -1,15 +1,11 @@
 -- What spans contain, and that they are spans.
-use Rattle.std.proofs.Common.{◌≡◌, ◌∙◌, ℕ, ◌-◌, ◌%◌, ◌^◌, ◌<◌, ◌≤◌, min, max, Bool, true}
-use Rattle.std.proofs.Common.{false, refl, sym, ap, subst, arith, inl, inr, ⊎_elim}
-use Rattle.std.specs.Prelude.{◌⊎◌, ◌==◌, if◌then◌else◌}
+use Rattle.std.proofs.Common.{◌≡◌, ◌∙◌, ℕ, ◌-◌, ◌%◌, ◌^◌, ◌<◌, ◌≤◌, min, max, Bool, true, false, refl, sym, ap, subst}
+use Rattle.std.{proofs.Common.{arith, inl, inr, ⊎_elim}, specs.Prelude.{◌⊎◌, ◌==◌, if◌then◌else◌}}
 use Rattle.std.proofs.lemmas.Bool.{eqb-true, eq-eqb, ne_eqb, cond-true, cond-false, cond_both, cases_lt}
-use Rattle.std.proofs.Math.Nat.{min-le_left, min-le_right, le-max_left, le-max_right, min-eq_left}
-use Rattle.std.proofs.Math.Nat.{min-eq_right, max-eq_left, max-eq_right}
-use Rattle.bpf_insn_types.specs.declared.insn.Width.{Width}
-use Rattle.bpf_insn_types.specs.declared.insn.Width.TheVariants.{W32, W64}
-use Rattle.bpf_insn_types.specs.Words.{modulus}
-use Rattle.value_range.specs.Spans.{Span, IsSpan, Contains, is_exact, exact, top}
-use Rattle.value_range.specs.Spans.{rounded_up, rounded_down, norm, join}
+use Rattle.std.proofs.Math.Nat.{min-le_left, min-le_right, le-max_left, le-max_right, min-eq_left, min-eq_right}
+use Rattle.std.proofs.Math.Nat.{max-eq_left, max-eq_right}
+use Rattle.bpf_insn_types.specs.{declared.insn.Width.{Width, TheVariants.{W32, W64}}, Words.{modulus}}
+use Rattle.value_range.specs.Spans.{Span, IsSpan, Contains, is_exact, exact, top, rounded_up, rounded_down, norm, join}
 use Rattle.value_range.proofs.Multiples.{min-first, min-second, multiple-zero, trailing-multiple, trailing-most}
 use Rattle.value_range.proofs.Multiples.{down-most, down-multiple, down-least, up-least, up-multiple, up-most}
 

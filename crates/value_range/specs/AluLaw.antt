@@ -1,8 +1,7 @@
 -- The law of operations on spans.
 use Rattle.std.specs.Prelude.{ℕ}
 use Rattle.bpf_insn_types.specs.declared.insn.Width.{Width}
-use Rattle.value_range.specs.Spans.{Span, IsSpan, Contains}
-use Rattle.value_range.specs.declared.operation.Operation.{Operation}
+use Rattle.value_range.specs.{Spans.{Span, IsSpan, Contains}, declared.operation.Operation.{Operation}}
 use Rattle.value_range.specs.AluRows.{meant, span_of}
 
 -- what an operation leaves of two spans is one, and contains its meaning on each pair of their words

@@ -1,20 +1,13 @@
 -- What an operation leaves of spans, a definition a row.
-use Rattle.std.specs.Prelude.{ℕ, ◌+◌, ◌-◌, ◌*◌, ◌/◌, ◌%◌, ◌^◌, min, max, Bool, ◌&&◌}
-use Rattle.std.specs.Prelude.{◌==◌, nat_lt, nat_le, if◌then◌else◌, bit_or}
-use Rattle.std.specs.Int.{w64, leading_zeros}
-use Rattle.bpf_insn_types.specs.declared.insn.Width.{Width}
-use Rattle.bpf_insn_types.specs.declared.insn.Width.TheVariants.{W32, W64}
-use Rattle.bpf_insn_types.specs.declared.insn.AluOp.{AluOp}
-use Rattle.bpf_insn_types.specs.declared.insn.AluOp.TheVariants.{Add, Sub, Mul, Div, Sdiv, Or, And, Lsh}
-use Rattle.bpf_insn_types.specs.declared.insn.AluOp.TheVariants.{Rsh, Mod, Smod, Xor, Mov, Arsh}
-use Rattle.bpf_insn_types.specs.declared.insn.ByteOrder.{ByteOrder}
-use Rattle.bpf_insn_types.specs.declared.insn.ByteOrder.TheVariants.{Le, Be, Swap}
-use Rattle.bpf_insn_types.specs.declared.insn.EndianBits.{EndianBits}
+use Rattle.std.specs.Prelude.{ℕ, ◌+◌, ◌-◌, ◌*◌, ◌/◌, ◌%◌, ◌^◌, min, max, Bool, ◌&&◌, ◌==◌, nat_lt, nat_le}
+use Rattle.std.specs.{Prelude.{if◌then◌else◌, bit_or}, Int.{w64, leading_zeros}}
+use Rattle.bpf_insn_types.specs.{declared.insn.{Width.{Width, TheVariants.{W32, W64}}, AluOp.{AluOp}}, Words.{shift}}
+use Rattle.bpf_insn_types.specs.declared.insn.AluOp.TheVariants.{Add, Sub, Mul, Div, Sdiv, Or, And, Lsh, Rsh, Mod, Smod}
+use Rattle.bpf_insn_types.specs.declared.insn.{AluOp.TheVariants.{Xor, Mov, Arsh}, ByteOrder.{ByteOrder}}
+use Rattle.bpf_insn_types.specs.declared.insn.{ByteOrder.TheVariants.{Le, Be, Swap}, EndianBits.{EndianBits}}
 use Rattle.bpf_insn_types.specs.declared.insn.MovsxBits.{MovsxBits}
-use Rattle.bpf_insn_types.specs.Words.{alu, negated, moved_signed, in_order, modulus}
-use Rattle.bpf_insn_types.specs.Words.{low_modulus, endian_modulus, shift}
-use Rattle.value_range.specs.Spans.{Span, is_exact, exact, top, norm}
-use Rattle.value_range.specs.declared.operation.Operation.{Operation}
+use Rattle.bpf_insn_types.specs.Words.{alu, negated, moved_signed, in_order, modulus, low_modulus, endian_modulus}
+use Rattle.value_range.specs.{Spans.{Span, is_exact, exact, top, norm}, declared.operation.Operation.{Operation}}
 use Rattle.value_range.specs.declared.operation.Operation.TheVariants.{Alu, Neg, Movsx, Endian}
 
 -- an operation's meaning on two words, of which those of one operand leave the other

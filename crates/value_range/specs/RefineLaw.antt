@@ -1,9 +1,7 @@
 -- The law of conditions on spans.
-use Rattle.std.specs.Prelude.{◌≡◌, ℕ, true}
-use Rattle.std.specs.declared.option.Option.TheVariants.{None, Some}
+use Rattle.std.specs.{Prelude.{◌≡◌, ℕ, true}, declared.option.Option.TheVariants.{None, Some}}
 use Rattle.bpf_insn_types.specs.declared.insn.Width.{Width}
-use Rattle.value_range.specs.Spans.{Span, IsSpan, Contains}
-use Rattle.value_range.specs.declared.condition.Condition.{Condition}
+use Rattle.value_range.specs.{Spans.{Span, IsSpan, Contains}, declared.condition.Condition.{Condition}}
 use Rattle.value_range.specs.RefineRows.{Refined, says, refined}
 
 -- what is left is two spans, where anything is

@@ -1,15 +1,11 @@
 -- What a condition says of the spans of its operands, a definition a row.
 use Rattle.std.specs.Prelude.{ℕ, ◌+◌, ◌-◌, ◌^◌, min, max, Bool, not, ◌&&◌, ◌==◌, nat_lt, nat_le, if◌then◌else◌}
-use Rattle.std.specs.declared.option.Option.{Option}
-use Rattle.std.specs.declared.option.Option.TheVariants.{Some, None}
-use Rattle.bpf_insn_types.specs.declared.insn.Width.{Width}
-use Rattle.bpf_insn_types.specs.declared.insn.Width.TheVariants.{W32, W64}
-use Rattle.bpf_insn_types.specs.declared.insn.Compare.{Compare}
+use Rattle.std.specs.declared.option.Option.{Option, TheVariants.{Some, None}}
+use Rattle.bpf_insn_types.specs.declared.insn.{Width.{Width, TheVariants.{W32, W64}}, Compare.{Compare}}
 use Rattle.bpf_insn_types.specs.declared.insn.Compare.TheVariants.{Eq, Gt, Ge, Set, Ne, Sgt, Sge, Lt, Le, Slt, Sle}
 use Rattle.bpf_insn_types.specs.Words.{holds}
 use Rattle.value_range.specs.Spans.{Span, is_exact, rounded_up, rounded_down, norm}
-use Rattle.value_range.specs.declared.condition.Condition.{Condition}
-use Rattle.value_range.specs.declared.condition.Condition.TheVariants.{Holds, NotSet}
+use Rattle.value_range.specs.declared.condition.Condition.{Condition, TheVariants.{Holds, NotSet}}
 
 -- whether two words meet a condition
 abbrev pub says : Condition → Width → ℕ → ℕ → Bool

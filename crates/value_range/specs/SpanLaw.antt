@@ -1,7 +1,6 @@
 -- The law of what makes a span: each is one, and contains what it is made of.
 use Rattle.std.specs.Prelude.{◌≡◌, ℕ, ◌%◌, ◌^◌, ◌<◌, ◌≤◌}
-use Rattle.bpf_insn_types.specs.declared.insn.Width.{Width}
-use Rattle.bpf_insn_types.specs.Words.{modulus}
+use Rattle.bpf_insn_types.specs.{declared.insn.Width.{Width}, Words.{modulus}}
 use Rattle.value_range.specs.Spans.{Span, IsSpan, Contains, exact, top, norm, join}
 
 -- norm wants a multiple between its bounds, here x

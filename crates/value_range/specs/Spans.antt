@@ -1,8 +1,7 @@
 -- Spans of words: the numbers from a least to a greatest that are multiples of a power of two.
 use Rattle.std.specs.Prelude.{◌≡◌, ℕ, ◌-◌, ◌/◌, ◌*◌, ◌%◌, ◌^◌, ◌<◌, ◌≤◌, min, max, Bool, ◌==◌, if◌then◌else◌}
 use Rattle.std.specs.Int.{w64, trailing_zeros, next_multiple_of}
-use Rattle.bpf_insn_types.specs.declared.insn.Width.{Width}
-use Rattle.bpf_insn_types.specs.Words.{modulus}
+use Rattle.bpf_insn_types.specs.{declared.insn.Width.{Width}, Words.{modulus}}
 
 -- the numbers from lo to hi that are multiples of 2 ^ zeros
 pub record Span : Type 0 where

@@ -1,9 +1,8 @@
 //! The table of operations on ranges.
 
 ghost use Rattle.std.specs.Prelude.{◌≡◌, ℕ};
-ghost use Rattle.value_range.specs.Spans.{IsSpan, Contains};
-ghost use Rattle.value_range.specs.AluRows.{meant, range_at_width, operand, alu_row, row, alu_reads_exact};
-ghost use Rattle.value_range.specs.AluRows.{reads_exact, of_operands, span_of};
+ghost use Rattle.value_range.specs.{Spans.{IsSpan, Contains}, AluRows.{of_operands, span_of}};
+ghost use Rattle.value_range.specs.AluRows.{meant, range_at_width, operand, alu_row, row, alu_reads_exact, reads_exact};
 
 use crate::bits::{common_bits, other_bits, with_bits};
 use crate::moves::{extended, low32, negative, ordered};

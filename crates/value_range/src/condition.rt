@@ -1,10 +1,8 @@
 //! The conditions of the two ways of a conditional jump.
 
 ghost use Rattle.std.specs.Prelude.{◌≡◌, ℕ, not};
-ghost use Rattle.bpf_insn_types.specs.declared.insn.Width.{Width};
-ghost use Rattle.bpf_insn_types.specs.Words.{holds};
-ghost use Rattle.value_range.specs.declared.condition.Condition.TheVariants.{Holds};
-ghost use Rattle.value_range.specs.RefineRows.{says, opposite};
+ghost use Rattle.bpf_insn_types.specs.{declared.insn.Width.{Width}, Words.{holds}};
+ghost use Rattle.value_range.specs.{declared.condition.Condition.TheVariants.{Holds}, RefineRows.{says, opposite}};
 
 use bpf_insn_types::{Compare, Width, compare_words};
 

@@ -1,8 +1,6 @@
 //! The laws of ranges, of the definitions alone. Nothing runs here.
 
-ghost use Rattle.value_range.specs.SpanLaw.{SpanLaw};
-ghost use Rattle.value_range.specs.RefineLaw.{RefineLaw};
-ghost use Rattle.value_range.specs.AluLaw.{AluLaw};
+ghost use Rattle.value_range.specs.{SpanLaw.{SpanLaw}, RefineLaw.{RefineLaw}, AluLaw.{AluLaw}};
 
 use bpf_insn_types::results_fit;
 

@@ -1,8 +1,7 @@
 //! The table of conditions on ranges.
 
 ghost use Rattle.std.specs.Prelude.{◌≡◌, ℕ, ◌^◌, true, false, ◌&&◌, nat_lt, IfSome, IfNone};
-ghost use Rattle.value_range.specs.Spans.{IsSpan, Contains};
-ghost use Rattle.value_range.specs.RefineRows.{says, refine_row, refined};
+ghost use Rattle.value_range.specs.{Spans.{IsSpan, Contains}, RefineRows.{says, refine_row, refined}};
 
 use crate::comparisons::{different, equal, exchanged, greater, not_less, tested};
 use crate::condition::Condition;

@@ -1,24 +1,17 @@
 -- Each operator's result is a remainder by the modulus, or not above an operand.
 use Rattle.std.proofs.Common.{ℕ, ℤ, pos, negsuc, ◌+◌, ◌-◌, ◌*◌, ◌/◌, ◌%◌, ◌^◌, ◌<◌, ◌≤◌, Bool, true, false, arith}
 use Rattle.std.specs.Prelude.{if◌then◌else◌, ◌==◌, nat_lt, bit_or, bit_xor, int_div, int_rem, unsigned_abs}
-use Rattle.std.specs.Int.{cast_unsigned, swap_bytes}
-use Rattle.std.proofs.lemmas.Nat.{mod_below, or_lt, xor_lt, and_le_l}
+use Rattle.std.{specs.Int.{cast_unsigned, swap_bytes}, proofs.lemmas.Nat.{mod_below, or_lt, xor_lt, and_le_l}}
 use Rattle.std.proofs.Math.Nat.{div-le_self}
-use Rattle.bpf_insn_types.specs.declared.insn.Width.{Width}
-use Rattle.bpf_insn_types.specs.declared.insn.Width.TheVariants.{W32, W64}
-use Rattle.bpf_insn_types.specs.declared.insn.AluOp.{AluOp}
-use Rattle.bpf_insn_types.specs.declared.insn.AluOp.TheVariants.{Add, Sub, Mul, Div, Sdiv, Or, And, Lsh}
-use Rattle.bpf_insn_types.specs.declared.insn.AluOp.TheVariants.{Rsh, Mod, Smod, Xor, Mov, Arsh}
-use Rattle.bpf_insn_types.specs.declared.insn.ByteOrder.{ByteOrder}
-use Rattle.bpf_insn_types.specs.declared.insn.ByteOrder.TheVariants.{Le, Be, Swap}
-use Rattle.bpf_insn_types.specs.declared.insn.EndianBits.{EndianBits}
-use Rattle.bpf_insn_types.specs.declared.insn.EndianBits.TheVariants.{B16, B32, B64}
-use Rattle.bpf_insn_types.specs.declared.insn.MovsxBits.{MovsxBits}
+use Rattle.bpf_insn_types.specs.declared.insn.{Width.{Width, TheVariants.{W32, W64}}, AluOp.{AluOp}}
+use Rattle.bpf_insn_types.specs.declared.insn.AluOp.TheVariants.{Add, Sub, Mul, Div, Sdiv, Or, And, Lsh, Rsh, Mod, Smod}
+use Rattle.bpf_insn_types.specs.declared.insn.{AluOp.TheVariants.{Xor, Mov, Arsh}, ByteOrder.{ByteOrder}}
+use Rattle.bpf_insn_types.specs.declared.insn.{ByteOrder.TheVariants.{Le, Be, Swap}, EndianBits.{EndianBits}}
+use Rattle.bpf_insn_types.specs.declared.insn.{EndianBits.TheVariants.{B16, B32, B64}, MovsxBits.{MovsxBits}}
 use Rattle.bpf_insn_types.specs.declared.insn.MovsxBits.TheVariants.{B8, B16 as Low16, B32 as Low32}
 use Rattle.bpf_insn_types.specs.Words.{alu, computed, negated, moved_signed, in_order, modulus, low_modulus}
 use Rattle.bpf_insn_types.specs.Words.{endian_modulus, endian_integers, shift, signed, integers}
-use Rattle.bpf_insn_types.proofs.SignedLaws.{half, signed-abs, div-abs, rem-abs, rem-le}
-use Rattle.bpf_insn_types.proofs.WordLaws.{modulus-positive}
+use Rattle.bpf_insn_types.proofs.{SignedLaws.{half, signed-abs, div-abs, rem-abs, rem-le}, WordLaws.{modulus-positive}}
 use Rattle.bpf_insn_types.proofs.results_fit.Goals as goal
 
 -- whichever is chosen

@@ -1,8 +1,6 @@
 -- A run goes on within the abstract states at each of its steps, each of which is shorter; a callback starts where its
 -- function does.
-use Rattle.bpf_verify_sound.proofs.RunLaws.{run-known}
-use Rattle.bpf_verify_sound.proofs.CountLaws.{run-within, run-exit}
-use Rattle.bpf_verify_sound.proofs.StartIndex.{start-function}
+use Rattle.bpf_verify_sound.proofs.{RunLaws.{run-known}, CountLaws.{run-within, run-exit}, StartIndex.{start-function}}
 use Rattle.bpf_verify_sound.proofs.ProgramEndings.{count-small}
 use Rattle.bpf_verify_sound.proofs.law_of_accepted_runs.Goals as goal
 

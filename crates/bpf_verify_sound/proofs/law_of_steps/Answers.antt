@@ -1,10 +1,7 @@
 -- Main starts within the abstract states, each step goes on so, and the abstract state before a slot is of n registers
 -- and bytes.
-use Rattle.bpf_verify_sound.proofs.EntryLaws.{main-contained}
-use Rattle.bpf_verify_sound.proofs.SoundLaws.{entry-sound, call-sound, step-sound}
-use Rattle.bpf_verify_sound.proofs.RunLaws.{step-known}
-use Rattle.bpf_verify_sound.proofs.KnownLaws.{incoming-known}
-use Rattle.bpf_verify_sound.proofs.RuleLaws.{accepted-sizes}
+use Rattle.bpf_verify_sound.proofs.{EntryLaws.{main-contained}, SoundLaws.{entry-sound, call-sound, step-sound}}
+use Rattle.bpf_verify_sound.proofs.{RunLaws.{step-known}, KnownLaws.{incoming-known}, RuleLaws.{accepted-sizes}}
 use Rattle.bpf_verify_sound.proofs.law_of_steps.Goals as goal
 
 pub returns : goal.returns

@@ -1,5 +1,4 @@
-use Rattle.loop_core_model.proofs.PlaneBits.{plane_judges}
-use Rattle.loop_core_model.proofs.PlaneLaws.{plane_has_elements}
+use Rattle.loop_core_model.proofs.{PlaneBits.{plane_judges}, PlaneLaws.{plane_has_elements}}
 use Rattle.loop_core_model.proofs.law_of_planes.Goals as goal
 
 pub returns-clause-elements : goal.returns-clause-elements

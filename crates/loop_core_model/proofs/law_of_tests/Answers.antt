@@ -1,5 +1,4 @@
-use Rattle.loop_core_model.proofs.FailingPairs.{fails_by_pair}
-use Rattle.loop_core_model.proofs.FlowLaws.{flow_passes_more}
+use Rattle.loop_core_model.proofs.{FailingPairs.{fails_by_pair}, FlowLaws.{flow_passes_more}}
 use Rattle.loop_core_model.proofs.law_of_tests.Goals as goal
 
 pub returns-clause-pairs : goal.returns-clause-pairs

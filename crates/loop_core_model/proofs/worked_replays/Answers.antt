@@ -2,10 +2,8 @@
 use Rattle.std.proofs.Common.{refl}
 use Rattle.bpf_insn_types.specs.Words.{alu, holds}
 use Rattle.array_maps.specs.Accesses.{combined}
-use Rattle.bpf_step_model.specs.Step.{step}
-use Rattle.bpf_step_model.specs.Iteration.{iteration}
-use Rattle.loop_core_model.specs.declared.loop_test.Test.{Test}
-use Rattle.loop_core_model.specs.declared.loop_test.Test.TheVariants.{Lrpd, Flow}
+use Rattle.bpf_step_model.specs.{Step.{step}, Iteration.{iteration}}
+use Rattle.loop_core_model.specs.declared.loop_test.Test.{Test, TheVariants.{Lrpd, Flow}}
 use Rattle.loop_core_model.specs.ReplayRows.{EndedRows, LeftStateRows, RefusedEventRows}
 use Rattle.loop_core_model.proofs.worked_replays.Goals as goal
 

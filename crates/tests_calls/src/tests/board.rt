@@ -54,7 +54,7 @@ fn board_of_two(alloc: Global) -> Result<(Board, Vec<BoardSeat>), BoardError>
 }
 
 #[test]
-fn a_refused_growth_leaves_nothing_behind(rt: HostRuntime) -> Result<(), Fail> {
+fn a_refused_allocation_changes_nothing(rt: HostRuntime) -> Result<(), Fail> {
     let (board, mut seats) = board_of_two(rt.alloc())?;
     assert!(rt; seats.len() == 2);
     let claim = board.claim(&mut seats[1]);

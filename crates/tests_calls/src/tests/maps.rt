@@ -1,9 +1,7 @@
 //! Maps through their trait, and failed allocations.
 
-ghost use Rattle.std.specs.Prelude.{◌≡◌, ℕ, ◌<◌, ◌≤◌, ◌∷◌, [], length, map, IfOk};
-ghost use Rattle.std.specs.List.{All};
-ghost use Rattle.array_maps.specs.Accesses.{words_after_all};
-ghost use Rattle.array_maps.specs.Store.{Effects};
+ghost use Rattle.std.specs.{Prelude.{◌≡◌, ℕ, ◌<◌, ◌≤◌, ◌∷◌, [], length, map, IfOk}, List.{All}};
+ghost use Rattle.array_maps.specs.{Accesses.{words_after_all}, Store.{Effects}};
 ghost use Rattle.tests_calls.specs.Added.{addition};
 
 use crate::tests::asserts::assert_same;
@@ -30,7 +28,7 @@ fn made(alloc: Global) -> Result<Maps, MapsError>
 
 // If a copy's allocation failed, the maps are as before.
 #[test]
-fn a_refused_growth_leaves_nothing_behind(rt: HostRuntime) -> Result<(), Fail> {
+fn a_refused_allocation_changes_nothing(rt: HostRuntime) -> Result<(), Fail> {
     let mut maps = made(rt.alloc())?;
     maps.set(1, 1, 7);
     if let Ok(copy) = maps.try_copy(rt.alloc()) {

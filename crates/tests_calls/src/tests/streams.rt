@@ -102,7 +102,7 @@ const SCRIPT: [Turn; 6] = [
 ];
 
 /// Asserts what a call of this turn answered, and how many calls have failed by then.
-fn is_told(
+fn is_reported(
     rt: &impl Abort,
     turn: Turn,
     outcome: Result<usize, DeviceFault>,
@@ -126,7 +126,7 @@ fn a_read_fails_only_where_the_reader_does(rt: HostRuntime) {
         let before = source.failures();
         assert!(rt; before < 6);
         let outcome = source.read(&mut buffer);
-        is_told(&rt, turn, outcome, before, source.failures());
+        is_reported(&rt, turn, outcome, before, source.failures());
     }
     assert_same(&rt, source.into_inner().rest, b"sh".as_slice());
 }
@@ -138,7 +138,7 @@ fn a_write_fails_only_where_the_writer_does(rt: HostRuntime) {
         let before = sink.failures();
         assert!(rt; before < 6);
         let outcome = sink.write(b"eightish");
-        is_told(&rt, turn, outcome, before, sink.failures());
+        is_reported(&rt, turn, outcome, before, sink.failures());
     }
     assert_same(
         &rt,
@@ -151,7 +151,7 @@ fn a_write_fails_only_where_the_writer_does(rt: HostRuntime) {
 fn a_write_that_takes_nothing_fails(rt: HostRuntime) {
     let mut sink = writer(rt.alloc(), &[Turn::Moves(0), Turn::Moves(0)]);
     let refused = sink.write(b"eightish");
-    is_told(&rt, Turn::Fails, refused, 0, sink.failures());
+    is_reported(&rt, Turn::Fails, refused, 0, sink.failures());
     let empty = sink.write(b"");
     assert_same(&rt, (empty, sink.failures()), (Ok(0), 1));
 }

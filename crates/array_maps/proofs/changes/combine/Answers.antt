@@ -1,6 +1,5 @@
 use Rattle.std.proofs.Common.{sym, arith}
-use Rattle.bpf_insn_types.specs.declared.insn.AluOp.{AluOp}
-use Rattle.bpf_insn_types.proofs.WordLaws.{alu-words}
+use Rattle.bpf_insn_types.{specs.declared.insn.AluOp.{AluOp}, proofs.WordLaws.{alu-words}}
 use Rattle.array_maps.specs.Accesses.{combined}
 use Rattle.array_maps.proofs.changes.combine.Goals as goal
 

@@ -1,7 +1,5 @@
 use Rattle.std.proofs.Common.{arith}
-use Rattle.array_maps.specs.MapList.{lists, lengths}
-use Rattle.array_maps.proofs.MapLists.{fits_in_sum}
-use Rattle.array_maps.proofs.SizeLaws.{too_many}
+use Rattle.array_maps.{specs.MapList.{lists, lengths}, proofs.{MapLists.{fits_in_sum}, SizeLaws.{too_many}}}
 use Rattle.array_maps.proofs.maps.sizes_of.Goals as goal
 
 pub returns-then-len-clause-limits : goal.returns-then-len-clause-limits

@@ -1,5 +1,4 @@
-use Rattle.std.proofs.Common.{◌≡◌, take}
-use Rattle.std.specs.List.{sum}
+use Rattle.std.{proofs.Common.{◌≡◌, take}, specs.List.{sum}}
 use Rattle.array_maps.proofs.maps.sum_of.Given as goal
 
 abbrev pub invariant-loop-size : goal.invariant-loop-size

@@ -1,8 +1,6 @@
 use Rattle.std.proofs.Common.{arith, subst}
 use Rattle.bpf_insn_types.specs.Outcome.{MatchesUnlessMemory}
-use Rattle.bpf_insn.specs.CodecRefusal.{codec_refusal}
-use Rattle.bpf_insn.proofs.Programs.{reading_again}
-use Rattle.bpf_insn.proofs.Decoded.{if_found}
+use Rattle.bpf_insn.{specs.CodecRefusal.{codec_refusal}, proofs.{Programs.{reading_again}, Decoded.{if_found}}}
 use Rattle.bpf_insn.proofs.decoding.decode.Goals as goal
 
 pub returns-clause-found : goal.returns-clause-found

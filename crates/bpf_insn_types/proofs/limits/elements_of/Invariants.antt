@@ -1,6 +1,4 @@
-use Rattle.std.proofs.Common.{◌≡◌, ◌≤◌, true, take}
-use Rattle.std.specs.Prelude.{nat_le, sum}
-use Rattle.std.specs.List.{list_all}
+use Rattle.std.{proofs.Common.{◌≡◌, ◌≤◌, true, take}, specs.{Prelude.{nat_le, sum}, List.{list_all}}}
 use Rattle.bpf_insn_types.proofs.limits.elements_of.Given as goal
 
 abbrev pub invariant-loop-size : goal.invariant-loop-size

@@ -1,6 +1,5 @@
 use Rattle.std.proofs.Common.{◌≤◌, ◌+◌, take, arith}
-use Rattle.bpf_insn_types.specs.Program.{slot_count}
-use Rattle.bpf_insn_types.proofs.ProgramLaws.{slot_count-more, slot_count-front}
+use Rattle.bpf_insn_types.{specs.Program.{slot_count}, proofs.ProgramLaws.{slot_count-more, slot_count-front}}
 use Rattle.bpf_insn_types.proofs.limits.slot_count.Goals as goal
 
 pub returns-then-total-gt-MAX_SLOTS-clause-none : goal.returns-then-total-gt-MAX_SLOTS-clause-none

@@ -1,6 +1,5 @@
 -- The low number stays where its sign bit is clear, and else gains the bits above.
-use Rattle.std.proofs.Common.{◌≡◌, ◌∙◌, ℕ, ◌+◌, ◌-◌, ◌/◌, ◌%◌, ◌<◌, ◌≤◌, ap, arith}
-use Rattle.std.proofs.lemmas.Bool.Decides.{nat_tests}
+use Rattle.std.proofs.{Common.{◌≡◌, ◌∙◌, ℕ, ◌+◌, ◌-◌, ◌/◌, ◌%◌, ◌<◌, ◌≤◌, ap, arith}, lemmas.Bool.Decides.{nat_tests}}
 use Rattle.bpf_insn_types.specs.Words.{moved_signed, sign_extended, low_modulus, modulus}
 use Rattle.bpf_insn_types.proofs.moves.movsx_word.Goals as goal
 

@@ -1,6 +1,4 @@
-use Rattle.std.proofs.Common.{◌≡◌, ◌++◌, take}
-use Rattle.std.specs.List.{flat_map}
-use Rattle.std.specs.String.{string_bytes}
+use Rattle.std.{proofs.Common.{◌≡◌, ◌++◌, take}, specs.{List.{flat_map}, String.{string_bytes}}}
 use Rattle.bpf_text_lex.specs.PrintedLines.{insn_line}
 use Rattle.bpf_text.proofs.assembler_printing.print_insns.Given as goal
 

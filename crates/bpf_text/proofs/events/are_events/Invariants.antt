@@ -1,5 +1,4 @@
-use Rattle.std.proofs.Common.{◌≡◌, length}
-use Rattle.std.specs.List.{list_all}
+use Rattle.std.{proofs.Common.{◌≡◌, length}, specs.List.{list_all}}
 use Rattle.bpf_text.specs.EventsText.{is_event}
 use Rattle.bpf_text.proofs.events.are_events.Given as goal
 

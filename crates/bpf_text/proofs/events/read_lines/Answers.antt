@@ -1,5 +1,4 @@
-use Rattle.std.proofs.Common.{◌≡◌, ◌++◌, sym, ap, ◌∙◌}
-use Rattle.std.proofs.lemmas.Result.{err_from_is_err_and}
+use Rattle.std.proofs.{Common.{◌≡◌, ◌++◌, sym, ap, ◌∙◌}, lemmas.Result.{err_from_is_err_and}}
 use Rattle.bpf_text.specs.EventsText.{events_behind}
 use Rattle.bpf_text.proofs.EventLaws.{events_behind-line, events_behind-fails, events_behind-end}
 use Rattle.bpf_text.proofs.events.read_lines.Goals as goal

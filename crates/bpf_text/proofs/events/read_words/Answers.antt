@@ -1,8 +1,7 @@
-use Rattle.std.proofs.Common.{sym, ap, ◌∙◌}
-use Rattle.std.proofs.lemmas.Result.{err_from_is_err_and}
+use Rattle.std.proofs.{Common.{sym, ap, ◌∙◌}, lemmas.Result.{err_from_is_err_and}}
 use Rattle.bpf_text.specs.EventsText.{event_at, events_in}
-use Rattle.bpf_text_lex.proofs.RefusalLaws.{with_front, goes_on, ends}
 use Rattle.bpf_text.proofs.events.read_words.Goals as goal
+use Rattle.bpf_text_lex.proofs.RefusalLaws.{with_front, goes_on, ends}
 
 pub returns-in_err-read_event : goal.returns-in_err-read_event
 returns-in_err-read_event c =

@@ -1,10 +1,7 @@
 use Rattle.std.proofs.Common.{◌≡◌, ◌++◌, ◌-◌, codes, length, take, drop, ap, sym, ◌∙◌, append_assoc, arith}
-use Rattle.std.proofs.Math.Seq.{take-length}
-use Rattle.std.proofs.lemmas.List.{length-drop}
-use Rattle.std.specs.String.{string_bytes}
+use Rattle.std.{proofs.{Math.Seq.{take-length}, lemmas.List.{length-drop}}, specs.String.{string_bytes}}
 use Rattle.hex.specs.Hex.{encode_lower}
-use Rattle.bpf_text.specs.PrintedUnits.{slot_lines}
-use Rattle.bpf_text.proofs.HexLines.{prints_slot, prints_end}
+use Rattle.bpf_text.{specs.PrintedUnits.{slot_lines}, proofs.HexLines.{prints_slot, prints_end}}
 use Rattle.bpf_text.proofs.hex_printing.print_slots.Goals as goal
 
 pub loop-rest-preserved : goal.loop-rest-preserved

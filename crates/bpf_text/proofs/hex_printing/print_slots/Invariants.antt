@@ -1,5 +1,4 @@
-use Rattle.std.proofs.Common.{◌≡◌, ◌++◌, length}
-use Rattle.std.specs.String.{string_bytes}
+use Rattle.std.{proofs.Common.{◌≡◌, ◌++◌, length}, specs.String.{string_bytes}}
 use Rattle.bpf_text.specs.PrintedUnits.{slot_lines}
 use Rattle.bpf_text.proofs.hex_printing.print_slots.Given as goal
 

@@ -1,5 +1,4 @@
-use Rattle.std.proofs.Common.{◌≡◌, ◌++◌, length, sym, ap, ◌∙◌, arith}
-use Rattle.std.proofs.lemmas.Result.{err_from_is_err_and}
+use Rattle.std.proofs.{Common.{◌≡◌, ◌++◌, length, sym, ap, ◌∙◌, arith}, lemmas.Result.{err_from_is_err_and}}
 use Rattle.bpf_text.specs.HexText.{bytes_behind}
 use Rattle.bpf_text.proofs.HexLaws.{bytes_behind-line, bytes_behind-fails, bytes_behind-end}
 use Rattle.bpf_text.proofs.hex_reading.read_lines.Goals as goal

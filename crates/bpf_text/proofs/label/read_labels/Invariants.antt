@@ -1,5 +1,4 @@
-use Rattle.std.proofs.Common.{◌≡◌, ◌≤◌, ◌+◌, ◌*◌, ℕ, List, length}
-use Rattle.std.specs.Option.{option_or}
+use Rattle.std.{proofs.Common.{◌≡◌, ◌≤◌, ◌+◌, ◌*◌, ℕ, List, length}, specs.Option.{option_or}}
 use Rattle.bpf_text_operands.specs.LabelTable.{label_named}
 use Rattle.bpf_text.specs.AssemblerText.{labels_from}
 use Rattle.bpf_text.proofs.label.read_labels.Given as goal

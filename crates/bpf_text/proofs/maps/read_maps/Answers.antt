@@ -1,5 +1,4 @@
-use Rattle.std.proofs.Common.{◌≡◌, ◌++◌, ◌∷◌, [], length, sym, ap, ◌∙◌, arith}
-use Rattle.std.proofs.lemmas.Result.{err_from_is_err_and}
+use Rattle.std.proofs.{Common.{◌≡◌, ◌++◌, ◌∷◌, [], length, sym, ap, ◌∙◌, arith}, lemmas.Result.{err_from_is_err_and}}
 use Rattle.std.proofs.lemmas.List.{map_push, length-map}
 use Rattle.bpf_text.specs.MapsText.{lists, maps_behind}
 use Rattle.bpf_text.proofs.MapLaws.{values_held-push, maps_behind-line, maps_behind-fails, maps_behind-end}

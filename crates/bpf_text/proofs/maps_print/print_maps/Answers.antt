@@ -1,5 +1,4 @@
-use Rattle.std.proofs.Common.{◌≡◌, ◌++◌, ◌+◌, ◌∷◌, drop, sym, ap, ◌∙◌, add-one}
-use Rattle.std.specs.String.{string_bytes}
+use Rattle.std.{proofs.Common.{◌≡◌, ◌++◌, ◌+◌, ◌∷◌, drop, sym, ap, ◌∙◌, add-one}, specs.String.{string_bytes}}
 use Rattle.bpf_text.specs.MapsText.{lists, map_spelling, map_spellings_from}
 use Rattle.bpf_text.proofs.PrintLaws.{prints_next, drop-lists}
 use Rattle.bpf_text.proofs.maps_print.print_maps.Goals as goal

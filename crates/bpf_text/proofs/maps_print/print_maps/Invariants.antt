@@ -1,5 +1,4 @@
-use Rattle.std.proofs.Common.{◌≡◌, ◌++◌, drop}
-use Rattle.std.specs.String.{string_bytes}
+use Rattle.std.{proofs.Common.{◌≡◌, ◌++◌, drop}, specs.String.{string_bytes}}
 use Rattle.bpf_text.specs.MapsText.{lists, map_spellings_from, maps_spelling}
 use Rattle.bpf_text.proofs.maps_print.print_maps.Given as goal
 

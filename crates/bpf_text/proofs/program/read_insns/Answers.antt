@@ -1,9 +1,7 @@
-use Rattle.std.proofs.Common.{◌+◌, sym, ap, ◌∙◌}
-use Rattle.std.proofs.lemmas.Result.{err_from_is_err_and}
+use Rattle.std.proofs.{Common.{◌+◌, sym, ap, ◌∙◌}, lemmas.Result.{err_from_is_err_and}}
 use Rattle.bpf_text_operands.specs.LabelTable.{label_named}
-use Rattle.bpf_insn_types.specs.Program.{slot_count}
+use Rattle.bpf_insn_types.{specs.Program.{slot_count}, proofs.ProgramLaws.{slot_count-append}}
 use Rattle.bpf_text.specs.AssemblerText.{insns_behind}
-use Rattle.bpf_insn_types.proofs.ProgramLaws.{slot_count-append}
 use Rattle.bpf_text.proofs.ReadingLaws.{insns_behind-line, insns_behind-fails, insns_behind-end}
 use Rattle.bpf_text.proofs.program.read_insns.Goals as goal
 

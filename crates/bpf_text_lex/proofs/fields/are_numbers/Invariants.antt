@@ -1,5 +1,4 @@
-use Rattle.std.proofs.Common.{◌≡◌, length}
-use Rattle.std.specs.List.{list_all}
+use Rattle.std.{proofs.Common.{◌≡◌, length}, specs.List.{list_all}}
 use Rattle.bpf_text_lex.specs.Numbers.{is_number}
 use Rattle.bpf_text_lex.proofs.fields.are_numbers.Given as goal
 

@@ -1,6 +1,5 @@
 use Rattle.std.proofs.Common.{◌≡◌, length}
-use Rattle.bpf_text_lex.specs.Fields.{numbers_in}
-use Rattle.bpf_text_lex.proofs.RefusalLaws.{with_front}
+use Rattle.bpf_text_lex.{specs.Fields.{numbers_in}, proofs.RefusalLaws.{with_front}}
 use Rattle.bpf_text_lex.proofs.fields.read_numbers.Given as goal
 
 abbrev pub invariant-loop-word : goal.invariant-loop-word

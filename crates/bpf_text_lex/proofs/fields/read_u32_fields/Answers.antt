@@ -1,6 +1,5 @@
 use Rattle.std.proofs.Common.{sym, ap, ◌∙◌, arith, Ok}
-use Rattle.bpf_text_lex.specs.Words.{words_of}
-use Rattle.bpf_text_lex.proofs.FieldLaws.{fields_small}
+use Rattle.bpf_text_lex.{specs.Words.{words_of}, proofs.FieldLaws.{fields_small}}
 use Rattle.bpf_text_lex.proofs.fields.read_u32_fields.Goals as goal
 
 pub narrowed-requires : goal.narrowed-requires

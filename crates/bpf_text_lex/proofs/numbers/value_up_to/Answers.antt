@@ -1,6 +1,5 @@
 use Rattle.std.proofs.Common.{◌+◌, ◌*◌, ◌-◌, ◌<◌, suc, sym, ap, ◌∙◌, arith, drop, get_or, drop-cons}
-use Rattle.bpf_text_lex.specs.Numbers.{value_of, value_after}
-use Rattle.bpf_text_lex.proofs.NumberLaws.{too_large}
+use Rattle.bpf_text_lex.{specs.Numbers.{value_of, value_after}, proofs.NumberLaws.{too_large}}
 use Rattle.bpf_text_lex.proofs.numbers.value_up_to.Goals as goal
 
 pub returns-then-longer-from : goal.returns-then-longer-from

@@ -1,6 +1,4 @@
-use Rattle.std.proofs.Common.{◌≡◌, ◌++◌, take}
-use Rattle.std.specs.List.{flat_map}
-use Rattle.std.specs.String.{string_bytes}
+use Rattle.std.{proofs.Common.{◌≡◌, ◌++◌, take}, specs.{List.{flat_map}, String.{string_bytes}}}
 use Rattle.bpf_text_lex.specs.PrintedLines.{size_spelling}
 use Rattle.bpf_text_lex.proofs.printing.print_sizes.Given as goal
 

@@ -1,6 +1,4 @@
-use Rattle.std.proofs.Common.{◌<◌, length, sym, ◌∙◌, arith}
-use Rattle.std.proofs.lemmas.Bool.{eqb-true, eqb-false}
-use Rattle.std.proofs.lemmas.List.{length-drop}
+use Rattle.std.proofs.{Common.{◌<◌, length, sym, ◌∙◌, arith}, lemmas.{Bool.{eqb-true, eqb-false}, List.{length-drop}}}
 use Rattle.bpf_text_lex.proofs.WordLaws.{no_word, word_found, word_some, word_missing}
 use Rattle.bpf_text_lex.proofs.words.next_word.Goals as goal
 

@@ -1,6 +1,5 @@
 use Rattle.std.proofs.Common.{◌≡◌, drop}
-use Rattle.bpf_text_operands.specs.Stems.{stems, first_stem}
-use Rattle.bpf_text_operands.proofs.StemLaws.{first_entry}
+use Rattle.bpf_text_operands.{specs.Stems.{stems, first_stem}, proofs.StemLaws.{first_entry}}
 use Rattle.bpf_text_operands.proofs.tables.stem_at.Given as goal
 
 abbrev pub invariant-loop-entry : goal.invariant-loop-entry

@@ -1,17 +1,10 @@
 use Rattle.std.proofs.Common.{◌≡◌, ℕ, ◌∷◌, All, List, Option, map, length, refl, ap, sym, ◌∙◌, subst, arith}
-use Rattle.bpf_insn_types.specs.declared.insn.Insn.{Insn}
-use Rattle.bpf_insn_types.specs.Values.{AreInsns}
-use Rattle.bpf_insn_types.specs.Limits.{AreSizes}
+use Rattle.bpf_insn_types.specs.{declared.insn.Insn.{Insn}, Values.{AreInsns}, Limits.{AreSizes}}
 use Rattle.bpf_insn_types.specs.Program.{Program, slot_count, callback_starts}
-use Rattle.bpf_verify_model.specs.Accepted.{BrokenRule, fault_within}
-use Rattle.bpf_verify_model.specs.Count.{longest}
-use Rattle.bpf_step_ir.specs.declared.plain_op.PlainOp.{PlainOp}
-use Rattle.bpf_step_ir.specs.Translation.{AreOps}
-use Rattle.bpf_verify.specs.Passing.{IsFault}
-use Rattle.bpf_verify.specs.Rows.{AreRows}
-use Rattle.bpf_verify_model.specs.Count.{JumpsForward}
-use Rattle.bpf_verify.proofs.StartLaws.{starts-few}
+use Rattle.bpf_verify_model.specs.{Accepted.{BrokenRule, fault_within}, Count.{longest, JumpsForward}}
 use Rattle.bpf_verify_model.proofs.JumpLaws.{jumps_forward, first_fault-within, program-is, sizes-fit}
+use Rattle.bpf_step_ir.specs.{declared.ir_op.IrOp.{IrOp}, Translation.{AreOps}}
+use Rattle.bpf_verify.{specs.{Passing.{IsFault}, Rows.{AreRows}}, proofs.StartLaws.{starts-few}}
 use Rattle.bpf_verify.proofs.accepting.verify.Goals as goal
 
 pub returns-in-Err-clause-err : goal.returns-in-Err-clause-err
@@ -58,7 +51,7 @@ invariant_of-result c =
           ∙ ap (λ (p : Program). p.insns) c.unit.view_is))
           c.in-Ok.ensures.ops;
       fast_are = c.in_ok-fast.ensures.ok;
-      rows_are = subst (λ (ops : List PlainOp). All (AreRows ops) c.in_ok-rows.rows.items) c.deref-5.ensures.value
+      rows_are = subst (λ (ops : List IrOp). All (AreRows ops) c.in_ok-rows.rows.items) c.deref-5.ensures.value
           c.in_ok-rows.ensures.ok;
       few = omega (
         arith,

@@ -3,8 +3,8 @@ use Rattle.bpf_insn_types.specs.Program.{slot_count}
 use Rattle.bpf_verify_model.proofs.LongestLaws.{longest-small}
 use Rattle.bpf_verify.proofs.counting.counts_of.Goals as goal
 
-pub behind-requires : goal.behind-requires
-behind-requires c = λ k.
+pub longest_from-requires : goal.longest_from-requires
+longest_from-requires c = λ k.
     omega (
       arith,
       ap (λ (l : List ℕ). get_or l k 0) c.as_slice.ensures.value,
@@ -14,8 +14,8 @@ behind-requires c = λ k.
       c.requires.few,
     )
 
-pub behind-requires-in-loop-start : goal.behind-requires-in-loop-start
-behind-requires-in-loop-start c = λ k.
+pub longest_from-requires-in-loop-start : goal.longest_from-requires-in-loop-start
+longest_from-requires-in-loop-start c = λ k.
     omega (
       arith,
       ap (λ (l : List ℕ). get_or l k 0) c.as_slice-in-loop-start.ensures.value,

@@ -1,10 +1,8 @@
-use Rattle.std.proofs.Common.{ℕ, ◌-◌, List, length, ap, sym, ◌∙◌, arith, Some}
-use Rattle.std.proofs.Math.ListN.{length-set}
+use Rattle.std.proofs.{Common.{ℕ, ◌-◌, List, length, ap, sym, ◌∙◌, arith, Some}, Math.ListN.{length-set}}
 use Rattle.std.proofs.lemmas.List.{length-replicate}
-use Rattle.bpf_insn_types.specs.Program.{slot_count}
+use Rattle.bpf_insn_types.{specs.Program.{slot_count}, proofs.ProgramLaws.{take-whole}}
 use Rattle.bpf_verify_model.specs.Count.{through}
 use Rattle.bpf_verify.specs.Counting.{most_at}
-use Rattle.bpf_insn_types.proofs.ProgramLaws.{take-whole}
 use Rattle.bpf_verify.proofs.CountLaws.{Back, back-index, counts-more, counts-none, get_or-zeros}
 use Rattle.bpf_verify.proofs.counting.longest.Goals as goal
 

@@ -1,8 +1,6 @@
-use Rattle.std.proofs.Common.{◌≡◌, ◌<◌, ℕ, Bool, true, false, List, take, length}
-use Rattle.std.proofs.Common.{get_or, set, is_some, ap, sym, ◌∙◌, arith}
-use Rattle.std.proofs.Math.ListN.{length-set}
-use Rattle.bpf_insn_types.specs.declared.insn.Insn.{Insn}
-use Rattle.bpf_insn_types.specs.Program.{slot_count, insn_at}
+use Rattle.std.proofs.Common.{◌≡◌, ◌<◌, ℕ, Bool, true, false, List, take, length, get_or, set, is_some, ap, sym, ◌∙◌}
+use Rattle.std.proofs.{Common.{arith}, Math.ListN.{length-set}}
+use Rattle.bpf_insn_types.specs.{declared.insn.Insn.{Insn}, Program.{slot_count, insn_at}}
 use Rattle.bpf_insn_types.proofs.ProgramLaws.{slots_some, slot_count-more, slot_count-front, take-more}
 use Rattle.bpf_verify.proofs.FlagLaws.{ends-within, begin-step}
 use Rattle.bpf_verify.proofs.layout.begins.Goals as goal

@@ -1,9 +1,6 @@
-use Rattle.std.proofs.Common.{◌≡◌, ◌+◌, ℕ, Bool, false, List, ◌++◌, [], take}
-use Rattle.std.proofs.Common.{length, get_or, ap, sym, ◌∙◌, arith, Option}
-use Rattle.std.specs.Prelude.{nat_eq}
-use Rattle.std.specs.List.{list_any, cons_option}
-use Rattle.bpf_insn_types.specs.declared.insn.Insn.{Insn}
-use Rattle.bpf_insn_types.specs.Program.{slot_count, named_by, named_from}
+use Rattle.std.proofs.Common.{◌≡◌, ◌+◌, ℕ, Bool, false, List, ◌++◌, [], take, length, get_or, ap, sym, ◌∙◌, arith}
+use Rattle.std.{proofs.Common.{Option}, specs.{Prelude.{nat_eq}, List.{list_any, cons_option}}}
+use Rattle.bpf_insn_types.specs.{declared.insn.Insn.{Insn}, Program.{slot_count, named_by, named_from}}
 use Rattle.bpf_insn_types.proofs.ProgramLaws.{slot_count-more, slot_count-front, take-more, named_from-push}
 use Rattle.bpf_verify.proofs.FlagLaws.{ends-within, named-marked, length-marked}
 use Rattle.bpf_verify.proofs.layout.named.Goals as goal

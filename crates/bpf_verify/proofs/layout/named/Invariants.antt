@@ -1,6 +1,4 @@
-use Rattle.std.proofs.Common.{◌≡◌, ℕ, ◌<◌, false, take, length, get_or}
-use Rattle.std.specs.Prelude.{nat_eq}
-use Rattle.std.specs.List.{list_any}
+use Rattle.std.{proofs.Common.{◌≡◌, ℕ, ◌<◌, false, take, length, get_or}, specs.{Prelude.{nat_eq}, List.{list_any}}}
 use Rattle.bpf_insn_types.specs.Program.{slot_count, named_from}
 use Rattle.bpf_verify.proofs.layout.named.Given as goal
 

@@ -1,6 +1,5 @@
 use Rattle.std.proofs.Common.{◌≡◌, ℕ, false, length, get_or, ap, sym, ◌∙◌, arith, add-one, length-append, suc, ◌∷◌, []}
-use Rattle.std.specs.Prelude.{filter}
-use Rattle.std.specs.List.{range_with_len}
+use Rattle.std.specs.{Prelude.{filter}, List.{range_with_len}}
 use Rattle.bpf_insn_types.specs.Program.{slot_count}
 use Rattle.bpf_verify.proofs.StartLaws.{starts_at, starts-few, starts-more, places-more, places-all}
 use Rattle.bpf_verify.proofs.layout.numbered.Goals as goal

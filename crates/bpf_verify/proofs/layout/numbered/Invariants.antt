@@ -1,8 +1,5 @@
-use Rattle.std.proofs.Common.{◌≡◌, ℕ, ◌<◌, length, get_or, None}
-use Rattle.std.specs.Prelude.{filter}
-use Rattle.std.specs.List.{range_with_len}
-use Rattle.bpf_verify.specs.Layout.{function_starting_at}
-use Rattle.bpf_verify.proofs.StartLaws.{starts_at}
+use Rattle.std.{proofs.Common.{◌≡◌, ℕ, ◌<◌, length, get_or, None}, specs.{Prelude.{filter}, List.{range_with_len}}}
+use Rattle.bpf_verify.{specs.Layout.{function_starting_at}, proofs.StartLaws.{starts_at}}
 use Rattle.bpf_verify.proofs.layout.numbered.Given as goal
 
 abbrev pub invariant-loop-slot : goal.invariant-loop-slot

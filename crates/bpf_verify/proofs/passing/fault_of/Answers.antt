@@ -1,6 +1,5 @@
 use Rattle.std.proofs.Common.{refl}
-use Rattle.bpf_verify.specs.Passing.{program_of}
-use Rattle.bpf_verify.proofs.PassLaws.{fault_of-parts}
+use Rattle.bpf_verify.{specs.Passing.{program_of}, proofs.PassLaws.{fault_of-parts}}
 use Rattle.bpf_verify.proofs.passing.fault_of.Goals as goal
 
 pub returns : goal.returns

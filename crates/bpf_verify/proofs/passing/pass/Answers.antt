@@ -1,14 +1,10 @@
 use Rattle.std.proofs.Common.{ℕ, ◌+◌, ◌<◌, ◌≤◌, ◌≡◌, length, List, refl, ap, sym, ◌∙◌, subst, arith}
-use Rattle.std.proofs.Math.ListN.{length-set}
-use Rattle.std.proofs.lemmas.List.{length-replicate}
-use Rattle.bpf_step_ir.specs.declared.plain_op.PlainOp.TheVariants.{Stop}
-use Rattle.bpf_step_ir.specs.Translation.{op_at}
-use Rattle.bpf_insn_types.specs.Program.{slot_count}
-use Rattle.bpf_insn_types.proofs.ProgramLaws.{take-whole}
-use Rattle.bpf_verify.specs.Passing.{program_of, Passed, Translated}
+use Rattle.std.proofs.{Math.ListN.{length-set}, lemmas.List.{length-replicate}}
+use Rattle.bpf_step_ir.specs.{declared.ir_op.IrOp.TheVariants.{Stop}, Translation.{op_at}}
+use Rattle.bpf_insn_types.{specs.Program.{slot_count}, proofs.ProgramLaws.{take-whole}}
+use Rattle.bpf_verify.{specs.Passing.{program_of, Passed, Translated}, proofs.passing.pass.Goals.{After-insn-item}}
 use Rattle.bpf_verify.proofs.PassLaws.{passed-none, passed-over, at-index, At, fault-later}
 use Rattle.bpf_verify.proofs.OpLaws.{translated-none, translated-more, are-ops}
-use Rattle.bpf_verify.proofs.passing.pass.Goals.{After-insn-item}
 use Rattle.bpf_verify.proofs.passing.pass.Goals as goal
 
 pub loop-insn-init : goal.loop-insn-init

@@ -1,8 +1,6 @@
-use Rattle.std.proofs.Common.{ap, sym, ◌∙◌, None}
-use Rattle.std.specs.Prelude.{slice_set}
+use Rattle.std.{proofs.Common.{ap, sym, ◌∙◌, None}, specs.Prelude.{slice_set}}
 use Rattle.bpf_verify_model.specs.Accepted.{unless_earlier}
-use Rattle.bpf_verify.specs.Passing.{program_of}
-use Rattle.bpf_verify.proofs.PassLaws.{fault_within-more, known-here, passed-more}
+use Rattle.bpf_verify.{specs.Passing.{program_of}, proofs.PassLaws.{fault_within-more, known-here, passed-more}}
 use Rattle.bpf_verify.proofs.OpLaws.{op-here}
 use Rattle.bpf_verify.proofs.passing.visit.Goals as goal
 
@@ -17,10 +15,10 @@ returns-in-Some-clause-err c =
 pub returns-clause-ok : goal.returns-clause-ok
 returns-clause-ok c =
     passed-more (program_of c.args.code.now) c.args.slot c.args.insn.now c.known-before.result c.named_by.result
-    c.args.targets.now.items c.add_target.new.targets.items c.args.table.now.items c.hand_on_reached.new.table.items
+    c.args.targets.now.items c.add_target.new.targets.items c.args.table.now.items c.propagate_reached.new.table.items
     c.requires.passed c.requires.here c.requires.within c.known-before.ensures (sym c.fault_of.ensures
     ∙ c.in_default.is) c.named_by.ensures
-    c.in_ok-add_target.ensures.ok c.hand_on_reached.ensures.received c.hand_on_reached.ensures.size
+    c.in_ok-add_target.ensures.ok c.propagate_reached.ensures.received c.propagate_reached.ensures.size
 
 pub returns-clause-ops : goal.returns-clause-ops
 returns-clause-ops c =

@@ -1,11 +1,9 @@
-use Rattle.std.proofs.Common.{ℕ, ◌+◌, ◌<◌, ◌≤◌, ◌≡◌, length, ap, sym, ◌∙◌, subst, arith}
-use Rattle.std.proofs.Math.ListN.{length-set}
-use Rattle.bpf_insn_types.specs.Program.{Program, slot_count, named_by}
-use Rattle.bpf_insn_types.proofs.ProgramLaws.{take-whole}
+use Rattle.std.proofs.{Common.{ℕ, ◌+◌, ◌<◌, ◌≤◌, ◌≡◌, length, ap, sym, ◌∙◌, subst, arith}, Math.ListN.{length-set}}
+use Rattle.bpf_insn_types.{specs.Program.{Program, slot_count, named_by}, proofs.ProgramLaws.{take-whole}}
 use Rattle.bpf_verify_model.specs.Rules.{targets_in, with_target}
 use Rattle.bpf_verify.proofs.PassLaws.{passed-none, passed-over, known-here}
-use Rattle.bpf_verify.proofs.StateLaws.{StatesBelow, states-none, states-put, states-over, states-up_to}
-use Rattle.bpf_verify.proofs.StateLaws.{states-all, passed-fine, passed-listed, Here, here-index}
+use Rattle.bpf_verify.proofs.StateLaws.{StatesBelow, states-none, states-put, states-over, states-up_to, states-all}
+use Rattle.bpf_verify.proofs.StateLaws.{passed-fine, passed-listed, Here, here-index}
 use Rattle.bpf_verify.proofs.states.states_before.Goals as goal
 
 pub loop-insn-init : goal.loop-insn-init
@@ -51,8 +49,8 @@ returns-then-last-slot-clause-ok c =
     (ap length c.put_state.ensures ∙ length-set c.loop-insn.states.items c.loop-insn.slot c.known-before.result
     ∙ c.loop-insn.invariant.room ∙ sym c.requires.slots)
 
-pub hand_on_reached-requires : goal.hand_on_reached-requires
-hand_on_reached-requires c =
+pub propagate_reached-requires : goal.propagate_reached-requires
+propagate_reached-requires c =
     let at : Here c.args.insns.now c.args.count c.loop-insn.slot c.loop-insn.insn-index c.insn-item.result =
     here-index c.args.insns.now c.args.count c.loop-insn.slot c.loop-insn.insn-index c.insn-item.result
     c.requires.slots c.loop-insn-test.true c.insn-item.is c.loop-insn.invariant.low in
@@ -77,19 +75,19 @@ loop-insn-preserved c =
     omega (arith, at.inside, at.some, c.loop-insn.invariant.size) in
     record {
       low = ap (λ (n : ℕ). c.loop-insn.slot + n) c.slots-slot.ensures ∙ at.more;
-      size = c.hand_on_reached.ensures.size ∙ c.loop-insn.invariant.size;
+      size = c.propagate_reached.ensures.size ∙ c.loop-insn.invariant.size;
       room = ap length c.put_state.ensures ∙ length-set c.loop-insn.states.items c.loop-insn.slot
           c.known-before.result ∙ c.loop-insn.invariant.room;
       passed = passed-listed program (c.loop-insn.slot + c.slots-slot.result)
           (with_target (targets_in c.args.insns.now c.loop-insn.slot) (named_by c.loop-insn.slot c.insn-item.result))
-          c.hand_on_reached.new.table.items
+          c.propagate_reached.new.table.items
           (passed-over program c.loop-insn.slot c.slots-slot.result c.insn-item.result
           (with_target (targets_in c.args.insns.now c.loop-insn.slot) (named_by c.loop-insn.slot c.insn-item.result))
-          c.hand_on_reached.new.table.items
+          c.propagate_reached.new.table.items
           (passed-fine program c.loop-insn.slot c.args.last c.insn-item.result c.known-before.result
-          c.loop-insn.table.items c.hand_on_reached.new.table.items c.requires.fine c.if-last-slot.false
-          c.loop-insn.invariant.passed at.here in_table c.known-before.ensures c.hand_on_reached.ensures.received
-          c.hand_on_reached.ensures.size)
+          c.loop-insn.table.items c.propagate_reached.new.table.items c.requires.fine c.if-last-slot.false
+          c.loop-insn.invariant.passed at.here in_table c.known-before.ensures c.propagate_reached.ensures.received
+          c.propagate_reached.ensures.size)
           c.slots-slot.ensures at.inner);
       below = states-over program c.loop-insn.slot c.slots-slot.result c.put_state.new.states.items
           (states-put program c.loop-insn.slot c.known-before.result c.loop-insn.states.items

@@ -1,8 +1,7 @@
 use Rattle.std.proofs.Common.{◌≡◌, take, length}
 use Rattle.bpf_insn_types.specs.Program.{slot_count}
 use Rattle.bpf_verify_model.specs.Rules.{targets_in}
-use Rattle.bpf_verify.specs.Passing.{Passed}
-use Rattle.bpf_verify.proofs.StateLaws.{StatesBelow}
+use Rattle.bpf_verify.{specs.Passing.{Passed}, proofs.StateLaws.{StatesBelow}}
 use Rattle.bpf_verify.proofs.states.states_before.Given as goal
 
 abbrev pub invariant-loop-insn : goal.invariant-loop-insn

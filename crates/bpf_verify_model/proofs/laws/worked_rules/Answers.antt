@@ -1,12 +1,9 @@
 -- Each row is computed.
-use Rattle.std.proofs.Common.{refl}
-use Rattle.std.specs.Int.Count.{count_trailing_zeros}
+use Rattle.std.{proofs.Common.{refl}, specs.Int.Count.{count_trailing_zeros}}
 use Rattle.value_range.specs.Spans.{rounded_up, rounded_down, norm}
 use Rattle.value_range.specs.RefineRows.{equal, without, different, greater, not_less, refined}
-use Rattle.bpf_verify_model.specs.Written.{none_written}
-use Rattle.bpf_verify_model.specs.States.{joined_states, known_main_entry}
-use Rattle.bpf_verify_model.specs.Rules.{state_fault}
-use Rattle.bpf_verify_model.specs.Flow.{known_behind, flow}
+use Rattle.bpf_verify_model.specs.{Written.{none_written}, States.{joined_states, known_main_entry}}
+use Rattle.bpf_verify_model.specs.{Rules.{state_fault}, Flow.{known_behind, flow}}
 use Rattle.bpf_verify_model.specs.RuleRows.{JoinRows, StoreRows, EdgeRows, NullRows, EndRows, BoundRows}
 use Rattle.bpf_verify_model.proofs.laws.worked_rules.Goals as goal
 

@@ -1,11 +1,9 @@
 use Rattle.std.proofs.Common.{◌≡◌, ℕ, ◌+◌, ◌≤◌, length, refl, ap, sym, ◌∙◌, arith, is_some}
 use Rattle.std.proofs.lemmas.List.{length-replicate}
-use Rattle.bpf_insn_types.specs.Program.{Program, slot_count}
-use Rattle.bpf_insn_types.proofs.ProgramLaws.{take-whole}
+use Rattle.bpf_insn_types.{specs.Program.{Program, slot_count}, proofs.ProgramLaws.{take-whole}}
 use Rattle.bpf_verify.proofs.StateLaws.{Here, here-index}
-use Rattle.bpf_verify_origin.specs.declared.inflow.Inflow.TheVariants.{Nowhere}
-use Rattle.bpf_verify_origin.proofs.InflowLaws.{inflows-none, inflows-more, inflows-over}
-use Rattle.bpf_verify_origin.proofs.InflowLaws.{not_past, stop-end, are-inflows}
+use Rattle.bpf_verify_origin.{specs.declared.inflow.Inflow.TheVariants.{Nowhere}, proofs.InflowLaws.{are-inflows}}
+use Rattle.bpf_verify_origin.proofs.InflowLaws.{inflows-none, inflows-more, inflows-over, not_past, stop-end}
 use Rattle.bpf_verify_origin.proofs.inflows.inflows.Goals as goal
 
 pub loop-insn-init : goal.loop-insn-init

@@ -1,5 +1,4 @@
-use Rattle.std.proofs.Common.{◌≡◌}
-use Rattle.std.specs.Prelude.{replicate}
+use Rattle.std.{proofs.Common.{◌≡◌}, specs.Prelude.{replicate}}
 use Rattle.bpf_verify_origin.specs.declared.inflow.Inflow.TheVariants.{Nowhere}
 use Rattle.bpf_verify_origin.proofs.inflows.no_inflows.Given as goal
 

@@ -1,8 +1,5 @@
-use Rattle.std.proofs.Common.{List, ap, ◌∙◌, subst}
-use Rattle.std.specs.Option.{option_map}
-use Rattle.bpf_insn_types.specs.declared.insn.Insn.{Insn}
-use Rattle.bpf_insn_types.specs.Values.{AreInsns as FieldsFit}
-use Rattle.bpf_insn_types.specs.Program.{Program}
+use Rattle.std.{proofs.Common.{List, ap, ◌∙◌, subst}, specs.Option.{option_map}}
+use Rattle.bpf_insn_types.specs.{declared.insn.Insn.{Insn}, Values.{AreInsns as FieldsFit}, Program.{Program}}
 use Rattle.bpf_verify_origin.specs.Inspected.{broken_rule, AreInsns}
 use Rattle.bpf_verify_origin.proofs.InspectionLaws.{parts-fine, parts-stop, inspection-outside}
 use Rattle.bpf_verify_origin.proofs.inspecting.with_fault.Goals as goal

@@ -1,6 +1,5 @@
 use Rattle.std.proofs.Common.{◌≡◌, ℕ, List, ap, ◌∙◌, subst, arith}
-use Rattle.bpf_verify_origin.specs.declared.inflow.Inflow.{Inflow}
-use Rattle.bpf_verify_origin.specs.declared.source.Source.{Source}
+use Rattle.bpf_verify_origin.specs.declared.{inflow.Inflow.{Inflow}, source.Source.{Source}}
 use Rattle.bpf_verify_origin.proofs.SourceLaws.{SourcesOf, source_by_row, sources-none, sources-more, are-sources}
 use Rattle.bpf_verify_origin.proofs.sourcing.sources.Goals as goal
 

@@ -1,5 +1,4 @@
-use Rattle.std.proofs.Common.{ap, ◌∙◌, arith}
-use Rattle.std.proofs.lemmas.List.{length-set}
+use Rattle.std.proofs.{Common.{ap, ◌∙◌, arith}, lemmas.List.{length-set}}
 use Rattle.bpf_verify_origin.proofs.SourceLaws.{source_by_row, row-more}
 use Rattle.bpf_verify_origin.proofs.sourcing.sources_into.Goals as goal
 

@@ -1,6 +1,5 @@
 use Rattle.std.proofs.Common.{◌≡◌, ℕ, ◌+◌, ◌*◌, ◌<◌, length, get_or, None}
-use Rattle.bpf_verify_origin.specs.declared.source.Source.TheVariants.{Start}
-use Rattle.bpf_verify_origin.specs.Sources.{source_into}
+use Rattle.bpf_verify_origin.specs.{declared.source.Source.TheVariants.{Start}, Sources.{source_into}}
 use Rattle.bpf_verify_origin.proofs.sourcing.sources_into.Given as goal
 
 abbrev pub invariant-loop-number : goal.invariant-loop-number

@@ -1,8 +1,6 @@
 use Rattle.std.proofs.Common.{◌≡◌, ℕ, ◌<◌, length, get_or, sym, ◌∙◌, ap, refl, arith, set}
-use Rattle.bpf_verify_model.specs.declared.abstract_value.AbstractValue.{AbstractValue}
-use Rattle.bpf_verify_model.specs.declared.abstract_value.AbstractValue.TheVariants.{Unwritten}
-use Rattle.bpf_verify_model.specs.States.{joined_values}
-use Rattle.bpf_verify_model.proofs.MeetLaws.{met_to-none, met_to-step, met_to-end}
+use Rattle.bpf_verify_model.specs.declared.abstract_value.AbstractValue.{AbstractValue, TheVariants.{Unwritten}}
+use Rattle.bpf_verify_model.{specs.States.{joined_values}, proofs.MeetLaws.{met_to-none, met_to-step, met_to-end}}
 use Rattle.bpf_verify_values.proofs.joining.join_registers.Goals as goal
 
 pub loop-number-init : goal.loop-number-init

@@ -1,6 +1,5 @@
 use Rattle.std.proofs.Common.{◌≡◌}
-use Rattle.bpf_verify_model.specs.States.{joined_values}
-use Rattle.bpf_verify_model.proofs.MeetLaws.{met_to}
+use Rattle.bpf_verify_model.{specs.States.{joined_values}, proofs.MeetLaws.{met_to}}
 use Rattle.bpf_verify_values.proofs.joining.join_registers.Given as goal
 
 abbrev pub invariant-loop-number : goal.invariant-loop-number

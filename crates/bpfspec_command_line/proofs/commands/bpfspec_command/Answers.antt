@@ -1,5 +1,4 @@
-use Rattle.std.proofs.Common.{List, [], ◌∷◌, codes, subst, sym}
-use Rattle.std.proofs.lemmas.Result.{IfOk-weaker}
+use Rattle.std.proofs.{Common.{List, [], ◌∷◌, codes, subst, sym}, lemmas.Result.{IfOk-weaker}}
 use Rattle.clap.specs.Words.{App, new_app}
 use Rattle.bpfspec_command_line.specs.CommandLine.{AreCommands, facts_app, order_app, replay_app, run_app, verify_app}
 use Rattle.bpfspec_command_line.proofs.CommandLaws.{with_subcommands}

@@ -1,6 +1,5 @@
-use Rattle.std.proofs.Common.{ℕ, List, Result}
+use Rattle.std.{proofs.Common.{ℕ, List, Result}, specs.declared.num.ParseIntError.{ParseIntError}}
 use Rattle.std.specs.Str.Parse.{ParsesUnsigned, ExplainsUnsignedError, HasUnsignedDigitsIfOk}
-use Rattle.std.specs.declared.num.ParseIntError.{ParseIntError}
 use Rattle.clap.specs.Words.{found_of}
 use Rattle.bpfspec_command_line.proofs.CommandLaws.{number_read}
 use Rattle.bpfspec_command_line.proofs.values.number_of.Goals as goal

@@ -1,8 +1,5 @@
-use Rattle.std.proofs.Common.{rules, ◌≡◌, sym, ◌∙◌, codes, Some, None}
-use Rattle.std.specs.Prelude.{option_map}
-use Rattle.std.specs.Borrow.{Bor}
-use Rattle.clap.specs.Words.{found_of, rows_of, Text}
-use Rattle.clap.proofs.WalkLemmas.{first_value-rows}
+use Rattle.std.{proofs.Common.{rules, ◌≡◌, sym, ◌∙◌, codes, Some, None}, specs.{Prelude.{option_map}, Borrow.{Bor}}}
+use Rattle.clap.{specs.Words.{found_of, rows_of, Text}, proofs.WalkLemmas.{first_value-rows}}
 use Rattle.bpfspec_command_line.proofs.CommandLaws.{no_policy, other_policy}
 use Rattle.bpfspec_command_line.proofs.values.policy_of.Goals as goal
 

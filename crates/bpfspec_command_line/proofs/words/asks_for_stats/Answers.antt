@@ -1,6 +1,5 @@
 use Rattle.std.proofs.Common.{refl, codes}
-use Rattle.clap.specs.Words.{subcommand_rows_of}
-use Rattle.clap.specs.declared.parser.matches.ArgMatches.TheViews.{out-ArgMatches}
+use Rattle.clap.specs.{Words.{subcommand_rows_of}, declared.parser.matches.ArgMatches.TheViews.{out-ArgMatches}}
 use Rattle.bpfspec_command_line.proofs.CommandLaws.{no_stats, stats_of_run, subcommand_named}
 use Rattle.bpfspec_command_line.proofs.words.asks_for_stats.Goals as goal
 

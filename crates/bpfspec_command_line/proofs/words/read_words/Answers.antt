@@ -1,7 +1,5 @@
-use Rattle.std.proofs.Common.{inl, inr, refl, subst, List, Option, map}
-use Rattle.std.specs.Prelude.{Ok, Err}
-use Rattle.clap.specs.Words.{App, HasMatchesOf, Row, Text, fault_of}
-use Rattle.clap.specs.declared.parser.matches.ArgMatches.{ArgMatches}
+use Rattle.std.{proofs.Common.{inl, inr, refl, subst, List, Option, map}, specs.Prelude.{Ok, Err}}
+use Rattle.clap.specs.{Words.{App, HasMatchesOf, Row, Text, fault_of}, declared.parser.matches.ArgMatches.{ArgMatches}}
 use Rattle.bpfspec_command_line.specs.CommandLine.{AsksForJob, AsksForStats, bpfspec_app}
 use Rattle.bpfspec_command_line.proofs.FaultLaws.{asked, fails_of, wrong}
 use Rattle.bpfspec_command_line.proofs.words.read_words.Goals as goal

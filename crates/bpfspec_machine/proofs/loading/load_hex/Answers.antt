@@ -1,5 +1,4 @@
-use Rattle.bpfspec_machine.specs.Loading.{hex_program}
-use Rattle.bpfspec_machine.proofs.LoadLaws.{passes_program}
+use Rattle.bpfspec_machine.{specs.Loading.{hex_program}, proofs.LoadLaws.{passes_program}}
 use Rattle.bpfspec_machine.proofs.loading.load_hex.Goals as goal
 
 pub returns-in-Err : goal.returns-in-Err

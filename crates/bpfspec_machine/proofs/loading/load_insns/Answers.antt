@@ -1,6 +1,5 @@
 use Rattle.std.proofs.Common.{rules}
-use Rattle.bpfspec_machine.specs.Loading.{insns_program}
-use Rattle.bpfspec_machine.proofs.LoadLaws.{passes_program}
+use Rattle.bpfspec_machine.{specs.Loading.{insns_program}, proofs.LoadLaws.{passes_program}}
 use Rattle.bpfspec_machine.proofs.loading.load_insns.Goals as goal
 
 pub returns-in-Err : goal.returns-in-Err

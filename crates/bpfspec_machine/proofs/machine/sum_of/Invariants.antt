@@ -1,5 +1,4 @@
-use Rattle.std.proofs.Common.{◌≡◌, take}
-use Rattle.std.specs.List.{sum}
+use Rattle.std.{proofs.Common.{◌≡◌, take}, specs.List.{sum}}
 use Rattle.bpfspec_machine.proofs.machine.sum_of.Given as goal
 
 abbrev pub invariant-loop-size : goal.invariant-loop-size

@@ -1,5 +1,4 @@
-use Rattle.std.proofs.Common.{◌≡◌, ◌-◌, ◌≤◌, vec_len}
-use Rattle.std.specs.Io.KnownBytes.{Keeps, prepend_known}
+use Rattle.std.{proofs.Common.{◌≡◌, ◌-◌, ◌≤◌, vec_len}, specs.Io.KnownBytes.{Keeps, prepend_known}}
 use Rattle.bpfspec_output.proofs.reading.read_all.Given as goal
 
 -- the bytes so far and what is left are the input, and nothing failed

@@ -1,7 +1,5 @@
-use Rattle.std.proofs.Common.{◌≡◌, ◌++◌, drop}
-use Rattle.std.specs.String.{string_bytes}
-use Rattle.bpfspec_output.specs.ReportText.{loop_line}
-use Rattle.bpfspec_output.specs.ReportText.{numbered_lines}
+use Rattle.std.{proofs.Common.{◌≡◌, ◌++◌, drop}, specs.String.{string_bytes}}
+use Rattle.bpfspec_output.specs.ReportText.{loop_line, numbered_lines}
 use Rattle.bpfspec_output.proofs.report.print_loops.Given as goal
 
 abbrev pub invariant-loop-number : goal.invariant-loop-number

@@ -1,5 +1,4 @@
-use Rattle.std.proofs.Common.{◌≡◌, length}
-use Rattle.std.specs.Io.KnownBytes.{Keeps}
+use Rattle.std.{proofs.Common.{◌≡◌, length}, specs.Io.KnownBytes.{Keeps}}
 use Rattle.bpfspec_output.proofs.retrying.read_again.Given as goal
 
 abbrev pub invariant-loop : goal.invariant-loop

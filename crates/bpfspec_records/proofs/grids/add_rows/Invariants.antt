@@ -1,5 +1,4 @@
-use Rattle.std.proofs.Common.{◌≡◌, ◌++◌, drop}
-use Rattle.std.specs.List.{flat_map}
+use Rattle.std.{proofs.Common.{◌≡◌, ◌++◌, drop}, specs.List.{flat_map}}
 use Rattle.bpfspec_records.specs.Grids.{row_records}
 use Rattle.bpfspec_records.proofs.grids.add_rows.Given as goal
 

@@ -1,6 +1,5 @@
 use Rattle.std.proofs.Common.{◌≡◌, ℕ, ◌++◌, subst, arith}
-use Rattle.bpfspec_records.specs.Units.{each_below, read_record}
-use Rattle.bpfspec_records.proofs.EachLaws.{each_begun, read_next}
+use Rattle.bpfspec_records.{specs.Units.{each_below, read_record}, proofs.EachLaws.{each_begun, read_next}}
 use Rattle.bpfspec_records.proofs.known.add_reads.Goals as goal
 
 pub loop-number-init : goal.loop-number-init

@@ -1,5 +1,4 @@
-use Rattle.std.proofs.Common.{◌≡◌, ◌++◌, drop}
-use Rattle.std.specs.Prelude.{map}
+use Rattle.std.{proofs.Common.{◌≡◌, ◌++◌, drop}, specs.Prelude.{map}}
 use Rattle.bpfspec_records.specs.Loops.{pair_record}
 use Rattle.bpfspec_records.proofs.loops.add_pairs.Given as goal
 

@@ -1,6 +1,4 @@
-use Rattle.std.proofs.Common.{◌≡◌, take}
-use Rattle.std.specs.List.{flat_map}
-use Rattle.std.specs.String.{string_bytes}
+use Rattle.std.{proofs.Common.{◌≡◌, take}, specs.{List.{flat_map}, String.{string_bytes}}}
 use Rattle.bpfspec_records.specs.Printed.{printed}
 use Rattle.bpfspec_records.proofs.printing.print_records.Given as goal
 

@@ -1,6 +1,5 @@
 use Rattle.std.proofs.Common.{◌≡◌, ℕ, ◌+◌, List, refl, ap, sym, ◌∙◌, arith, Option, is_some}
-use Rattle.bpf_insn_types.specs.declared.insn.Insn.{Insn}
-use Rattle.bpf_insn_types.specs.Program.{insn_at, slot_count}
+use Rattle.bpf_insn_types.specs.{declared.insn.Insn.{Insn}, Program.{insn_at, slot_count}}
 use Rattle.bpf_insn_types.proofs.ProgramLaws.{slots_two}
 use Rattle.bpf_verify_model.specs.Accepted.{BrokenRule}
 use Rattle.bpf_verify_origin.specs.Inspected.{is_up_to}

@@ -1,6 +1,5 @@
 use Rattle.std.proofs.Common.{◌≡◌, ℕ, List, ◌+◌, ◌++◌, ◌∷◌, [], ◌∙◌, ap, sym, length, map, arith}
-use Rattle.std.proofs.lemmas.List.FromFn.{map-range_with_len_more}
-use Rattle.std.specs.List.{range_with_len}
+use Rattle.std.{proofs.lemmas.List.FromFn.{map-range_with_len_more}, specs.List.{range_with_len}}
 use Rattle.bpf_insn_types.specs.Program.{callback_starts}
 use Rattle.bpfspec_output.specs.declared.accepted.Function.{Function}
 use Rattle.bpfspec_serve.specs.Output.{function_numbered}

@@ -1,5 +1,4 @@
-use Rattle.std.proofs.Common.{◌≡◌, ◌+◌, map}
-use Rattle.std.specs.List.{range_with_len}
+use Rattle.std.{proofs.Common.{◌≡◌, ◌+◌, map}, specs.List.{range_with_len}}
 use Rattle.bpfspec_serve.specs.Output.{function_numbered}
 use Rattle.bpfspec_serve.proofs.answering.functions_of.Given as goal
 

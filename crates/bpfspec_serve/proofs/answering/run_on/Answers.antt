@@ -1,6 +1,5 @@
 use Rattle.std.proofs.Common.{List, ap, ◌∙◌}
-use Rattle.loop_core_model.specs.declared.verdict.LoopReport.{LoopReport}
-use Rattle.loop_core_model.specs.Report.{Reported}
+use Rattle.loop_core_model.specs.{declared.verdict.LoopReport.{LoopReport}, Report.{Reported}}
 use Rattle.bpfspec_output.specs.ReportText.{report_text}
 use Rattle.bpfspec_serve.proofs.OutputLaws.{report_printed}
 use Rattle.bpfspec_serve.proofs.answering.run_on.Goals as goal
@@ -8,7 +7,7 @@ use Rattle.bpfspec_serve.proofs.answering.run_on.Goals as goal
 pub returns-in-Ok : goal.returns-in-Ok
 returns-in-Ok g c =
     let ran = c.in-Ok.ensures.headline.gives in
-    let told : Reported = record {
+    let report : Reported = record {
       ret = c.in-Ok.report.ret;
       loops = c.in-Ok.report.loops.items;
       words = c.run_observed.new.maps.words;
@@ -19,7 +18,7 @@ returns-in-Ok g c =
       loops = loops;
       words = c.run_observed.new.maps.words;
     })) c.deref.ensures.value in (
-      (λ within. report_printed c.args.program.now _ told c.run_observed.new.maps.sizes _ ran.told
+      (λ within. report_printed c.args.program.now _ report c.run_observed.new.maps.sizes _ ran.gives
           (ran.kept ∙ ran.sizes) is),
       (λ outside. absurd cc (c.in-Ok.ensures.plan.1 (c.requires, outside))),
     )

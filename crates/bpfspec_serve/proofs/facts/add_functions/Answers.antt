@@ -1,8 +1,6 @@
-use Rattle.std.proofs.Common.{◌≡◌, ℕ, ◌+◌, ◌++◌, ◌∙◌, ap, length, map, arith}
-use Rattle.std.specs.List.{range_with_len}
+use Rattle.std.{proofs.Common.{◌≡◌, ℕ, ◌+◌, ◌++◌, ◌∙◌, ap, length, map, arith}, specs.List.{range_with_len}}
 use Rattle.bpf_insn_types.specs.Program.{callback_starts}
-use Rattle.bpfspec_serve.specs.Facts.{function_record}
-use Rattle.bpfspec_serve.proofs.FactLaws.{one_more}
+use Rattle.bpfspec_serve.{specs.Facts.{function_record}, proofs.FactLaws.{one_more}}
 use Rattle.bpfspec_serve.proofs.facts.add_functions.Goals as goal
 
 pub loop-number-preserved : goal.loop-number-preserved

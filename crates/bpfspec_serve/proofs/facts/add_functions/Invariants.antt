@@ -1,5 +1,4 @@
-use Rattle.std.proofs.Common.{◌≡◌, ◌++◌, map}
-use Rattle.std.specs.List.{range_with_len}
+use Rattle.std.{proofs.Common.{◌≡◌, ◌++◌, map}, specs.List.{range_with_len}}
 use Rattle.bpfspec_serve.specs.Facts.{function_record}
 use Rattle.bpfspec_serve.proofs.facts.add_functions.Given as goal
 

@@ -1,8 +1,6 @@
-use Rattle.std.proofs.Common.{rules, ◌≡◌, ◌+◌, refl, sym, ap, drop, ◌∙◌}
-use Rattle.std.proofs.lemmas.Str.{IsCharBoundary-start}
-use Rattle.bpfspec_serve.specs.Sections.{whole_lines, behind_mark}
-use Rattle.bpfspec_serve.proofs.SectionLaws.{left_behind, section_goes_on, rest_goes_on, rest_begins}
-use Rattle.bpfspec_serve.proofs.SectionLaws.{text_of_lines, line_boundary}
+use Rattle.std.proofs.{Common.{rules, ◌≡◌, ◌+◌, refl, sym, ap, drop, ◌∙◌}, lemmas.Str.{IsCharBoundary-start}}
+use Rattle.bpfspec_serve.{specs.Sections.{whole_lines, behind_mark}, proofs.SectionLaws.{line_boundary}}
+use Rattle.bpfspec_serve.proofs.SectionLaws.{left_behind, section_goes_on, rest_goes_on, rest_begins, text_of_lines}
 use Rattle.bpfspec_serve.proofs.sections.part.Goals as goal
 
 pub loop-at-init : goal.loop-at-init

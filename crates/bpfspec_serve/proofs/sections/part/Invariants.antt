@@ -1,5 +1,4 @@
-use Rattle.std.proofs.Common.{◌≡◌, ◌-◌, ◌++◌, length, take, drop}
-use Rattle.std.specs.Str.{IsCharBoundary}
+use Rattle.std.{proofs.Common.{◌≡◌, ◌-◌, ◌++◌, length, take, drop}, specs.Str.{IsCharBoundary}}
 use Rattle.bpfspec_serve.specs.Sections.{whole_lines, before_mark, behind_mark}
 use Rattle.bpfspec_serve.proofs.sections.part.Given as goal
 

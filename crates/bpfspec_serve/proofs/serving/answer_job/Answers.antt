@@ -1,9 +1,6 @@
-use Rattle.std.proofs.Common.{rules, ◌≡◌}
-use Rattle.std.proofs.lemmas.Result.{IfOk-weaker}
-use Rattle.std.specs.String.{string_bytes}
+use Rattle.std.{proofs.{Common.{rules, ◌≡◌}, lemmas.Result.{IfOk-weaker}}, specs.String.{string_bytes}}
 use Rattle.bpfspec_command_line.specs.declared.job.Job.TheVariants.{Facts, Run, Serve}
-use Rattle.bpfspec_serve.specs.Output.{ByPlan}
-use Rattle.bpfspec_serve.proofs.OutputLaws.{answers_job, told_answers}
+use Rattle.bpfspec_serve.{specs.Output.{ByPlan}, proofs.OutputLaws.{answers_job, text_answers}}
 use Rattle.bpfspec_serve.proofs.serving.answer_job.Goals as goal
 
 pub returns-in-Serve : goal.returns-in-Serve
@@ -16,8 +13,8 @@ returns-in-Run g c =
     let is : c.args.job.now ≡ Run c.in-Run.form c.in-Run.arg c.in-Run.plan = search rules in
     answers_job (Run c.in-Run.form c.in-Run.arg c.in-Run.plan) c.args.job.now _ _ is
     (IfOk-weaker c.answer_to.result _ _
-    (λ answer told. told_answers string_bytes (ByPlan c.in-Run.form c.in-Run.arg c.in-Run.plan) c.args.input.now
-    c.run_outcome-ran.result _ c.run_outcome-ran.ensures told) c.answer_to.ensures)
+    (λ answer given. text_answers string_bytes (ByPlan c.in-Run.form c.in-Run.arg c.in-Run.plan) c.args.input.now
+    c.run_outcome-ran.result _ c.run_outcome-ran.ensures given) c.answer_to.ensures)
 
 pub returns-in-Facts : goal.returns-in-Facts
 returns-in-Facts g c =

@@ -1,7 +1,6 @@
 use Rattle.std.proofs.Common.{rules, ◌≡◌, ◌∙◌, ap, sym}
 use Rattle.bpfspec_command_line.specs.declared.job.Job.TheVariants.{Facts}
-use Rattle.bpfspec_serve.specs.Answering.{memory_text}
-use Rattle.bpfspec_serve.proofs.OutputLaws.{memory_record}
+use Rattle.bpfspec_serve.{specs.Answering.{memory_text}, proofs.OutputLaws.{memory_record}}
 use Rattle.bpfspec_serve.proofs.serving.memory_text.Goals as goal
 
 pub returns-in-Facts : goal.returns-in-Facts

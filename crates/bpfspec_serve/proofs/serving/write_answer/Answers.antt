@@ -1,6 +1,5 @@
 use Rattle.std.proofs.Common.{rules, ◌≡◌, Ok, refl}
-use Rattle.bpfspec_serve.specs.Answering.{answer_of}
-use Rattle.bpfspec_serve.specs.HowServed.{Answered}
+use Rattle.bpfspec_serve.specs.{Answering.{answer_of}, HowServed.{Answered}}
 use Rattle.bpfspec_serve.proofs.OutputLaws.{gives_made, written_as}
 use Rattle.bpfspec_serve.proofs.serving.write_answer.Goals as goal
 

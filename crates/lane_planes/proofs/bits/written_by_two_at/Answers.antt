@@ -1,6 +1,5 @@
 use Rattle.std.proofs.Common.{bit_and, bit_or}
-use Rattle.lane_planes.proofs.Lanes.{combined}
-use Rattle.lane_planes.proofs.Writing.{writes_lanes}
+use Rattle.lane_planes.proofs.{Lanes.{combined}, Writing.{writes_lanes}}
 use Rattle.lane_planes.proofs.bits.written_by_two_at.Goals as goal
 
 pub returns : goal.returns

@@ -1,6 +1,5 @@
 use Rattle.std.proofs.Common.{ℕ, length, ◌-◌, ◌^◌, ◌<◌, ◌≤◌, slice_index, [], ◌∷◌}
-use Rattle.lane_planes.specs.Words.{in_some, without_reductions}
-use Rattle.lane_planes.specs.Writes.{Writes}
+use Rattle.lane_planes.specs.{Words.{in_some, without_reductions}, Writes.{Writes}}
 use Rattle.lane_planes.proofs.conflict.clear_reductions.Given as goal
 
 abbrev pub invariant-loop-at : goal.invariant-loop-at

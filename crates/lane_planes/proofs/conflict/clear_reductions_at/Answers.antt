@@ -1,8 +1,5 @@
-use Rattle.std.proofs.Common.{bit_and, bit_or, w64}
-use Rattle.std.specs.Int.{bit_not}
-use Rattle.std.proofs.lemmas.Nat.{or_lt}
-use Rattle.lane_planes.proofs.Lanes.{combined, turned}
-use Rattle.lane_planes.proofs.Writing.{writes_lanes}
+use Rattle.std.{proofs.{Common.{bit_and, bit_or, w64}, lemmas.Nat.{or_lt}}, specs.Int.{bit_not}}
+use Rattle.lane_planes.proofs.{Lanes.{combined, turned}, Writing.{writes_lanes}}
 use Rattle.lane_planes.proofs.conflict.clear_reductions_at.Goals as goal
 
 pub returns-clause-words : goal.returns-clause-words

@@ -1,7 +1,5 @@
 use Rattle.std.proofs.Common.{◌≡◌, ℕ, ◌+◌, List, slice_index, bit_and, bit_or, subst}
-use Rattle.lane_planes.specs.Writes.{HasLanes}
-use Rattle.lane_planes.proofs.Lanes.{combined}
-use Rattle.lane_planes.proofs.Writing.{writes_lanes}
+use Rattle.lane_planes.{specs.Writes.{HasLanes}, proofs.{Lanes.{combined}, Writing.{writes_lanes}}}
 use Rattle.lane_planes.proofs.conflict.lrpd_at.Goals as goal
 
 -- lanes out of a plane's slice are lanes out of the plane

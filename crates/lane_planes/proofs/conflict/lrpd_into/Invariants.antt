@@ -1,6 +1,5 @@
 use Rattle.std.proofs.Common.{length, ◌-◌, ◌≤◌}
-use Rattle.lane_planes.specs.Conflicts.{lrpd_word}
-use Rattle.lane_planes.specs.Writes.{Writes}
+use Rattle.lane_planes.specs.{Conflicts.{lrpd_word}, Writes.{Writes}}
 use Rattle.lane_planes.proofs.conflict.lrpd_into.Given as goal
 
 abbrev pub invariant-loop-at : goal.invariant-loop-at

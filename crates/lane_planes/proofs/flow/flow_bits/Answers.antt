@@ -1,6 +1,5 @@
 use Rattle.std.proofs.Common.{◌+◌, get_or}
-use Rattle.lane_planes.proofs.BitLaws.{compared}
-use Rattle.lane_planes.proofs.Lanes.{less_one}
+use Rattle.lane_planes.proofs.{BitLaws.{compared}, Lanes.{less_one}}
 use Rattle.lane_planes.proofs.flow.flow_bits.Goals as goal
 
 pub returns : goal.returns

@@ -1,6 +1,5 @@
 use Rattle.std.proofs.Common.{◌+◌, ap, add_assoc, arith}
-use Rattle.lane_planes.specs.Words.{stands_at}
-use Rattle.lane_planes.proofs.BitLaws.{bits_joined, bits_same}
+use Rattle.lane_planes.{specs.Words.{stands_at}, proofs.BitLaws.{bits_joined, bits_same}}
 use Rattle.lane_planes.proofs.flow.flow_word.Goals as goal
 
 pub loop-at-preserved : goal.loop-at-preserved

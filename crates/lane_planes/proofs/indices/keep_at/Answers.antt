@@ -1,5 +1,4 @@
-use Rattle.lane_planes.proofs.Lanes.{lesser, greater}
-use Rattle.lane_planes.proofs.Writing.{writes_lanes}
+use Rattle.lane_planes.proofs.{Lanes.{lesser, greater}, Writing.{writes_lanes}}
 use Rattle.lane_planes.proofs.indices.keep_at.Goals as goal
 
 pub returns-in-Lesser : goal.returns-in-Lesser

@@ -1,6 +1,5 @@
 use Rattle.std.proofs.Common.{◌-◌, ◌*◌, ◌≤◌, slice_index}
-use Rattle.lane_planes.specs.Kept.{kept_of}
-use Rattle.lane_planes.specs.Writes.{Writes}
+use Rattle.lane_planes.specs.{Kept.{kept_of}, Writes.{Writes}}
 use Rattle.lane_planes.proofs.indices.keep_into.Given as goal
 
 abbrev pub invariant-loop-at : goal.invariant-loop-at

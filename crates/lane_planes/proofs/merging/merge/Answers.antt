@@ -1,7 +1,6 @@
 use Rattle.std.proofs.Common.{◌≡◌, rules, subst, arith}
 use Rattle.shadow_marks.specs.Standing.{words_for}
-use Rattle.lane_planes.specs.Merged.{MergedPages}
-use Rattle.lane_planes.proofs.WholeLaws.{merges}
+use Rattle.lane_planes.{specs.Merged.{MergedPages}, proofs.WholeLaws.{merges}}
 use Rattle.lane_planes.proofs.merging.merge.Goals as goal
 
 pub returns : goal.returns

@@ -1,9 +1,7 @@
 use Rattle.std.proofs.Common.{◌≡◌, ◌*◌, ◌<◌, ◌≤◌, rules, subst, arith}
 use Rattle.shadow_marks.specs.Standing.{words_for}
-use Rattle.lane_planes.specs.Merged.{MergedPages}
-use Rattle.lane_planes.proofs.WholeLaws.{merge_keeps, merges}
+use Rattle.lane_planes.{specs.Merged.{MergedPages}, proofs.{WholeLaws.{merge_keeps, merges}, IdleLaws.{untouched_idle}}}
 use Rattle.lane_planes.proofs.PageLaws.{merged_on, merged_idle}
-use Rattle.lane_planes.proofs.IdleLaws.{untouched_idle}
 use Rattle.lane_planes.proofs.touching.merge_touched.Goals as goal
 
 pub merge_pages-requires-clause-mine : goal.merge_pages-requires-clause-mine

@@ -1,8 +1,5 @@
-use Rattle.std.proofs.Common.{false}
-use Rattle.std.proofs.Common.{◌∙◌}
-use Rattle.lane_stamps.specs.declared.kind.Kind.TheVariants.{Load}
-use Rattle.lane_stamps.specs.declared.site.Site.{Site}
-use Rattle.lane_stamps.specs.Sites.{shown}
+use Rattle.std.proofs.Common.{false, ◌∙◌}
+use Rattle.lane_stamps.specs.{declared.{kind.Kind.TheVariants.{Load}, site.Site.{Site}}, Sites.{shown}}
 use Rattle.lane_stamps.proofs.ApplyLaws.{site_applied}
 use Rattle.lane_stamps.proofs.applying.apply.Goals as goal
 

@@ -1,5 +1,5 @@
 use Rattle.std.proofs.Common.{◌≡◌, drop}
-use Rattle.loop_core_batch.specs.Effects.{words_after_site_effects}
+use Rattle.loop_core_model.specs.Effects.{words_after_site_effects}
 use Rattle.lane_stamps.specs.Sites.{log_of, shown}
 use Rattle.lane_stamps.proofs.applying.apply.Given as goal
 

@@ -1,7 +1,6 @@
 use Rattle.std.proofs.Common.{◌≡◌, ◌∙◌, ℕ, Bool, ◌+◌, slice_index, sym, ap, subst, arith}
-use Rattle.loop_core_batch.specs.Effects.{words_after_lane_effects}
-use Rattle.lane_stamps.specs.Sites.{effect_if, element_named, is_of_halves}
-use Rattle.lane_stamps.proofs.ApplyLaws.{run_more}
+use Rattle.loop_core_model.specs.Effects.{words_after_lane_effects}
+use Rattle.lane_stamps.{specs.Sites.{effect_if, element_named, is_of_halves}, proofs.ApplyLaws.{run_more}}
 use Rattle.lane_stamps.proofs.applying.apply_along.Goals as goal
 
 pub loop-lane-preserved : goal.loop-lane-preserved

@@ -1,8 +1,6 @@
-use Rattle.std.proofs.Common.{◌≡◌, ◌∙◌, ℕ, Bool, set, slice_index, sym, ap, subst, arith}
-use Rattle.std.proofs.lemmas.List.{set-get_or}
-use Rattle.loop_core_batch.specs.Effects.{words_after_lane_effects}
-use Rattle.lane_stamps.specs.Sites.{effect_if, element_named, is_of_halves}
-use Rattle.lane_stamps.proofs.ApplyLaws.{one_more}
+use Rattle.std.proofs.{Common.{◌≡◌, ◌∙◌, ℕ, Bool, set, slice_index, sym, ap, subst, arith}, lemmas.List.{set-get_or}}
+use Rattle.loop_core_model.specs.Effects.{words_after_lane_effects}
+use Rattle.lane_stamps.{specs.Sites.{effect_if, element_named, is_of_halves}, proofs.ApplyLaws.{one_more}}
 use Rattle.lane_stamps.proofs.applying.apply_at_one.Goals as goal
 
 pub loop-lane-init : goal.loop-lane-init

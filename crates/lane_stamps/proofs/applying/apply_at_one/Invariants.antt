@@ -1,8 +1,7 @@
 use Rattle.std.proofs.Common.{◌≡◌, slice_index, set}
-use Rattle.loop_core_batch.specs.Effects.{words_after_lane_effects}
+use Rattle.loop_core_model.specs.Effects.{words_after_lane_effects}
 use Rattle.lane_rows.specs.declared.places.Places.{Places}
-use Rattle.lane_stamps.specs.Forms.{IsPlace}
-use Rattle.lane_stamps.specs.Sites.{effect_if}
+use Rattle.lane_stamps.specs.{Forms.{IsPlace}, Sites.{effect_if}}
 use Rattle.lane_stamps.proofs.applying.apply_at_one.Given as goal
 
 abbrev pub invariant-loop-lane : goal.invariant-loop-lane

@@ -1,6 +1,5 @@
 use Rattle.std.proofs.Common.{slice_index, arith}
-use Rattle.lane_stamps.specs.Sites.{is_of_halves}
-use Rattle.lane_stamps.proofs.ApplyLaws.{is_pair, pair_more}
+use Rattle.lane_stamps.{specs.Sites.{is_of_halves}, proofs.ApplyLaws.{is_pair, pair_more}}
 use Rattle.lane_stamps.proofs.applying.apply_halves.Goals as goal
 
 pub loop-k-preserved : goal.loop-k-preserved

@@ -1,5 +1,5 @@
 use Rattle.std.proofs.Common.{◌≡◌, ◌*◌, slice_index}
-use Rattle.loop_core_batch.specs.Effects.{words_after_lane_effects}
+use Rattle.loop_core_model.specs.Effects.{words_after_lane_effects}
 use Rattle.lane_stamps.specs.Sites.{effect_if}
 use Rattle.lane_stamps.proofs.applying.apply_halves.Given as goal
 

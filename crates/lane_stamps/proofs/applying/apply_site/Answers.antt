@@ -1,9 +1,6 @@
-use Rattle.std.proofs.Common.{◌∙◌, sym, ap, slice_index, arith}
-use Rattle.std.specs.Prelude.{Option}
-use Rattle.lane_rows.specs.declared.line.Line.{Line}
-use Rattle.lane_rows.specs.Rows.{word_by}
-use Rattle.lane_stamps.specs.Sites.{mask_of, places_of, shown, value_of, values_of}
-use Rattle.lane_stamps.proofs.ApplyLaws.{same_values}
+use Rattle.std.{proofs.Common.{◌∙◌, sym, ap, slice_index, arith}, specs.Prelude.{Option}}
+use Rattle.lane_rows.specs.{declared.line.Line.{Line}, Rows.{word_by}}
+use Rattle.lane_stamps.{specs.Sites.{mask_of, places_of, shown, value_of, values_of}, proofs.ApplyLaws.{same_values}}
 use Rattle.lane_stamps.proofs.KeepLaws.{site_keeps}
 use Rattle.lane_stamps.proofs.applying.apply_site.Goals as goal
 

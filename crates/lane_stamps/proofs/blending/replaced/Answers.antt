@@ -1,6 +1,5 @@
 use Rattle.std.proofs.Common.{◌%◌, ◌∙◌, sym, arith}
-use Rattle.lane_stamps.specs.Sites.{half_named}
-use Rattle.lane_stamps.proofs.BlendLaws.{blended, half_counts}
+use Rattle.lane_stamps.{specs.Sites.{half_named}, proofs.BlendLaws.{blended, half_counts}}
 use Rattle.lane_stamps.proofs.blending.replaced.Goals as goal
 
 pub returns-clause-whole : goal.returns-clause-whole

@@ -1,7 +1,5 @@
 use Rattle.std.proofs.Common.{◌≡◌, true}
-use Rattle.lane_stamps.specs.declared.site.Site.{Site}
-use Rattle.lane_stamps.specs.Sites.{shown}
-use Rattle.lane_stamps.specs.Marks.{EachThere, IsPlain}
+use Rattle.lane_stamps.specs.{declared.site.Site.{Site}, Sites.{shown}, Marks.{EachThere, IsPlain}}
 use Rattle.lane_stamps.proofs.StampSteps.{sites_more}
 use Rattle.lane_stamps.proofs.covering.are_loaded.Goals as goal
 

@@ -1,7 +1,5 @@
 use Rattle.std.proofs.Common.{◌≡◌, ℕ, ◌<◌, true, slice_index_or}
-use Rattle.lane_stamps.specs.declared.site.Site.{Site}
-use Rattle.lane_stamps.specs.Sites.{shown}
-use Rattle.lane_stamps.specs.Marks.{EachThere, IsPlain}
+use Rattle.lane_stamps.specs.{declared.site.Site.{Site}, Sites.{shown}, Marks.{EachThere, IsPlain}}
 use Rattle.lane_stamps.proofs.covering.are_loaded.Given as goal
 
 abbrev pub invariant-loop-site : goal.invariant-loop-site

@@ -1,8 +1,5 @@
-use Rattle.std.proofs.Common.{subst}
-use Rattle.std.proofs.lemmas.List.{get_or_default}
-use Rattle.lane_stamps.specs.declared.site.Site.{Site}
-use Rattle.lane_stamps.specs.Sites.{shown}
-use Rattle.lane_stamps.specs.Marks.{IsLoadedBy}
+use Rattle.std.proofs.{Common.{subst}, lemmas.List.{get_or_default}}
+use Rattle.lane_stamps.specs.{declared.site.Site.{Site}, Sites.{shown}, Marks.{IsLoadedBy}}
 use Rattle.lane_stamps.proofs.covering.is_loaded.Goals as goal
 
 pub returns-then-is_loaded_by : goal.returns-then-is_loaded_by

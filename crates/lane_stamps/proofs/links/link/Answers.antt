@@ -1,8 +1,5 @@
-use Rattle.std.proofs.Common.{false}
-use Rattle.std.proofs.Common.{◌<◌, length, arith}
-use Rattle.std.proofs.lemmas.List.{length-set}
-use Rattle.lane_stamps.specs.declared.kind.Kind.TheVariants.{Load}
-use Rattle.lane_stamps.specs.declared.site.Site.{Site}
+use Rattle.std.proofs.{Common.{false, ◌<◌, length, arith}, lemmas.List.{length-set}}
+use Rattle.lane_stamps.specs.declared.{kind.Kind.TheVariants.{Load}, site.Site.{Site}}
 use Rattle.lane_stamps.proofs.LinkLaws.{link_end, linked_end, link_more, linked_more}
 use Rattle.lane_stamps.proofs.links.link.Goals as goal
 

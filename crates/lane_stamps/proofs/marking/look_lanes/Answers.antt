@@ -1,7 +1,6 @@
 use Rattle.std.proofs.Common.{◌≡◌, ℕ, ◌≤◌, true, below_more, subst, arith}
 use Rattle.lane_rows.specs.Rows.{is_in, place_at}
-use Rattle.lane_stamps.specs.Stamps.{stamp_at}
-use Rattle.lane_stamps.specs.Marks.{FindsGreater, half_for, mark_at}
+use Rattle.lane_stamps.specs.{Stamps.{stamp_at}, Marks.{FindsGreater, half_for, mark_at}}
 use Rattle.lane_stamps.proofs.marking.look_lanes.Goals as goal
 
 pub loop-lane-preserved : goal.loop-lane-preserved

@@ -1,8 +1,5 @@
-use Rattle.std.proofs.Common.{false}
-use Rattle.std.proofs.Common.{ℕ, ◌<◌, length, slice_index_or, subst, arith}
-use Rattle.lane_stamps.specs.declared.kind.Kind.TheVariants.{Load}
-use Rattle.lane_stamps.specs.declared.site.Site.{Site}
-use Rattle.lane_stamps.specs.Sites.{shown}
+use Rattle.std.proofs.Common.{false, ℕ, ◌<◌, length, slice_index_or, subst, arith}
+use Rattle.lane_stamps.specs.{declared.{kind.Kind.TheVariants.{Load}, site.Site.{Site}}, Sites.{shown}}
 use Rattle.lane_stamps.specs.Marks.{LoadsGreaterAt, LoadsNoGreater, mark_at, top_at}
 use Rattle.lane_stamps.proofs.MarkLaws.{each_more, greater_more}
 use Rattle.lane_stamps.proofs.marking.look_sites.Goals as goal

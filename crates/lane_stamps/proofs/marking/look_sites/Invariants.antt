@@ -1,6 +1,5 @@
 use Rattle.std.proofs.Common.{◌<◌, ◌≤◌}
-use Rattle.lane_stamps.specs.Sites.{shown}
-use Rattle.lane_stamps.specs.Marks.{LoadNoGreater, LoadsGreater}
+use Rattle.lane_stamps.specs.{Sites.{shown}, Marks.{LoadNoGreater, LoadsGreater}}
 use Rattle.lane_stamps.proofs.marking.look_sites.Given as goal
 
 abbrev pub invariant-loop-at : goal.invariant-loop-at

@@ -1,8 +1,6 @@
 use Rattle.std.proofs.Common.{◌≡◌, ℕ, ◌≤◌, true, inl, refl, below_more, arith}
 use Rattle.lane_rows.specs.Rows.{is_in, place_at}
-use Rattle.lane_stamps.specs.Stamps.{stamp_at}
-use Rattle.lane_stamps.specs.Marks.{half_for, mark_at}
-use Rattle.lane_stamps.proofs.MarkLaws.{marks_more}
+use Rattle.lane_stamps.{specs.{Stamps.{stamp_at}, Marks.{half_for, mark_at}}, proofs.MarkLaws.{marks_more}}
 use Rattle.lane_stamps.proofs.StampSteps.{rises_at}
 use Rattle.lane_stamps.proofs.marking.mark_lanes.Goals as goal
 

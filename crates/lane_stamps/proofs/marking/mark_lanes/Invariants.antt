@@ -1,5 +1,4 @@
-use Rattle.lane_stamps.specs.Stamps.{Rises}
-use Rattle.lane_stamps.specs.Marks.{AreMarked, MarksOnly}
+use Rattle.lane_stamps.specs.{Stamps.{Rises}, Marks.{AreMarked, MarksOnly}}
 use Rattle.lane_stamps.proofs.marking.mark_lanes.Given as goal
 
 abbrev pub invariant-loop-lane : goal.invariant-loop-lane

@@ -1,11 +1,7 @@
-use Rattle.std.proofs.Common.{false}
-use Rattle.std.proofs.Common.{ℕ, ◌<◌, length, slice_index_or, subst, arith}
+use Rattle.std.proofs.Common.{false, ℕ, ◌<◌, length, slice_index_or, subst, arith}
 use Rattle.lane_rows.specs.Rows.{place_at}
-use Rattle.lane_stamps.specs.declared.kind.Kind.TheVariants.{Load}
-use Rattle.lane_stamps.specs.declared.site.Site.{Site}
-use Rattle.lane_stamps.specs.Sites.{places_of, shown}
-use Rattle.lane_stamps.specs.Marks.{LeavesMarks, MarksAt, half_for, top_at}
-use Rattle.lane_stamps.proofs.MarkLaws.{each_more, known_marks}
+use Rattle.lane_stamps.specs.{declared.{kind.Kind.TheVariants.{Load}, site.Site.{Site}}, Sites.{places_of, shown}}
+use Rattle.lane_stamps.{specs.Marks.{LeavesMarks, MarksAt, half_for, top_at}, proofs.MarkLaws.{each_more, known_marks}}
 use Rattle.lane_stamps.proofs.StampSteps.{rises_at}
 use Rattle.lane_stamps.proofs.marking.mark_sites.Goals as goal
 

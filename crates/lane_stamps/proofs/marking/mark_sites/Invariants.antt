@@ -1,6 +1,4 @@
-use Rattle.lane_stamps.specs.Sites.{shown}
-use Rattle.lane_stamps.specs.Stamps.{AreStale}
-use Rattle.lane_stamps.specs.Marks.{AreMarks, LeaveMarks}
+use Rattle.lane_stamps.specs.{Sites.{shown}, Stamps.{AreStale}, Marks.{AreMarks, LeaveMarks}}
 use Rattle.lane_stamps.proofs.marking.mark_sites.Given as goal
 
 abbrev pub invariant-loop-at : goal.invariant-loop-at

@@ -1,11 +1,6 @@
-use Rattle.std.proofs.Common.{false}
-use Rattle.std.proofs.Common.{◌+◌, ◌∙◌, List, ap, sym, subst, slice_index_or, arith}
-use Rattle.lane_stamps.specs.declared.kind.Kind.{Kind}
-use Rattle.lane_stamps.specs.declared.kind.Kind.TheVariants.{Load}
-use Rattle.lane_stamps.specs.declared.site.Site.{Site}
-use Rattle.lane_stamps.specs.Sites.{unranked}
-use Rattle.lane_stamps.specs.Stamps.{last_kind}
-use Rattle.lane_stamps.proofs.RankLaws.{RankedTo, ranked_more, same_but_rank, same_log}
+use Rattle.std.proofs.Common.{false, ◌+◌, ◌∙◌, List, ap, sym, subst, slice_index_or, arith}
+use Rattle.lane_stamps.specs.{declared.{kind.Kind.{Kind, TheVariants.{Load}}, site.Site.{Site}}, Sites.{unranked}}
+use Rattle.lane_stamps.{specs.Stamps.{last_kind}, proofs.RankLaws.{RankedTo, ranked_more, same_but_rank, same_log}}
 use Rattle.lane_stamps.proofs.ranking.rank_sites.Goals as goal
 
 pub loop-at-preserved : goal.loop-at-preserved

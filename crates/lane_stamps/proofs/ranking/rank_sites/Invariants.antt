@@ -1,6 +1,5 @@
 use Rattle.std.proofs.Common.{◌≡◌, ◌+◌, ◌<◌, ◌≤◌}
-use Rattle.lane_stamps.specs.Sites.{unranked}
-use Rattle.lane_stamps.proofs.RankLaws.{RankedTo}
+use Rattle.lane_stamps.{specs.Sites.{unranked}, proofs.RankLaws.{RankedTo}}
 use Rattle.lane_stamps.proofs.ranking.rank_sites.Given as goal
 
 abbrev pub invariant-loop-at : goal.invariant-loop-at

@@ -1,8 +1,5 @@
-use Rattle.std.proofs.Common.{ℕ, refl, below_more, arith, slice_index_or}
-use Rattle.std.specs.List.{All}
-use Rattle.lane_stamps.specs.Sites.{shown}
-use Rattle.lane_stamps.specs.Stamps.{WatchedStamped}
-use Rattle.lane_stamps.proofs.StampSteps.{watched_after, unmet_more}
+use Rattle.std.{proofs.Common.{ℕ, refl, below_more, arith, slice_index_or}, specs.List.{All}}
+use Rattle.lane_stamps.{specs.{Sites.{shown}, Stamps.{WatchedStamped}}, proofs.StampSteps.{watched_after, unmet_more}}
 use Rattle.lane_stamps.proofs.stamping.count_unmet.Goals as goal
 
 pub loop-lane-preserved : goal.loop-lane-preserved

@@ -1,5 +1,4 @@
-use Rattle.std.proofs.Common.{ℕ, ◌<◌}
-use Rattle.std.specs.List.{All, AllPairs}
+use Rattle.std.{proofs.Common.{ℕ, ◌<◌}, specs.List.{All, AllPairs}}
 use Rattle.lane_stamps.specs.Sites.{shown}
 use Rattle.lane_stamps.specs.Stamps.{AreKnown, AreStale, StayStale, WatchedOwn, WatchedStamped, WatchedUnmet}
 use Rattle.lane_stamps.proofs.stamping.count_unmet.Given as goal

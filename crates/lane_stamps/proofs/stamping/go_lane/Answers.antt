@@ -1,12 +1,8 @@
-use Rattle.std.proofs.Common.{false}
-use Rattle.std.proofs.Common.{ℕ, ◌+◌, ◌<◌, slice_index, slice_index_or, arith, refl, length, subst}
-use Rattle.lane_stamps.specs.declared.site.Site.{Site}
-use Rattle.lane_stamps.specs.declared.kind.Kind.TheVariants.{Load}
-use Rattle.lane_stamps.specs.Sites.{shown}
+use Rattle.std.proofs.Common.{false, ℕ, ◌+◌, ◌<◌, slice_index, slice_index_or, arith, refl, length, subst}
+use Rattle.lane_stamps.specs.{declared.{site.Site.{Site}, kind.Kind.TheVariants.{Load}}, Sites.{shown}}
 use Rattle.lane_stamps.specs.Stamps.{AreFree, AreStamped, IsLink, LoadsNoOwn, Meets, WatchedFree, WatchedOwn}
-use Rattle.lane_stamps.specs.Stamps.{WatchedStamped}
+use Rattle.lane_stamps.{specs.Stamps.{WatchedStamped}, proofs.LinkLaws.{known_later, skipped, skipped_pairs}}
 use Rattle.lane_stamps.proofs.KnownSteps.{known_more, known_meets, known_next, stale_more}
-use Rattle.lane_stamps.proofs.LinkLaws.{known_later, skipped, skipped_pairs}
 use Rattle.lane_stamps.proofs.StampSteps.{sites_more, pairs_more, watched_before, watched_after, watched_own}
 use Rattle.lane_stamps.proofs.stamping.go_lane.Goals as goal
 

@@ -1,6 +1,5 @@
 use Rattle.std.proofs.Common.{ℕ, ◌-◌, ◌<◌, ◌≤◌, length, slice_index_or}
-use Rattle.lane_stamps.specs.declared.site.Site.{Site}
-use Rattle.lane_stamps.specs.Sites.{shown}
+use Rattle.lane_stamps.specs.{declared.site.Site.{Site}, Sites.{shown}}
 use Rattle.lane_stamps.specs.Stamps.{AreKnown, Rises, StayStale, WatchedFree, WatchedOwn, WatchedStamped}
 use Rattle.lane_stamps.proofs.stamping.go_lane.Given as goal
 

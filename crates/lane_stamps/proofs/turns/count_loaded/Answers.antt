@@ -1,9 +1,5 @@
-use Rattle.std.proofs.Common.{false}
-use Rattle.std.proofs.Common.{ℕ, subst}
-use Rattle.lane_stamps.specs.declared.kind.Kind.TheVariants.{Load}
-use Rattle.lane_stamps.specs.declared.site.Site.{Site}
-use Rattle.lane_stamps.specs.Sites.{shown}
-use Rattle.lane_stamps.specs.Stamps.{Meets}
+use Rattle.std.proofs.Common.{false, ℕ, subst}
+use Rattle.lane_stamps.specs.{declared.{kind.Kind.TheVariants.{Load}, site.Site.{Site}}, Sites.{shown}, Stamps.{Meets}}
 use Rattle.lane_stamps.proofs.MarkLaws.{loaded_meets, loaded_own, loaded_unmet, marks_stale}
 use Rattle.lane_stamps.proofs.turns.count_loaded.Goals as goal
 

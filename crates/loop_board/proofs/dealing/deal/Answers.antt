@@ -1,7 +1,6 @@
 use Rattle.std.proofs.Common.{◌≡◌, ℕ, ◌+◌, ◌-◌, ◌<◌, sym, ap, subst, arith}
 use Rattle.atomic_table.specs.Table.{Me}
-use Rattle.loop_board.specs.declared.view.SeatView.{SeatView}
-use Rattle.loop_board.proofs.Parting.{deals}
+use Rattle.loop_board.{specs.declared.view.SeatView.{SeatView}, proofs.Parting.{deals}}
 use Rattle.loop_board.proofs.dealing.deal.Goals as goal
 
 pub split_seat-seat-requires : goal.split_seat-seat-requires

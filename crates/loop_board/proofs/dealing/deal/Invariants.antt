@@ -1,6 +1,5 @@
 use Rattle.std.proofs.Common.{◌≡◌, ◌+◌, ◌-◌, ◌≤◌, [], replicate, vec_len, vec_capacity}
-use Rattle.loop_board.specs.Rule.{opening_view, board_id_of}
-use Rattle.loop_board.specs.Seats.{new_seat}
+use Rattle.loop_board.specs.{Rule.{opening_view, board_id_of}, Seats.{new_seat}}
 use Rattle.loop_board.proofs.dealing.deal.Given as goal
 
 abbrev pub invariant-loop-dealt : goal.invariant-loop-dealt

@@ -1,6 +1,5 @@
 use Rattle.std.proofs.Common.{◌≡◌, ℕ, min, ◌∙◌, ap, sym, subst}
-use Rattle.loop_board.specs.Whole.{IsTally}
-use Rattle.loop_board.proofs.Wholes.{closes}
+use Rattle.loop_board.{specs.Whole.{IsTally}, proofs.Wholes.{closes}}
 use Rattle.loop_board.proofs.gathering.close.Goals as goal
 
 pub returns : goal.returns

@@ -1,7 +1,6 @@
 use Rattle.std.proofs.Common.{ℕ, ◌<◌, sym, subst, arith}
 use Rattle.atomic_table.specs.Seated.{TableId}
-use Rattle.loop_board.proofs.Parting.{takes_in}
-use Rattle.loop_board.proofs.Wholes.{Joined, same_table, goes_on}
+use Rattle.loop_board.proofs.{Parting.{takes_in}, Wholes.{Joined, same_table, goes_on}}
 use Rattle.loop_board.proofs.gathering.join.Goals as goal
 
 pub join_seat-requires : goal.join_seat-requires

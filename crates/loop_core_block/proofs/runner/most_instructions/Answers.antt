@@ -1,5 +1,4 @@
-use Rattle.std.proofs.Common.{◌≡◌, ℕ, inl, inr, sym, ap, ◌∙◌, arith}
-use Rattle.std.proofs.lemmas.Bool.{cases_eq, cases_lt}
+use Rattle.std.proofs.{Common.{◌≡◌, ℕ, inl, inr, sym, ap, ◌∙◌, arith}, lemmas.Bool.{cases_eq, cases_lt}}
 use Rattle.bpf_verify_model.specs.Count.{function_start}
 use Rattle.bpf_step.proofs.Limits.{few_steps}
 use Rattle.loop_core_block.proofs.MostLaws.{count_is, counts_same}

@@ -1,31 +1,26 @@
 use Rattle.std.proofs.Common.{◌≡◌, ◌≤◌, ◌++◌, ℕ, List, map, length, take, drop, Some, sym, ◌∙◌, ap, subst, arith}
-use Rattle.loop_core_model.specs.LeastBreak.{count_to}
-use Rattle.loop_core_model.specs.Planes.{plane_verdict}
+use Rattle.loop_core_model.specs.{LeastBreak.{count_to}, Planes.{plane_verdict}}
 use Rattle.private_copy.specs.Copies.{PrivateCopy}
-use Rattle.loop_core_block.specs.declared.block.Block.{Block as Held}
-use Rattle.loop_core_block.specs.Blocks.{BlockOf}
-use Rattle.loop_core_block.specs.Shown.{shown}
-use Rattle.loop_core_gather.specs.Gathered.{HasOutcome}
-use Rattle.loop_core_gather.specs.Held.{told_of, HaveCopiesOf, GatheredOf}
-use Rattle.loop_core_gather.proofs.CopyLaws.{taken, words_same, held_same}
-use Rattle.loop_core_gather.proofs.GatheringLaws.{faulty, faultless, places_at, same_stand}
-use Rattle.loop_core_gather.proofs.GatheringLaws.{answer_fits, are_held, all_tell}
+use Rattle.loop_core_block.specs.{declared.block.Block.{Block as Held}, Blocks.{BlockOf}, Shown.{shown}}
+use Rattle.loop_core_gather.specs.{Gathered.{HasOutcome}, Held.{summary_of_block, HaveCopiesOf, GatheredOf}}
+use Rattle.loop_core_gather.proofs.{CopyLaws.{taken, words_same, held_same}, GatheringLaws.{all_tell}}
+use Rattle.loop_core_gather.proofs.GatheringLaws.{faulty, faultless, places_at, same_stand, answer_fits, are_held}
 use Rattle.loop_core_gather.proofs.gathering.gather.Goals.{In-Ok, In_ok-planes}
 use Rattle.loop_core_gather.proofs.gathering.gather.Goals as goal
 
 pub returns-in-Err-clause-fault : goal.returns-in-Err-clause-fault
 returns-in-Err-clause-fault c fault is =
-    let made = c.deref-2.ensures.value ∙ c.in_ok-summaries.ensures ∙ ap (λ (bs : List Held). map told_of (map shown bs))
-    c.deref.ensures.value in
+    let made = c.deref-2.ensures.value ∙ c.in_ok-summaries.ensures ∙ ap (λ (bs : List Held).
+    map summary_of_block (map shown bs)) c.deref.ensures.value in
     let same : c.in-Err.fault ≡ fault = cc in
     faulty c.args.test c.args.program.now c.args.call.now c.args.start.now.words c.args.split.now c.args.blocks.items
     c.deref-2.result.now c.requires.ran made c.in-Err.fault c.in-Err.ensures.fault
     ∙ ap Some same
 
--- what is asked is what the blocks tell
-made : (c : In-Ok) → c.deref-2.result.now ≡ map told_of (map shown c.args.blocks.items)
-made c = c.deref-2.ensures.value ∙ c.in_ok-summaries.ensures ∙ ap (λ (bs : List Held). map told_of (map shown bs))
-    c.deref.ensures.value
+-- the summaries are those of the blocks
+made : (c : In-Ok) → c.deref-2.result.now ≡ map summary_of_block (map shown c.args.blocks.items)
+made c = c.deref-2.ensures.value ∙ c.in_ok-summaries.ensures ∙ ap (λ (bs : List Held).
+    map summary_of_block (map shown bs)) c.deref.ensures.value
 
 pub planes_in_one-requires-clause-places : goal.planes_in_one-requires-clause-places
 planes_in_one-requires-clause-places c =
@@ -88,9 +83,9 @@ returns-clause-faultless c =
     c.deref-2.result.now c.requires.ran (made (goal.at.returns-clause-faultless c).In-Ok) c.in-Ok.counting.least
     c.in-Ok.counting.places.items c.requires.split c.in-Ok.ensures.counts
 
-pub returns-clause-told : goal.returns-clause-told
-returns-clause-told c =
-    let at = goal.at.returns-clause-told c in
+pub returns-clause-outcome : goal.returns-clause-outcome
+returns-clause-outcome c =
+    let at = goal.at.returns-clause-outcome c in
     let places = c.in-Ok.counting.places.items in
     let start = c.words-words.result.now in
     let stand =

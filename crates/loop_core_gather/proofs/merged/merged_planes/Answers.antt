@@ -1,11 +1,8 @@
 use Rattle.std.proofs.Common.{◌<◌, ◌≤◌, map, length, get_or, sym, subst, arith}
-use Rattle.shadow_marks.specs.declared.planes.Planes.{Planes}
-use Rattle.shadow_marks.specs.Standing.{StandFor}
+use Rattle.shadow_marks.specs.{declared.planes.Planes.{Planes}, Standing.{StandFor}}
 use Rattle.lane_planes.specs.Merged.{StandForSome}
-use Rattle.loop_core_block.specs.declared.block.Block.{Block as Held}
-use Rattle.loop_core_block.specs.Shown.{shown}
-use Rattle.loop_core_gather.proofs.ChoiceLaws.{chosen_next, all_at}
-use Rattle.loop_core_gather.proofs.MergingLaws.{merged_next, merged_all}
+use Rattle.loop_core_block.specs.{declared.block.Block.{Block as Held}, Shown.{shown}}
+use Rattle.loop_core_gather.proofs.{ChoiceLaws.{chosen_next, all_at}, MergingLaws.{merged_next, merged_all}}
 use Rattle.loop_core_gather.proofs.merged.merged_planes.Goals as goal
 
 pub loop-place-preserved : goal.loop-place-preserved

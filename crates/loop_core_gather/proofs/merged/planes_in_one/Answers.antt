@@ -1,9 +1,6 @@
-use Rattle.std.proofs.Common.{◌≡◌, ◌<◌, length, get_or, sym, ◌∙◌, ap, subst, arith}
-use Rattle.std.proofs.lemmas.List.{get_or_default}
-use Rattle.loop_core_block.specs.declared.block.Block.{Block as Held}
-use Rattle.loop_core_block.specs.Shown.{shown}
-use Rattle.loop_core_gather.specs.Held.{HavePlanes}
-use Rattle.loop_core_gather.proofs.CopyLaws.{copies_set, one_in_one}
+use Rattle.std.proofs.{Common.{◌≡◌, ◌<◌, length, get_or, sym, ◌∙◌, ap, subst, arith}, lemmas.List.{get_or_default}}
+use Rattle.loop_core_block.specs.{declared.block.Block.{Block as Held}, Shown.{shown}}
+use Rattle.loop_core_gather.{specs.Held.{HavePlanes}, proofs.CopyLaws.{copies_set, one_in_one}}
 use Rattle.loop_core_gather.proofs.merged.planes_in_one.Goals as goal
 
 pub returns-then-places-eq1-clause-in_one : goal.returns-then-places-eq1-clause-in_one

@@ -1,5 +1,4 @@
-use Rattle.std.proofs.Common.{◌≡◌, ℕ, ◌<◌, List, length, ◌∙◌, arith}
-use Rattle.std.proofs.lemmas.List.{get_or_default}
+use Rattle.std.proofs.{Common.{◌≡◌, ℕ, ◌<◌, List, length, ◌∙◌, arith}, lemmas.List.{get_or_default}}
 use Rattle.array_maps.specs.declared.access.Op.TheVariants.{Add, Or, And, Xor, AddH}
 use Rattle.loop_core_gather.proofs.PageLaws.{none_reduced}
 use Rattle.loop_core_gather.proofs.merged.reduced_in_page.Goals as goal

@@ -1,6 +1,4 @@
-use Rattle.std.proofs.Common.{◌≡◌, drop}
-use Rattle.std.specs.Prelude.{◌==◌}
-use Rattle.std.specs.List.{list_any}
+use Rattle.std.{proofs.Common.{◌≡◌, drop}, specs.{Prelude.{◌==◌}, List.{list_any}}}
 use Rattle.loop_core_gather.proofs.order.has_number.Given as goal
 
 -- it isn't before

@@ -1,6 +1,4 @@
-use Rattle.std.proofs.Common.{◌≡◌, drop}
-use Rattle.std.specs.Prelude.{◌==◌}
-use Rattle.std.specs.List.{position_from}
+use Rattle.std.{proofs.Common.{◌≡◌, drop}, specs.{Prelude.{◌==◌}, List.{position_from}}}
 use Rattle.loop_core_gather.proofs.order.place_of.Given as goal
 
 -- it isn't before

@@ -1,5 +1,4 @@
-use Rattle.std.proofs.Common.{◌≡◌, ℕ, ◌+◌, ◌*◌, ◌<◌, length}
-use Rattle.std.specs.Prelude.{slice_index}
+use Rattle.std.{proofs.Common.{◌≡◌, ℕ, ◌+◌, ◌*◌, ◌<◌, length}, specs.Prelude.{slice_index}}
 use Rattle.loop_core_gather.proofs.pages.whole_page.Given as goal
 
 abbrev pub invariant-loop-k : goal.invariant-loop-k

@@ -1,7 +1,5 @@
-use Rattle.std.proofs.Common.{List, ℕ, ◌∙◌, sym, ap, subst}
-use Rattle.std.specs.List.{AllZip}
-use Rattle.rayon.proofs.ListFacts.{IfOk-then}
-use Rattle.rayon.proofs.ToStd.{slice-AllZip}
+use Rattle.std.{proofs.Common.{List, ℕ, ◌∙◌, sym, ap, subst}, specs.List.{AllZip}}
+use Rattle.rayon.proofs.{ListFacts.{IfOk-then}, ToStd.{slice-AllZip}}
 use Rattle.loop_core_gather.specs.Pages.{IsLeftAt}
 use Rattle.loop_core_gather.proofs.sharing.left_in_threads.Goals as goal
 

@@ -1,5 +1,4 @@
-use Rattle.std.proofs.Common.{take}
-use Rattle.std.specs.List.{AllZip}
+use Rattle.std.{proofs.Common.{take}, specs.List.{AllZip}}
 use Rattle.loop_core_gather.specs.Pages.{IsLeftAt}
 use Rattle.loop_core_gather.proofs.sharing.left_in_turn.Given as goal
 

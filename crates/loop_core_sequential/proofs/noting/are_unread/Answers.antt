@@ -1,8 +1,7 @@
 use Rattle.std.proofs.lemmas.List.Elements.{All-more}
 use Rattle.lane_stamps.specs.Sites.{shown}
 use Rattle.loop_core_undo.specs.Undo.{is_written}
-use Rattle.loop_core_sequential.specs.Watched.{IsUnread}
-use Rattle.loop_core_sequential.proofs.NotingLaws.{all_taken}
+use Rattle.loop_core_sequential.{specs.Watched.{IsUnread}, proofs.NotingLaws.{all_taken}}
 use Rattle.loop_core_sequential.proofs.noting.are_unread.Goals as goal
 
 pub loop-site-preserved : goal.loop-site-preserved

@@ -1,6 +1,5 @@
 use Rattle.std.proofs.Common.{ℕ, sym, subst, ◌∙◌, arith}
-use Rattle.loop_core_sequential.specs.Noting.{LanesNoted}
-use Rattle.loop_core_sequential.proofs.NotingLaws.{none_noted, one_noted}
+use Rattle.loop_core_sequential.{specs.Noting.{LanesNoted}, proofs.NotingLaws.{none_noted, one_noted}}
 use Rattle.loop_core_sequential.proofs.noting.note_each.Goals as goal
 
 pub loop-lane-init : goal.loop-lane-init

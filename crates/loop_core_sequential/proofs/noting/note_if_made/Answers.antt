@@ -1,8 +1,7 @@
 use Rattle.std.proofs.Common.{ap, ◌∙◌}
 use Rattle.lane_rows.specs.Rows.{is_in}
 use Rattle.lane_stamps.specs.Sites.{element_named}
-use Rattle.loop_core_sequential.specs.Watched.{element_at}
-use Rattle.loop_core_sequential.proofs.NotingLaws.{marks_if, marks_none}
+use Rattle.loop_core_sequential.{specs.Watched.{element_at}, proofs.NotingLaws.{marks_if, marks_none}}
 use Rattle.loop_core_sequential.proofs.noting.note_if_made.Goals as goal
 
 pub returns-then-has : goal.returns-then-has

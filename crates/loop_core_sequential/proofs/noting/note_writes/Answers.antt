@@ -1,8 +1,8 @@
 use Rattle.std.proofs.Common.{◌+◌, sym, subst, ◌∙◌}
 use Rattle.lane_stamps.specs.Sites.{shown}
 use Rattle.loop_core_sequential.proofs.NotingLaws.{NotedUpTo, all_marked, none_marked, noted_none, noted_site}
-use Rattle.loop_core_sequential.proofs.noting.note_writes.Goals as goal
 use Rattle.loop_core_sequential.proofs.noting.note_writes.Goals.{then-leaves, else-leaves}
+use Rattle.loop_core_sequential.proofs.noting.note_writes.Goals as goal
 
 pub loop-site-init : goal.loop-site-init
 loop-site-init c = none_marked c.args.maps.now.words c.args.log.now c.args.lanes (shown c.args.of_lanes)

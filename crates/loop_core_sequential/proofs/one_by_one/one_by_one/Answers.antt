@@ -1,10 +1,7 @@
-use Rattle.std.proofs.Common.{ℕ, ◌≡◌, ◌<◌, ◌≤◌, length, refl, sym, ap, subst, ◌∙◌, arith}
-use Rattle.std.specs.List.{sum}
+use Rattle.std.{proofs.Common.{ℕ, ◌≡◌, ◌<◌, ◌≤◌, length, refl, sym, ap, subst, ◌∙◌, arith}, specs.List.{sum}}
 use Rattle.bpf_verify_sound.specs.Soundness.{OverApproximatesCall, most_from}
-use Rattle.bpf_step.specs.Iterations.{CallbackOf}
-use Rattle.bpf_step.proofs.Limits.{few_steps}
-use Rattle.loop_core_sequential.specs.Rests.{RanOn}
-use Rattle.loop_core_sequential.proofs.InOrder.{stayed, next, breaks, counted, of_callback}
+use Rattle.bpf_step.{specs.Iterations.{CallbackOf}, proofs.Limits.{few_steps}}
+use Rattle.loop_core_sequential.{specs.Rests.{RanOn}, proofs.InOrder.{stayed, next, breaks, counted, of_callback}}
 use Rattle.loop_core_sequential.proofs.RunLaws.{callback_is, with_same}
 use Rattle.loop_core_sequential.proofs.one_by_one.one_by_one.Goals as goal
 

@@ -1,5 +1,4 @@
-use Rattle.std.proofs.Common.{◌≡◌, length}
-use Rattle.std.specs.List.{sum}
+use Rattle.std.{proofs.Common.{◌≡◌, length}, specs.List.{sum}}
 use Rattle.loop_core_sequential.specs.Rests.{RanOn}
 use Rattle.loop_core_sequential.proofs.one_by_one.one_by_one.Given as goal
 

@@ -1,6 +1,5 @@
 use Rattle.std.proofs.Common.{Some, None, refl, ◌∙◌, arith}
-use Rattle.loop_core_sequential.proofs.InOrder.{broke_before, stayed, went_to}
-use Rattle.loop_core_sequential.proofs.RunLaws.{rest_ran_by}
+use Rattle.loop_core_sequential.proofs.{InOrder.{broke_before, stayed, went_to}, RunLaws.{rest_ran_by}}
 use Rattle.loop_core_sequential.proofs.Pacing.{smaller}
 use Rattle.loop_core_sequential.proofs.ordering.in_batches.Goals as goal
 

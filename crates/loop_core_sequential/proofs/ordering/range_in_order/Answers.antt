@@ -1,10 +1,9 @@
 use Rattle.std.proofs.Common.{Some, arith}
-use Rattle.loop_core_sequential.proofs.InOrder.{ran_both, broke_before}
-use Rattle.loop_core_sequential.proofs.RunLaws.{ran_by, ran_of}
+use Rattle.loop_core_sequential.proofs.{InOrder.{ran_both, broke_before}, RunLaws.{ran_by, ran_of}}
 use Rattle.loop_core_sequential.proofs.ordering.range_in_order.Goals as goal
 
-pub returns-then-to-from-lt-FEWEST : goal.returns-then-to-from-lt-FEWEST
-returns-then-to-from-lt-FEWEST c =
+pub returns-then-to-from-lt-MIN_BATCHED_ITERATIONS : goal.returns-then-to-from-lt-MIN_BATCHED_ITERATIONS
+returns-then-to-from-lt-MIN_BATCHED_ITERATIONS c =
     ran_of c.new-run.result c.args.program.now c.args.call.now c.new-run.ensures.program c.new-run.ensures.call
     c.args.from c.args.to c.args.maps.now c.one_by_one.new.maps c.one_by_one.result c.one_by_one.ensures.ran
 
@@ -16,7 +15,7 @@ returns-in_default c =
 
 pub returns-in-Some-one_by_one : goal.returns-in-Some-one_by_one
 returns-in-Some-one_by_one c =
-    let many = c.if-to-from-lt-FEWEST.false in
+    let many = c.if-to-from-lt-MIN_BATCHED_ITERATIONS.false in
     ran_of c.new-run.result c.args.program.now c.args.call.now c.new-run.ensures.program c.new-run.ensures.call
     c.args.from c.args.to c.args.maps.now c.one_by_one-2.new.maps (Some c.in-Some-one_by_one.answer)
     (broke_before c.new-run.result.program.now c.new-run.result.call.now c.args.from _ c.args.to c.args.maps.now

@@ -1,10 +1,6 @@
-use Rattle.std.proofs.Common.{false, slice_index_or, subst, arith}
-use Rattle.std.proofs.lemmas.List.{get_or-take, length-take}
-use Rattle.lane_stamps.specs.declared.site.Site.{Site}
-use Rattle.lane_stamps.specs.declared.kind.Kind.TheVariants.{Load}
-use Rattle.lane_stamps.specs.Sites.{shown}
-use Rattle.lane_stamps.specs.Stamps.{WatchedOwn}
-use Rattle.lane_stamps.proofs.StampSteps.{pairs_more}
+use Rattle.std.proofs.{Common.{false, slice_index_or, subst, arith}, lemmas.List.{get_or-take, length-take}}
+use Rattle.lane_stamps.specs.{declared.{site.Site.{Site}, kind.Kind.TheVariants.{Load}}, Sites.{shown}}
+use Rattle.lane_stamps.{specs.Stamps.{WatchedOwn}, proofs.StampSteps.{pairs_more}}
 use Rattle.loop_core_sequential.proofs.own.see_none_own.Goals as goal
 
 pub loop-after-preserved : goal.loop-after-preserved

@@ -1,7 +1,5 @@
 use Rattle.std.proofs.Common.{ℕ, ◌<◌, slice_index_or}
-use Rattle.lane_stamps.specs.declared.site.Site.{Site}
-use Rattle.lane_stamps.specs.Sites.{shown}
-use Rattle.lane_stamps.specs.Stamps.{WatchedOwn}
+use Rattle.lane_stamps.specs.{declared.site.Site.{Site}, Sites.{shown}, Stamps.{WatchedOwn}}
 use Rattle.loop_core_sequential.proofs.own.see_none_own.Given as goal
 
 abbrev pub invariant-loop-after : goal.invariant-loop-after

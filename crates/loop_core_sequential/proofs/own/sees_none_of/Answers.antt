@@ -1,7 +1,5 @@
 use Rattle.std.proofs.lemmas.List.Elements.{All-more}
-use Rattle.lane_stamps.specs.declared.site.Site.{Site}
-use Rattle.lane_stamps.specs.Sites.{shown}
-use Rattle.lane_stamps.specs.Stamps.{WatchedOwn}
+use Rattle.lane_stamps.specs.{declared.site.Site.{Site}, Sites.{shown}, Stamps.{WatchedOwn}}
 use Rattle.loop_core_sequential.proofs.NotingLaws.{all_taken}
 use Rattle.loop_core_sequential.proofs.own.sees_none_of.Goals as goal
 

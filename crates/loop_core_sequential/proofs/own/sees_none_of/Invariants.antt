@@ -1,7 +1,5 @@
-use Rattle.std.proofs.Common.{ℕ, ◌<◌, take}
-use Rattle.std.specs.List.{All}
-use Rattle.lane_stamps.specs.Sites.{shown}
-use Rattle.lane_stamps.specs.Stamps.{WatchedOwn}
+use Rattle.std.{proofs.Common.{ℕ, ◌<◌, take}, specs.List.{All}}
+use Rattle.lane_stamps.specs.{Sites.{shown}, Stamps.{WatchedOwn}}
 use Rattle.loop_core_sequential.proofs.own.sees_none_of.Given as goal
 
 abbrev pub invariant-loop-before : goal.invariant-loop-before

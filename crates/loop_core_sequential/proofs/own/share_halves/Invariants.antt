@@ -1,6 +1,5 @@
 use Rattle.std.proofs.Common.{ℕ, ◌<◌}
-use Rattle.lane_stamps.specs.Sites.{shown}
-use Rattle.lane_stamps.specs.Stamps.{LoadsNoOwn}
+use Rattle.lane_stamps.specs.{Sites.{shown}, Stamps.{LoadsNoOwn}}
 use Rattle.loop_core_sequential.proofs.own.share_halves.Given as goal
 
 abbrev pub invariant-loop-lane : goal.invariant-loop-lane

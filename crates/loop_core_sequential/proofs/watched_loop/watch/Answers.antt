@@ -1,13 +1,12 @@
 use Rattle.std.proofs.Common.{sym, ap, subst, ◌∙◌}
 use Rattle.bpf_step_model.specs.State.{LoopCall}
 use Rattle.loop_core_sequential.specs.declared.watched_loop.WatchedLoop.TheVariants.{Passed, Dependent}
-use Rattle.loop_core_sequential.specs.WatchedRuns.{WatchedToEnd, loop_by}
-use Rattle.loop_core_sequential.proofs.RunLaws.{ended_by, ended_of}
+use Rattle.loop_core_sequential.{specs.WatchedRuns.{WatchedToEnd, loop_by}, proofs.RunLaws.{ended_by, ended_of}}
 use Rattle.loop_core_sequential.proofs.WatchedEnds.{begins, to_end}
 use Rattle.loop_core_sequential.proofs.watched_loop.watch.Goals as goal
 
-pub returns-then-n-lt-FEWEST : goal.returns-then-n-lt-FEWEST
-returns-then-n-lt-FEWEST c =
+pub returns-then-n-lt-MIN_BATCHED_ITERATIONS : goal.returns-then-n-lt-MIN_BATCHED_ITERATIONS
+returns-then-n-lt-MIN_BATCHED_ITERATIONS c =
     subst (WatchedToEnd c.args.program.now c.args.call.now c.args.maps.now c.one_by_one_watched-watch.new.maps
     c.one_by_one_watched-watch.new.log) (sym c.ended.ensures)
     (ended_of c.new-run.result c.args.program.now c.args.call.now c.new-run.ensures.program c.new-run.ensures.call

@@ -1,8 +1,6 @@
 use Rattle.std.proofs.Common.{◌∙◌, arith}
 use Rattle.loop_core_sequential.specs.declared.watching.Watch.TheVariants.{Completed, Broke, Dependent}
-use Rattle.loop_core_sequential.proofs.RunLaws.{rest_watched_by}
-use Rattle.loop_core_sequential.proofs.Pacing.{smaller}
-use Rattle.loop_core_sequential.proofs.WatchedEnds.{went_all}
+use Rattle.loop_core_sequential.proofs.{RunLaws.{rest_watched_by}, Pacing.{smaller}, WatchedEnds.{went_all}}
 use Rattle.loop_core_sequential.proofs.watched_loop.watch_in_batches.Goals as goal
 
 pub loop-index-preserved : goal.loop-index-preserved

@@ -1,7 +1,6 @@
 use Rattle.std.proofs.Common.{◌+◌, ◌≤◌, ◌∙◌, sym, subst, rules}
 use Rattle.bpf_verify_sound.specs.Soundness.{most_from}
-use Rattle.bpf_step.specs.Iterations.{CallbackOf}
-use Rattle.bpf_step.proofs.Limits.{few_steps}
+use Rattle.bpf_step.{specs.Iterations.{CallbackOf}, proofs.Limits.{few_steps}}
 use Rattle.loop_core_sequential.proofs.WatchedSteps.{broke_alone, went_alone, met_alone, broke_as, goes_as, met_as}
 use Rattle.loop_core_sequential.proofs.watching.one_watched.Goals as goal
 
@@ -17,7 +16,7 @@ returns-then-done-eq1-clause-ran c = λ start goes.
     c.args.run.now.callback c.requires.ready.callback
     c.args.index c.requires.below c.args.maps.now c.args.log.now c.new-watched.result c.run-done.new.store
     c.new-watched.ensures.maps c.new-watched.ensures.log c.run-done.result.ret c.run-done.result.steps
-    c.run-done.ensures.ran start goes (sym c.has_met.ensures ∙ c.if-has_met.false) c.if-done-eq1.true)
+    c.run-done.ensures.ran start goes (sym c.has_dependence.ensures ∙ c.if-has_dependence.false) c.if-done-eq1.true)
 
 pub returns-clause-ran : goal.returns-clause-ran
 returns-clause-ran c = λ start goes.
@@ -27,14 +26,14 @@ returns-clause-ran c = λ start goes.
     c.args.run.now.callback c.requires.ready.callback
     c.args.index c.requires.below c.args.maps.now c.args.log.now c.new-watched.result c.run-done.new.store
     c.new-watched.ensures.maps c.new-watched.ensures.log c.run-done.result.ret c.run-done.result.steps
-    c.run-done.ensures.ran start goes (sym c.has_met.ensures ∙ c.if-has_met.false) c.if-done-eq1.false)
+    c.run-done.ensures.ran start goes (sym c.has_dependence.ensures ∙ c.if-has_dependence.false) c.if-done-eq1.false)
 
-pub returns-then-has_met-clause-ran : goal.returns-then-has_met-clause-ran
-returns-then-has_met-clause-ran c = λ start goes.
+pub returns-then-has_dependence-clause-ran : goal.returns-then-has_dependence-clause-ran
+returns-then-has_dependence-clause-ran c = λ start goes.
     met_as c.args.run.now.program.now c.args.run.now.call.now start c.run-done.new.store.maps.now _
     c.run-done.new.store.log.now _ _ (search rules) (search rules)
     (met_alone c.law_of_watching.ensures c.args.run.now.program.now c.args.run.now.call.now
     c.args.run.now.callback c.requires.ready.callback
     c.args.index c.requires.below c.args.maps.now c.args.log.now c.new-watched.result c.run-done.new.store
     c.new-watched.ensures.maps c.new-watched.ensures.log c.run-done.result.ret c.run-done.result.steps
-    c.run-done.ensures.ran start goes c.new-watched.ensures.met (sym c.has_met.ensures ∙ c.if-has_met.true))
+    c.run-done.ensures.ran start goes c.new-watched.ensures.met (sym c.has_dependence.ensures ∙ c.if-has_dependence.true))

@@ -2,14 +2,11 @@ use Rattle.std.proofs.Common.{◌≡◌, ◌<◌, ℕ, List, length, refl, sym, 
 use Rattle.bpf_verify_sound.specs.Soundness.{IsSoundProgram}
 use Rattle.bpf_step_ir.specs.PlainRun.{op_of}
 use Rattle.bpf_step_plain.proofs.OpReads.{is_op}
-use Rattle.bpf_step.proofs.Callbacks.{begins}
-use Rattle.bpf_step.proofs.Limits.{few_slots}
-use Rattle.loop_core_trace.specs.Journals.{Undoes}
-use Rattle.loop_core_trace.specs.Traced.{IsTraceOf}
+use Rattle.bpf_step.proofs.{Callbacks.{begins}, Limits.{few_slots}}
+use Rattle.loop_core_trace.{specs.{Journals.{Undoes}, Traced.{IsTraceOf}}, proofs.following.follow.Goals.{In-End}}
 use Rattle.loop_core_trace.proofs.Underway.{within, can, touched_within}
 use Rattle.loop_core_trace.proofs.GoingOn.{IsNoted, is_noted, goes_on, calls_none, refuses_none, ended, begun}
-use Rattle.loop_core_trace.proofs.following.follow.Goals.{After-operations, In-loop, After-index-ops-slot}
-use Rattle.loop_core_trace.proofs.following.follow.Goals.{In_ok-slots, In-End}
+use Rattle.loop_core_trace.proofs.following.follow.Goals.{After-operations, In-loop, After-index-ops-slot, In_ok-slots}
 use Rattle.loop_core_trace.proofs.following.follow.Goals as goal
 
 -- the program was accepted, and its slots fit
@@ -38,7 +35,7 @@ was c =
     c.touch_of-touched.result c.words.result.now c.note_access.new.journal.items c.in_ok-slots.slots
     c.touch_of-touched.ensures c.words.ensures.words c.in_ok-slots.ensures.journal c.in_ok-slots.ensures.slots
 
--- where it ends the iteration, that is told, and the journal undoes what was done
+-- where it ends the iteration, the trace says so, and the journal undoes what was done
 ends : (c : In-End) → IsTraceOf c.args.program.now c.args.call.now c.args.index c.args.maps.now.words c.args.element
     (record { ret = c.in-End.ret; exit = c.loop.slot; slots = c.in_ok-slots.slots })
     × Undoes c.note_access.new.journal.items c.execute.new.store c.args.maps.now

@@ -1,5 +1,4 @@
-use Rattle.std.proofs.Common.{◌≡◌, ◌<◌, length, vec_len}
-use Rattle.std.specs.List.{AllByRecursion}
+use Rattle.std.{proofs.Common.{◌≡◌, ◌<◌, length, vec_len}, specs.List.{AllByRecursion}}
 use Rattle.loop_core_trace.specs.Journals.{unwound}
 use Rattle.loop_core_trace.proofs.journal.undo.Given as goal
 

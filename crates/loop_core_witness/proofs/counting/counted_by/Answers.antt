@@ -1,6 +1,5 @@
 use Rattle.std.proofs.Common.{subst}
-use Rattle.loop_core_witness.specs.Breaks.{IsBreak}
-use Rattle.loop_core_witness.proofs.BreakLaws.{break_within, are_counted}
+use Rattle.loop_core_witness.{specs.Breaks.{IsBreak}, proofs.BreakLaws.{break_within, are_counted}}
 use Rattle.loop_core_witness.proofs.counting.counted_by.Goals as goal
 
 pub up_to_break-requires : goal.up_to_break-requires

@@ -1,6 +1,5 @@
 use Rattle.std.proofs.Common.{◌+◌, ◌≤◌, ◌<◌, Option, refl, sym, subst, ◌∙◌, arith}
-use Rattle.array_maps.specs.declared.access.Op.{Op}
-use Rattle.array_maps.specs.MapList.{MapList}
+use Rattle.array_maps.specs.{declared.access.Op.{Op}, MapList.{MapList}}
 use Rattle.loop_core_trace.specs.Traced.{IsTraceOf}
 use Rattle.loop_core_witness.proofs.Explaining.{within}
 use Rattle.loop_core_witness.proofs.EndLaws.{KeptUpTo, none_yet, one_more, all_quiet, found, found_none}

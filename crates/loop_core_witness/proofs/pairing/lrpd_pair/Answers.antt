@@ -1,6 +1,6 @@
 use Rattle.loop_core_model.specs.declared.loop_test.Test.TheVariants.{Lrpd}
-use Rattle.loop_core_witness.proofs.Explaining.{no_writer, no_reader, lrpd_pair, lrpd_writer}
-use Rattle.loop_core_witness.proofs.Explaining.{lrpd_no_reader, lrpd_reader}
+use Rattle.loop_core_witness.proofs.Explaining.{no_writer, no_reader, lrpd_pair, lrpd_writer, lrpd_no_reader}
+use Rattle.loop_core_witness.proofs.Explaining.{lrpd_reader}
 use Rattle.loop_core_witness.proofs.pairing.lrpd_pair.Goals as goal
 
 pub returns-in_default : goal.returns-in_default

@@ -1,6 +1,4 @@
-use Rattle.std.proofs.Common.{◌<◌, ◌≤◌, ◌^◌, arith}
-use Rattle.std.proofs.Math.Pow.{pow_mono}
-use Rattle.std.proofs.lemmas.Nat.{pow_below}
+use Rattle.std.proofs.{Common.{◌<◌, ◌≤◌, ◌^◌, arith}, Math.Pow.{pow_mono}, lemmas.Nat.{pow_below}}
 use Rattle.loop_marks.proofs.by_site.bits.Goals as goal
 
 pub overflow_sub-result : goal.overflow_sub-result

@@ -1,6 +1,5 @@
 use Rattle.std.proofs.Common.{◌≡◌, ℕ, ◌+◌, ◌<◌, ◌≤◌, true, false}
-use Rattle.lane_rows.specs.Rows.{is_in}
-use Rattle.lane_rows.specs.Lanes.{MaskHas}
+use Rattle.lane_rows.specs.{Rows.{is_in}, Lanes.{MaskHas}}
 use Rattle.loop_marks.proofs.by_site.end_of.Given as goal
 
 abbrev pub invariant-loop-step : goal.invariant-loop-step

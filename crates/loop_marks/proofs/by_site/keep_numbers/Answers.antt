@@ -1,9 +1,8 @@
 use Rattle.std.proofs.Common.{length}
-use Rattle.loop_marks.specs.SiteMarks.{IsEnd, is_at, runs_to}
-use Rattle.loop_marks.proofs.OneLaws.{one_kept}
+use Rattle.loop_marks.{specs.SiteMarks.{IsEnd, is_at, runs_to}, proofs.OneLaws.{one_kept}}
 use Rattle.loop_marks.proofs.SiteLaws.{none_kept, one_reached, run_reached, some_kept}
-use Rattle.loop_marks.proofs.by_site.keep_numbers.Goals as goal
 use Rattle.loop_marks.proofs.by_site.keep_numbers.Goals.{then-greatest, else-greatest}
+use Rattle.loop_marks.proofs.by_site.keep_numbers.Goals as goal
 
 pub returns-after-greatest : goal.returns-after-greatest
 returns-after-greatest c =

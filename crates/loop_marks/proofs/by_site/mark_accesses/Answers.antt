@@ -1,9 +1,6 @@
-use Rattle.std.proofs.Common.{Bool, refl, sym, subst, arith}
-use Rattle.std.proofs.lemmas.Grind.{common_steps}
-use Rattle.shadow_marks.specs.Standing.{plane_by}
-use Rattle.shadow_marks.proofs.FoldLaws.{each_plane}
-use Rattle.loop_marks.specs.SiteMarks.{AreBelow}
-use Rattle.loop_marks.proofs.SiteLaws.{kind_marked, none_made, words_reached}
+use Rattle.std.proofs.{Common.{Bool, refl, sym, subst, arith}, lemmas.Grind.{common_steps}}
+use Rattle.shadow_marks.{specs.Standing.{plane_by}, proofs.FoldLaws.{each_plane}}
+use Rattle.loop_marks.{specs.SiteMarks.{AreBelow}, proofs.SiteLaws.{kind_marked, none_made, words_reached}}
 use Rattle.loop_marks.proofs.by_site.mark_accesses.Goals as goal
 
 pub mark_operators-requires : goal.mark_operators-requires

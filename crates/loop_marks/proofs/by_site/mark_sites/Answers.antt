@@ -1,7 +1,5 @@
 use Rattle.std.proofs.Common.{false, ◌∙◌, arith}
-use Rattle.lane_stamps.specs.declared.kind.Kind.TheVariants.{Load}
-use Rattle.lane_stamps.specs.declared.site.Site.{Site}
-use Rattle.lane_stamps.specs.Sites.{shown}
+use Rattle.lane_stamps.specs.{declared.{kind.Kind.TheVariants.{Load}, site.Site.{Site}}, Sites.{shown}}
 use Rattle.loop_marks.proofs.SiteLaws.{marks_next_site, marks_of_all}
 use Rattle.loop_marks.proofs.by_site.mark_sites.Goals as goal
 

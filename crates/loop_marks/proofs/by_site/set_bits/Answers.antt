@@ -1,6 +1,5 @@
 use Rattle.std.proofs.Common.{◌*◌, length}
-use Rattle.loop_marks.specs.SiteMarks.{is_at, runs_to}
-use Rattle.loop_marks.proofs.OneLaws.{one_set}
+use Rattle.loop_marks.{specs.SiteMarks.{is_at, runs_to}, proofs.OneLaws.{one_set}}
 use Rattle.loop_marks.proofs.SiteLaws.{none_set, one_reached, run_reached, some_set}
 use Rattle.loop_marks.proofs.by_site.set_bits.Goals as goal
 

@@ -1,7 +1,5 @@
 use Rattle.std.proofs.Common.{false}
-use Rattle.lane_stamps.specs.declared.kind.Kind.TheVariants.{Load}
-use Rattle.lane_stamps.specs.declared.site.Site.{Site}
-use Rattle.lane_stamps.specs.Sites.{shown}
+use Rattle.lane_stamps.specs.{declared.{kind.Kind.TheVariants.{Load}, site.Site.{Site}}, Sites.{shown}}
 use Rattle.loop_marks.proofs.UnseenLaws.{unseen_next}
 use Rattle.loop_marks.proofs.unseen.is_unseen_if_stored.Goals as goal
 

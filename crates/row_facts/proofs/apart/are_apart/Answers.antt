@@ -1,5 +1,4 @@
-use Rattle.std.proofs.Common.{◌≡◌, ℕ, refl, subst, inl, inr, arith}
-use Rattle.std.proofs.lemmas.Bool.{cases_lt}
+use Rattle.std.proofs.{Common.{◌≡◌, ℕ, refl, subst, inl, inr, arith}, lemmas.Bool.{cases_lt}}
 use Rattle.row_facts.specs.Apart.{AreLinesApart}
 use Rattle.row_facts.proofs.apart.are_apart.Goals as goal
 

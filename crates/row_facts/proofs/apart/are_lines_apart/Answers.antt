@@ -1,8 +1,6 @@
-use Rattle.std.proofs.Common.{◌≡◌, ◌∙◌, ℕ, ◌+◌, ◌-◌, ◌*◌, ◌%◌, ◌^◌, ◌≤◌, sym, ap, arith}
-use Rattle.std.proofs.lemmas.Bool.{leb-true}
+use Rattle.std.proofs.{Common.{◌≡◌, ◌∙◌, ℕ, ◌+◌, ◌-◌, ◌*◌, ◌%◌, ◌^◌, ◌≤◌, sym, ap, arith}, lemmas.Bool.{leb-true}}
 use Rattle.std.proofs.lemmas.Nat.{pow_pos}
-use Rattle.row_facts.proofs.ApartLaws.{ahead, apart}
-use Rattle.row_facts.proofs.Congruence.{coarse, wraps}
+use Rattle.row_facts.proofs.{ApartLaws.{ahead, apart}, Congruence.{coarse, wraps}}
 use Rattle.row_facts.proofs.apart.are_lines_apart.Goals as goal
 
 pub returns-then-low-second_size : goal.returns-then-low-second_size

@@ -1,5 +1,4 @@
-use Rattle.std.proofs.Common.{◌/◌, ◌^◌, ◌<◌, arith}
-use Rattle.std.proofs.lemmas.Bool.{eqb-true}
+use Rattle.std.proofs.{Common.{◌/◌, ◌^◌, ◌<◌, arith}, lemmas.Bool.{eqb-true}}
 use Rattle.value_range.proofs.Multiples.{coarser}
 use Rattle.row_facts.proofs.OperatorLaws.{sum-of-bits, sum-of-bits_turned, shifted-away}
 use Rattle.row_facts.proofs.arithmetic.are_disjoint.Goals as goal

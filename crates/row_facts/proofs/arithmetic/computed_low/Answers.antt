@@ -1,7 +1,5 @@
-use Rattle.std.proofs.Common.{ℕ, ◌≡◌, ◌∙◌, ◌%◌, ◌^◌, ◌<◌, arith, ap, refl}
-use Rattle.std.proofs.Math.Nat.{mod-eq_of_lt}
-use Rattle.bpf_insn_types.specs.declared.insn.Width.TheVariants.{W32, W64}
-use Rattle.bpf_insn_types.specs.Words.{alu}
+use Rattle.std.proofs.{Common.{ℕ, ◌≡◌, ◌∙◌, ◌%◌, ◌^◌, ◌<◌, arith, ap, refl}, Math.Nat.{mod-eq_of_lt}}
+use Rattle.bpf_insn_types.specs.{declared.insn.Width.TheVariants.{W32, W64}, Words.{alu}}
 use Rattle.value_range.specs.Spans.{Contains}
 use Rattle.row_facts.proofs.OperatorLaws.{twice}
 use Rattle.row_facts.proofs.arithmetic.computed_low.Goals as goal

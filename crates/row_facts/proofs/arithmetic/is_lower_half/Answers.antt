@@ -1,7 +1,6 @@
-use Rattle.std.proofs.Common.{arith, inl, inr}
-use Rattle.std.proofs.lemmas.Bool.{ltb-true}
-use Rattle.row_facts.proofs.OperatorLaws.{lower-add, lower-sub, lower-mul, lower-or, lower-and, lower-xor}
-use Rattle.row_facts.proofs.OperatorLaws.{lower-mov, lower-lsh}
+use Rattle.std.proofs.{Common.{arith, inl, inr}, lemmas.Bool.{ltb-true}}
+use Rattle.row_facts.proofs.OperatorLaws.{lower-add, lower-sub, lower-mul, lower-or, lower-and, lower-xor, lower-mov}
+use Rattle.row_facts.proofs.OperatorLaws.{lower-lsh}
 use Rattle.row_facts.proofs.arithmetic.is_lower_half.Goals as goal
 
 pub returns-in-Add : goal.returns-in-Add

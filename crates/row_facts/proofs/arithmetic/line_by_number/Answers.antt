@@ -1,11 +1,7 @@
-use Rattle.std.proofs.Common.{ℕ, ◌-◌, ◌^◌, sym, subst}
-use Rattle.std.specs.Int.{w64, trailing_zeros}
+use Rattle.std.{proofs.Common.{ℕ, ◌-◌, ◌^◌, sym, subst}, specs.Int.{w64, trailing_zeros}}
 use Rattle.value_range.proofs.Multiples.{trailing-multiple, trailing-most}
-use Rattle.bpf_insn_types.specs.declared.insn.Width.TheVariants.{W64}
-use Rattle.bpf_insn_types.specs.declared.insn.AluOp.TheVariants.{And}
-use Rattle.bpf_insn_types.specs.Words.{alu}
-use Rattle.row_facts.specs.Facts.{IsOnLine}
-use Rattle.row_facts.proofs.OperatorLaws.{alu-mul, alu-lsh, alu-rsh, alu-and}
+use Rattle.bpf_insn_types.specs.{declared.insn.{Width.TheVariants.{W64}, AluOp.TheVariants.{And}}, Words.{alu}}
+use Rattle.row_facts.{specs.Facts.{IsOnLine}, proofs.OperatorLaws.{alu-mul, alu-lsh, alu-rsh, alu-and}}
 use Rattle.row_facts.proofs.arithmetic.line_by_number.Goals as goal
 
 pub returns-in-Mul : goal.returns-in-Mul

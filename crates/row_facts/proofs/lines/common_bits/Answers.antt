@@ -1,5 +1,4 @@
-use Rattle.std.proofs.Common.{◌+◌, ◌-◌, ◌%◌, ◌^◌, arith}
-use Rattle.std.specs.Int.{w64, trailing_zeros}
+use Rattle.std.{proofs.Common.{◌+◌, ◌-◌, ◌%◌, ◌^◌, arith}, specs.Int.{w64, trailing_zeros}}
 use Rattle.value_range.proofs.Multiples.{trailing-multiple, trailing-most}
 use Rattle.row_facts.proofs.Congruence.{same-difference}
 use Rattle.row_facts.proofs.lines.common_bits.Goals as goal

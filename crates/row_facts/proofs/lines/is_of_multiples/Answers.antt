@@ -1,5 +1,4 @@
-use Rattle.std.proofs.Common.{◌∙◌, sym, arith}
-use Rattle.std.proofs.lemmas.Bool.{eqb-true}
+use Rattle.std.proofs.{Common.{◌∙◌, sym, arith}, lemmas.Bool.{eqb-true}}
 use Rattle.row_facts.proofs.lines.is_of_multiples.Goals as goal
 
 pub returns-then-low-eq0 : goal.returns-then-low-eq0

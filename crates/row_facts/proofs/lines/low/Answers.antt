@@ -1,6 +1,4 @@
-use Rattle.std.proofs.Common.{◌∙◌, ℕ, ◌-◌, ap}
-use Rattle.std.specs.Prelude.{bit_and}
-use Rattle.std.proofs.lemmas.Nat.{and_mask, one_shl}
+use Rattle.std.{proofs.{Common.{◌∙◌, ℕ, ◌-◌, ap}, lemmas.Nat.{and_mask, one_shl}}, specs.Prelude.{bit_and}}
 use Rattle.row_facts.proofs.lines.low.Goals as goal
 
 pub returns-then-bits-lt64 : goal.returns-then-bits-lt64

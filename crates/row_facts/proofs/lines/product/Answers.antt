@@ -1,5 +1,4 @@
-use Rattle.std.proofs.Common.{arith}
-use Rattle.std.specs.Int.{w64, trailing_zeros}
+use Rattle.std.{proofs.Common.{arith}, specs.Int.{w64, trailing_zeros}}
 use Rattle.value_range.proofs.Multiples.{trailing-multiple}
 use Rattle.row_facts.proofs.Congruence.{line-product}
 use Rattle.row_facts.proofs.lines.product.Goals as goal

@@ -1,6 +1,5 @@
 use Rattle.std.proofs.Common.{refl}
-use Rattle.row_facts.specs.Facts.{IsOfMultiples}
-use Rattle.row_facts.proofs.Congruence.{line-quotient}
+use Rattle.row_facts.{specs.Facts.{IsOfMultiples}, proofs.Congruence.{line-quotient}}
 use Rattle.row_facts.proofs.lines.quotient.Goals as goal
 
 pub returns : goal.returns

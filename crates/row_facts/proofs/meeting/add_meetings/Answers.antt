@@ -1,9 +1,7 @@
-use Rattle.std.proofs.Common.{◌≡◌, length, refl}
-use Rattle.std.specs.Prelude.{slice_get, Some}
-use Rattle.std.proofs.lemmas.Option.{slice_get_read}
+use Rattle.std.{proofs.{Common.{◌≡◌, length, refl}, lemmas.Option.{slice_get_read}}, specs.Prelude.{slice_get, Some}}
 use Rattle.row_facts.proofs.MeetingLaws.{more-kept, done-listed, done-never}
-use Rattle.row_facts.proofs.meeting.add_meetings.Goals as goal
 use Rattle.row_facts.proofs.meeting.add_meetings.Goals.{then-may_meet+in_ok-add, else-may_meet}
+use Rattle.row_facts.proofs.meeting.add_meetings.Goals as goal
 
 pub loop-second-preserved : goal.loop-second-preserved
 loop-second-preserved c =

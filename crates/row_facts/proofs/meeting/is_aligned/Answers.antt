@@ -1,9 +1,6 @@
 use Rattle.std.proofs.Common.{◌≡◌, ◌%◌, ◌^◌, sym, subst}
 use Rattle.bpf_insn_types.specs.declared.insn.Width.{Width}
-use Rattle.row_facts.specs.Apart.{IsAmong}
-use Rattle.row_facts.specs.Facts.{IsOfMultiples}
-use Rattle.row_facts.specs.Sites.{bytes_in}
-use Rattle.row_facts.specs.Meetings.{IsHalfOf}
+use Rattle.row_facts.specs.{Apart.{IsAmong}, Facts.{IsOfMultiples}, Sites.{bytes_in}, Meetings.{IsHalfOf}}
 use Rattle.row_facts.proofs.ApartLaws.{aligned, among-four, among-eight}
 use Rattle.row_facts.proofs.meeting.is_aligned.Goals as goal
 

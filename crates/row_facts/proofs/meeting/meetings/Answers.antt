@@ -1,9 +1,5 @@
-use Rattle.std.proofs.Common.{◌≡◌, ℕ, List, length, sym, subst, inl, inr, arith}
-use Rattle.std.proofs.lemmas.Bool.{cases_lt}
-use Rattle.row_facts.specs.declared.fact.Fact.{Fact}
-use Rattle.row_facts.specs.declared.site.Site.{Site}
-use Rattle.row_facts.specs.Sites.{AreSites}
-use Rattle.row_facts.specs.Meetings.{AreDone}
+use Rattle.std.proofs.{Common.{◌≡◌, ℕ, List, length, sym, subst, inl, inr, arith}, lemmas.Bool.{cases_lt}}
+use Rattle.row_facts.specs.{declared.{fact.Fact.{Fact}, site.Site.{Site}}, Sites.{AreSites}, Meetings.{AreDone}}
 use Rattle.row_facts.proofs.MeetingLaws.{done-kept, all-done}
 use Rattle.row_facts.proofs.meeting.meetings.Goals as goal
 

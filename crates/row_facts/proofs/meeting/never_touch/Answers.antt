@@ -1,9 +1,7 @@
 use Rattle.std.proofs.Common.{◌∙◌, ℕ, sym, subst}
-use Rattle.row_facts.specs.Apart.{AreBytesApart}
-use Rattle.row_facts.specs.Sites.{bytes_in}
-use Rattle.row_facts.proofs.MeetingLaws.{bytes-apart}
-use Rattle.row_facts.proofs.meeting.never_touch.Goals as goal
+use Rattle.row_facts.{specs.{Apart.{AreBytesApart}, Sites.{bytes_in}}, proofs.MeetingLaws.{bytes-apart}}
 use Rattle.row_facts.proofs.meeting.never_touch.Goals.{then-is_aligned, else-is_aligned}
+use Rattle.row_facts.proofs.meeting.never_touch.Goals as goal
 
 pub returns-then-is_aligned-2 : goal.returns-then-is_aligned-2
 returns-then-is_aligned-2 c is list facts are one two distance from upto =

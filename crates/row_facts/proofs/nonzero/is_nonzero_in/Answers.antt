@@ -1,7 +1,5 @@
-use Rattle.std.proofs.Common.{◌≡◌, ◌∙◌, ap, refl, inl, inr}
-use Rattle.bpf_insn_types.specs.declared.insn.Width.TheVariants.{W64}
-use Rattle.bpf_insn_types.specs.declared.insn.Compare.TheVariants.{Ne}
-use Rattle.std.specs.Prelude.{Some}
+use Rattle.std.{proofs.Common.{◌≡◌, ◌∙◌, ap, refl, inl, inr}, specs.Prelude.{Some}}
+use Rattle.bpf_insn_types.specs.declared.insn.{Width.TheVariants.{W64}, Compare.TheVariants.{Ne}}
 use Rattle.row_list.specs.declared.row_op.RowOp.{RowOp}
 use Rattle.row_facts.proofs.NonzeroLaws.{of-holds, of-without, of-either, test-by}
 use Rattle.row_facts.proofs.nonzero.is_nonzero_in.Goals as goal

@@ -1,6 +1,5 @@
 use Rattle.std.proofs.Common.{◌≡◌}
-use Rattle.bpf_insn_types.specs.declared.insn.Width.TheVariants.{W64}
-use Rattle.bpf_insn_types.specs.declared.insn.Compare.TheVariants.{Eq}
+use Rattle.bpf_insn_types.specs.declared.insn.{Width.TheVariants.{W64}, Compare.TheVariants.{Eq}}
 use Rattle.row_facts.proofs.NonzeroLaws.{null-by}
 use Rattle.row_facts.proofs.nonzero.tests_null.Goals as goal
 

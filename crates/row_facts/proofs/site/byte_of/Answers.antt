@@ -1,11 +1,8 @@
 use Rattle.std.proofs.Common.{◌≡◌, ◌∙◌, ℕ, ◌+◌, ◌%◌, ◌^◌, ℤ, w16, w64, to_z, of_z, ap, subst}
 use Rattle.std.proofs.Math.Facts.{to_z-of_z, sfits_widen}
-use Rattle.bpf_insn_types.specs.declared.insn.Width.TheVariants.{W64}
-use Rattle.bpf_insn_types.specs.declared.insn.AluOp.TheVariants.{Add}
-use Rattle.bpf_insn_types.specs.Words.{alu}
-use Rattle.bpf_step_ir.specs.Plain.{byte_named}
-use Rattle.row_facts.specs.Facts.{IsSure}
-use Rattle.row_facts.proofs.OperatorLaws.{alu-add, half, twice}
+use Rattle.bpf_insn_types.specs.{declared.insn.{Width.TheVariants.{W64}, AluOp.TheVariants.{Add}}, Words.{alu}}
+use Rattle.bpf_step_model.specs.AreaWords.{byte_named}
+use Rattle.row_facts.{specs.Facts.{IsSure}, proofs.OperatorLaws.{alu-add, half, twice}}
 use Rattle.row_facts.proofs.site.byte_of.Goals as goal
 
 pub returns : goal.returns

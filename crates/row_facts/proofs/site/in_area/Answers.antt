@@ -1,7 +1,5 @@
-use Rattle.std.proofs.Common.{◌≡◌, ℕ, ◌*◌, ◌/◌, ◌%◌, ◌^◌, subst, arith}
-use Rattle.std.proofs.Math.Nat.{mod-eq_of_lt}
-use Rattle.value_range.specs.Spans.{Contains}
-use Rattle.value_range.proofs.SpanLaws.{exact-contains}
+use Rattle.std.proofs.{Common.{◌≡◌, ℕ, ◌*◌, ◌/◌, ◌%◌, ◌^◌, subst, arith}, Math.Nat.{mod-eq_of_lt}}
+use Rattle.value_range.{specs.Spans.{Contains}, proofs.SpanLaws.{exact-contains}}
 use Rattle.row_facts.proofs.OperatorLaws.{area-left}
 use Rattle.row_facts.proofs.site.in_area.Goals as goal
 

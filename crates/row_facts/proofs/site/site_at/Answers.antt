@@ -1,7 +1,6 @@
-use Rattle.std.proofs.Common.{rules, ◌≡◌, ℤ, w16, to_z, of_z, refl, subst}
-use Rattle.bpf_step_ir.specs.Plain.{byte_named}
+use Rattle.std.{proofs.Common.{rules, ◌≡◌, ℤ, w16, to_z, of_z, refl, subst}, specs.Prelude.{slice_index}}
+use Rattle.bpf_step_model.specs.AreaWords.{byte_named}
 use Rattle.row_facts.specs.Facts.{IsSure}
-use Rattle.std.specs.Prelude.{slice_index}
 use Rattle.row_facts.proofs.site.site_at.Goals as goal
 
 pub returns : goal.returns

@@ -1,11 +1,8 @@
-use Rattle.std.proofs.Common.{◌≡◌, ◌∙◌, get_or, take, sym}
-use Rattle.std.specs.Prelude.{Some, None}
-use Rattle.std.proofs.lemmas.List.{take_more}
+use Rattle.std.{proofs.{Common.{◌≡◌, ◌∙◌, get_or, take, sym}, lemmas.List.{take_more}}, specs.Prelude.{Some, None}}
 use Rattle.row_list.specs.declared.row_op.RowOp.TheVariants.{All}
-use Rattle.row_facts.specs.Sites.{place_in}
-use Rattle.row_facts.proofs.SiteLaws.{has-place, no-place, more-sites, same-sites}
-use Rattle.row_facts.proofs.site.sites.Goals as goal
+use Rattle.row_facts.{specs.Sites.{place_in}, proofs.SiteLaws.{has-place, no-place, more-sites, same-sites}}
 use Rattle.row_facts.proofs.site.sites.Goals.{in-Some+in_ok-site-in-Some+in_ok-add-in-Some, in-None}
+use Rattle.row_facts.proofs.site.sites.Goals as goal
 
 pub loop-op-preserved : goal.loop-op-preserved
 loop-op-preserved c =

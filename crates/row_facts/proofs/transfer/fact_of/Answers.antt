@@ -1,8 +1,6 @@
-use Rattle.std.proofs.Common.{◌≡◌, ℕ, sym, subst, inl, inr}
-use Rattle.std.specs.Prelude.{slice_index, if◌then◌else◌}
+use Rattle.std.{proofs.Common.{◌≡◌, ℕ, sym, subst, inl, inr}, specs.Prelude.{slice_index, if◌then◌else◌}}
 use Rattle.row_list.specs.Rows.{is_in}
-use Rattle.row_facts.specs.Facts.{IsFact}
-use Rattle.row_facts.proofs.FactLaws.{chosen}
+use Rattle.row_facts.{specs.Facts.{IsFact}, proofs.FactLaws.{chosen}}
 use Rattle.row_facts.proofs.transfer.fact_of.Goals as goal
 
 pub returns-in-Choice : goal.returns-in-Choice

@@ -1,11 +1,7 @@
-use Rattle.std.proofs.Common.{◌≡◌, ◌∙◌, ℕ, ◌+◌, List, length, get_or, sym, ap, subst}
-use Rattle.std.specs.Prelude.{slice_get, Some}
-use Rattle.std.proofs.lemmas.List.{length_push}
-use Rattle.std.proofs.lemmas.Option.{slice_get-get_or}
+use Rattle.std.{proofs.Common.{◌≡◌, ◌∙◌, ℕ, ◌+◌, List, length, get_or, sym, ap, subst}, specs.Prelude.{slice_get, Some}}
+use Rattle.std.proofs.lemmas.{List.{length_push}, Option.{slice_get-get_or}}
 use Rattle.row_list.specs.declared.row_op.RowOp.TheVariants.{All}
-use Rattle.row_facts.specs.declared.fact.Fact.{Fact}
-use Rattle.row_facts.specs.Facts.{FitFacts}
-use Rattle.row_facts.proofs.FactLaws.{more-facts}
+use Rattle.row_facts.{specs.{declared.fact.Fact.{Fact}, Facts.{FitFacts}}, proofs.FactLaws.{more-facts}}
 use Rattle.row_facts.proofs.transfer.facts.Goals as goal
 
 pub loop-op-preserved : goal.loop-op-preserved

@@ -1,14 +1,8 @@
 use Rattle.std.proofs.Common.{◌≡◌, ◌∙◌, ℕ, ◌+◌, ◌*◌, ◌%◌, ◌^◌, ◌<◌, ◌≤◌, true, false, sym, subst, inl, inr, arith}
-use Rattle.std.specs.Prelude.{nat_lt}
-use Rattle.std.proofs.lemmas.Bool.{ltb-false, le-leb}
-use Rattle.std.proofs.lemmas.Nat.{mod_below, pow_pos}
-use Rattle.bpf_insn_types.specs.declared.insn.Width.TheVariants.{W64}
-use Rattle.bpf_insn_types.specs.declared.insn.AluOp.TheVariants.{Add, Mul}
-use Rattle.bpf_insn_types.specs.Words.{alu}
-use Rattle.bpf_step_ir.specs.Plain.{plain_found}
-use Rattle.value_range.specs.Spans.{Contains}
-use Rattle.value_range.specs.RefineRows.{says}
-use Rattle.value_range.proofs.SpanLaws.{exact-contains}
+use Rattle.std.{specs.Prelude.{nat_lt}, proofs.lemmas.{Bool.{ltb-false, le-leb}, Nat.{mod_below, pow_pos}}}
+use Rattle.bpf_insn_types.specs.{declared.insn.{Width.TheVariants.{W64}, AluOp.TheVariants.{Add, Mul}}, Words.{alu}}
+use Rattle.bpf_step_model.specs.AreaWords.{looked_up_word}
+use Rattle.value_range.{specs.{Spans.{Contains}, RefineRows.{says}}, proofs.SpanLaws.{exact-contains}}
 use Rattle.row_facts.specs.Facts.{IsSure}
 use Rattle.row_facts.proofs.FactLaws.{low-moved, holds-lt, area-computed, found-there, found-nowhere, decided}
 use Rattle.row_facts.proofs.transfer.found.Goals as goal
@@ -48,7 +42,7 @@ returns-in-Some c index x value =
           let sum : IsSure c.computed-address.result index (alu W64 Add (alu W64 Mul k 8) (2 ^ 32 + 8 * first)) =
           c.computed-address.ensures index (alu W64 Mul k 8) (2 ^ 32 + 8 * first) place (c.number-in-Some-2.ensures
           index) in
-          let address : IsSure c.computed-address.result index (plain_found first count k) =
+          let address : IsSure c.computed-address.result index (looked_up_word first count k) =
           subst (λ (n : ℕ). IsSure c.computed-address.result index n)
           (area-computed first k (omega arith) small ∙ sym (found-there first count k there)) sum in
           inl (record { word = address.word; in_range = address.in_range; on_line = address.on_line })

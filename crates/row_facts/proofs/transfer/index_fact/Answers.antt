@@ -1,7 +1,5 @@
 use Rattle.std.proofs.Common.{◌≡◌, ℕ, ◌+◌, ◌*◌, ◌%◌, ◌^◌, ap, arith}
-use Rattle.value_range.proofs.Multiples.{multiple-zero}
-use Rattle.value_range.proofs.RowBounds.{zero_some}
-use Rattle.value_range.proofs.SpanLaws.{norm-contains}
+use Rattle.value_range.proofs.{Multiples.{multiple-zero}, RowBounds.{zero_some}, SpanLaws.{norm-contains}}
 use Rattle.row_facts.proofs.transfer.index_fact.Goals as goal
 
 pub norm-requires-clause-some : goal.norm-requires-clause-some

@@ -1,8 +1,7 @@
 use Rattle.std.proofs.Common.{refl, sym, ap, subst}
 use Rattle.bpf_step_model.specs.Run.{Ended}
 use Rattle.loop_core_model.specs.Report.{loop_report}
-use Rattle.spec_run_main.specs.Lines.{AreLines}
-use Rattle.spec_run.proofs.Reported.{report_of}
+use Rattle.spec_run_main.{specs.Lines.{AreLines}, proofs.Reported.{report_of}}
 use Rattle.spec_run.proofs.by_plan.run_program.Goals as goal
 
 pub run_main-requires-clause-begins : goal.run_main-requires-clause-begins
@@ -13,7 +12,7 @@ returns g c =
     let ran = c.in_ok-ret.ensures in
     let program = c.args.program.now in
     let lines = subst (λ test. AreLines (loop_report test program 4096) ran.calls c.run_main.new.runner.lines.items)
-    ran.tells.0 ran.tells.2 in
+    ran.recorded.0 ran.recorded.2 in
     report_of (loop_report c.args.test program 4096) (record {
       ret = c.in_ok-ret.ret;
       loops = c.run_main.new.runner.lines;

@@ -14,7 +14,7 @@ run_program-requires-clause-runs g c =
     } in
     let test = c.args.plan.now.test in
     record {
-      may = λ call start known sizes lent maps workspace call_is start_is. (
+      may = λ call start known sizes call_ref maps workspace call_is start_is. (
         (
           search rules,
           subst (λ (call : LoopCall). OverApproximatesCall c.args.program.now call) (sym call_is) known,
@@ -22,7 +22,7 @@ run_program-requires-clause-runs g c =
         ),
         (search rules, search rules),
       );
-      told = λ call start answered left known sizes it.
+      ran = λ call start answered left known sizes it.
           each_by_test test c.args.program.now call start left c.law_of_filled_calls.ensures sound answered
           (told_of (λ call start left. IfOk answered (λ a. IsOutcome test c.args.program.now call start a.verdict
           a.answer left)) it it.ran);

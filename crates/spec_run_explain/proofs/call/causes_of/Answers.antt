@@ -1,6 +1,5 @@
 use Rattle.std.proofs.Common.{arith}
-use Rattle.spec_run_explain.proofs.CauseLaws.{one_more, all_told}
-use Rattle.spec_run_explain.proofs.ExplainLaws.{all_last}
+use Rattle.spec_run_explain.proofs.{CauseLaws.{one_more, all_causes}, ExplainLaws.{all_last}}
 use Rattle.spec_run_explain.proofs.call.causes_of.Goals as goal
 
 pub loop-element-preserved : goal.loop-element-preserved
@@ -15,7 +14,7 @@ loop-element-preserved c = record {
 
 pub returns : goal.returns
 returns c = record {
-  elements = all_told c.loop-element.causes.items c.args.elements.now c.loop-element.element-index
+  elements = all_causes c.loop-element.causes.items c.args.elements.now c.loop-element.element-index
       (omega (arith, c.loop-element-test.false)) c.loop-element.invariant.elements;
   causes = c.loop-element.invariant.causes_are;
 }

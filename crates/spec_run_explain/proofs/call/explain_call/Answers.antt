@@ -1,7 +1,5 @@
-use Rattle.std.proofs.Common.{sym, subst}
-use Rattle.std.specs.List.{All}
-use Rattle.spec_run_explain.specs.Causes.{FailsAt}
-use Rattle.spec_run_explain.proofs.CauseLaws.{all_fail}
+use Rattle.std.{proofs.Common.{sym, subst}, specs.List.{All}}
+use Rattle.spec_run_explain.{specs.Causes.{FailsAt}, proofs.CauseLaws.{all_fail}}
 use Rattle.spec_run_explain.proofs.call.explain_call.Goals as goal
 
 pub causes_of-requires-clause-failing : goal.causes_of-requires-clause-failing

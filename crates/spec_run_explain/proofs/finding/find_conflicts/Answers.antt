@@ -1,13 +1,9 @@
-use Rattle.std.proofs.Common.{◌≡◌, ℕ, List, take, ap, subst, ◌∙◌}
-use Rattle.std.specs.List.{filter, range_with_len}
-use Rattle.loop_core_model.specs.Intervals.{start_of, end_of}
-use Rattle.loop_core_model.specs.Marks.{Visit, marks_of, marked_conflict}
+use Rattle.std.{proofs.Common.{◌≡◌, ℕ, List, take, ap, subst, ◌∙◌}, specs.List.{filter, range_with_len}}
+use Rattle.loop_core_model.specs.{Intervals.{start_of, end_of}, Marks.{Visit, marks_of, marked_conflict}}
 use Rattle.loop_core_model.specs.Planes.{elements_in_plane, plane_verdict}
-use Rattle.shadow_marks.specs.declared.planes.Planes.{Planes}
-use Rattle.shadow_marks.specs.Standing.{StandFor, test_of}
+use Rattle.shadow_marks.specs.{declared.planes.Planes.{Planes}, Standing.{StandFor, test_of}}
 use Rattle.loop_core_block.specs.Shown.{shown}
-use Rattle.spec_run_explain.proofs.ListLaws.{one_starts, one_ends}
-use Rattle.spec_run_explain.proofs.ConflictLaws.{are_conflicts}
+use Rattle.spec_run_explain.proofs.{ListLaws.{one_starts, one_ends}, ConflictLaws.{are_conflicts}}
 use Rattle.spec_run_explain.proofs.finding.find_conflicts.Goals as goal
 
 pub returns : goal.returns

@@ -1,5 +1,4 @@
-use Rattle.std.proofs.Common.{◌≡◌, ◌≤◌, length}
-use Rattle.std.specs.List.{filter, range_with_len}
+use Rattle.std.{proofs.Common.{◌≡◌, ◌≤◌, length}, specs.List.{filter, range_with_len}}
 use Rattle.loop_core_model.specs.Planes.{bit_of}
 use Rattle.spec_run_explain.proofs.listing.least_elements.Given as goal
 

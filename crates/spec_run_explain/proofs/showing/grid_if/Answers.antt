@@ -1,10 +1,7 @@
-use Rattle.std.proofs.Common.{◌≡◌, ℕ, Option, Some, None, refl, sym, subst, ◌∙◌}
-use Rattle.std.specs.Prelude.{Bool}
-use Rattle.loop_core_grid.specs.declared.focus.Focus.{Focus}
-use Rattle.loop_core_grid.specs.Grids.{IsGrid}
-use Rattle.loop_core_model.specs.LeastBreak.{counted}
-use Rattle.loop_core_witness.specs.Breaks.{IsBreak}
+use Rattle.std.{proofs.Common.{◌≡◌, ℕ, Option, Some, None, refl, sym, subst, ◌∙◌}, specs.Prelude.{Bool}}
+use Rattle.loop_core_witness.specs.{declared.focus.Focus.{Focus}, Grids.{IsGrid}, Breaks.{IsBreak}}
 use Rattle.loop_core_witness.proofs.BreakLaws.{break_within, counted_is}
+use Rattle.loop_core_model.specs.LeastBreak.{counted}
 use Rattle.spec_run_explain.specs.Showing.{first_pair, Shows}
 use Rattle.spec_run_explain.proofs.showing.grid_if.Goals as goal
 

@@ -1,5 +1,4 @@
-use Rattle.std.proofs.Common.{false, sym, ap, ◌∙◌}
-use Rattle.std.specs.Prelude.{is_some}
+use Rattle.std.{proofs.Common.{false, sym, ap, ◌∙◌}, specs.Prelude.{is_some}}
 use Rattle.loop_core_model.specs.declared.loop_test.Test.TheVariants.{Lrpd}
 use Rattle.loop_core_block.specs.Shown.{shown}
 use Rattle.spec_run_explain.proofs.SurveyLaws.{is_stretch}

@@ -1,8 +1,6 @@
-use Rattle.std.proofs.Common.{◌∷◌, [], ◌++◌, Option, subst}
-use Rattle.std.specs.Prelude.{IfSome}
+use Rattle.std.{proofs.Common.{◌∷◌, [], ◌++◌, Option, subst}, specs.Prelude.{IfSome}}
 use Rattle.std.proofs.lemmas.List.Elements.{All-push, All-same}
-use Rattle.loop_core_witness.specs.declared.survey.Stretch.{Stretch}
-use Rattle.loop_core_witness.specs.Surveys.{IsStretch}
+use Rattle.loop_core_witness.specs.{declared.survey.Stretch.{Stretch}, Surveys.{IsStretch}}
 use Rattle.spec_run_explain.proofs.surveying.survey_loop.Goals as goal
 
 pub loop-first-preserved-in_ok-push : goal.loop-first-preserved-in_ok-push
@@ -15,6 +13,6 @@ loop-first-preserved-in_ok-push c =
       each = All-same (IsStretch program call words) c.push.new.self.items (before ++ c.in-Some.stretch ∷ [])
           c.in_ok-push.ensures.items
           (All-push (IsStretch program call words) before c.in-Some.stretch c.loop-first.invariant.each
-          (subst (λ (told : Option Stretch). IfSome told (IsStretch program call words)) c.in-Some.is
+          (subst (λ (stretch : Option Stretch). IfSome stretch (IsStretch program call words)) c.in-Some.is
           c.in_ok-stretch.ensures));
     }

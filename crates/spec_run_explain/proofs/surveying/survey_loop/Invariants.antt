@@ -1,5 +1,4 @@
-use Rattle.std.proofs.Common.{◌-◌}
-use Rattle.std.specs.List.{All}
+use Rattle.std.{proofs.Common.{◌-◌}, specs.List.{All}}
 use Rattle.loop_core_witness.specs.Surveys.{IsStretch}
 use Rattle.spec_run_explain.proofs.surveying.survey_loop.Given as goal
 

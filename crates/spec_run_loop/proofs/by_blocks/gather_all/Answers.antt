@@ -1,12 +1,8 @@
-use Rattle.std.proofs.Common.{Err, map, sym, ◌∙◌, ap, subst}
-use Rattle.std.specs.List.{All}
+use Rattle.std.{proofs.Common.{Err, map, sym, ◌∙◌, ap, subst}, specs.List.{All}}
 use Rattle.loop_core_model.specs.Gather.{gather_fault}
-use Rattle.loop_core_block.specs.Loops.{LoopOf}
-use Rattle.loop_core_block.specs.LoopBlocks.{RecordsRunOf}
-use Rattle.loop_core_block.specs.Shown.{shown}
+use Rattle.loop_core_block.specs.{Loops.{LoopOf}, LoopBlocks.{RecordsRunOf}, Shown.{shown}}
 use Rattle.loop_core_gather.specs.Gathered.{all_gathered}
-use Rattle.spec_run_workers.specs.Workers.{AreFaultless}
-use Rattle.spec_run_workers.proofs.WorkerLaws.{not_both}
+use Rattle.spec_run_workers.{specs.Workers.{AreFaultless}, proofs.WorkerLaws.{not_both}}
 use Rattle.spec_run_loop.proofs.by_blocks.gather_all.Goals as goal
 
 pub gather-requires-clause-ran : goal.gather-requires-clause-ran

@@ -6,5 +6,5 @@ use Rattle.spec_run_loop.proofs.by_blocks.run_by_blocks.Goals as goal
 pub returns-clause-outcome : goal.returns-clause-outcome
 returns-clause-outcome g c =
     subst (λ (job : JobOf). IsOutcome job.plan.test job.program job.call c.args.maps.now
-    c.carry_out-verdict.result.verdict c.carry_out-verdict.result.answer c.carry_out-verdict.new.maps) c.job.view_is
-    c.carry_out-verdict.ensures
+    c.apply-verdict.result.verdict c.apply-verdict.result.answer c.apply-verdict.new.maps) c.job.view_is
+    c.apply-verdict.ensures

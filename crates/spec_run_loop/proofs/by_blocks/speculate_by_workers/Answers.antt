@@ -1,11 +1,7 @@
-use Rattle.std.proofs.Common.{◌<◌, map, vec_len, ap, subst, ◌∙◌, rules, arith}
-use Rattle.std.proofs.lemmas.Grind.{common_steps}
+use Rattle.std.proofs.{Common.{◌<◌, map, vec_len, ap, subst, ◌∙◌, rules, arith}, lemmas.Grind.{common_steps}}
 use Rattle.loop_core_model.specs.Intervals.{blocks_of}
-use Rattle.loop_core_block.specs.Loops.{LoopOf, IsSpeculative}
-use Rattle.loop_core_block.specs.LoopBlocks.{RecordsRunOf}
-use Rattle.loop_core_block.specs.Shown.{shown}
-use Rattle.spec_run_workers.proofs.StillWorks.{all_images}
-use Rattle.spec_run_workers.proofs.WorkerLaws.{boards, ran, complete}
+use Rattle.loop_core_block.specs.{Loops.{LoopOf, IsSpeculative}, LoopBlocks.{RecordsRunOf}, Shown.{shown}}
+use Rattle.spec_run_workers.proofs.{StillWorks.{all_images}, WorkerLaws.{boards, ran, complete}}
 use Rattle.spec_run_loop.proofs.by_blocks.speculate_by_workers.Goals as goal
 
 pub run_workers-requires-clause-blocks : goal.run_workers-requires-clause-blocks

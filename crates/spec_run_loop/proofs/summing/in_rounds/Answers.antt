@@ -1,8 +1,6 @@
 use Rattle.std.proofs.Common.{ℕ, Option, Some, ap, ◌∙◌, subst, arith}
-use Rattle.loop_core_sequential.specs.Rests.{RanTo}
-use Rattle.loop_core_sequential.proofs.InOrder.{stayed, went_both}
-use Rattle.loop_core_sums.specs.SumLoops.{SumLoopOf}
-use Rattle.loop_core_sums.proofs.RoundLaws.{broke_in_round}
+use Rattle.loop_core_sequential.{specs.Rests.{RanTo}, proofs.InOrder.{stayed, went_both}}
+use Rattle.spec_run_loop.{specs.SumLoops.{SumLoopOf}, proofs.RoundLaws.{broke_in_round}}
 use Rattle.spec_run_loop.proofs.summing.in_rounds.Goals as goal
 
 pub returns-in-Some : goal.returns-in-Some

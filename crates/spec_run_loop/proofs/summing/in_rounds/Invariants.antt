@@ -1,7 +1,6 @@
-use Rattle.std.proofs.Common.{◌-◌, ◌<◌}
-use Rattle.std.specs.Prelude.{All}
+use Rattle.std.{proofs.Common.{◌-◌, ◌<◌}, specs.Prelude.{All}}
 use Rattle.loop_core_sequential.specs.Rests.{RanOn}
-use Rattle.loop_core_sums.specs.Sums.{IsSumFor}
+use Rattle.spec_run_loop.specs.Sums.{IsSumFor}
 use Rattle.spec_run_loop.proofs.summing.in_rounds.Given as goal
 
 abbrev pub invariant-loop-from : goal.invariant-loop-from

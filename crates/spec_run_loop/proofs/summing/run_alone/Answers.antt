@@ -1,6 +1,6 @@
 use Rattle.std.proofs.Common.{◌≤◌, sym, ap, ◌∙◌, subst}
 use Rattle.loop_core_sequential.specs.Rests.{RanTo}
-use Rattle.loop_core_sums.specs.SumLoops.{SumLoopOf}
+use Rattle.spec_run_loop.specs.SumLoops.{SumLoopOf}
 use Rattle.spec_run_loop.proofs.summing.run_alone.Goals as goal
 
 pub range_in_order-requires-clause-within : goal.range_in_order-requires-clause-within

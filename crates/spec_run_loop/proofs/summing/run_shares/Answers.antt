@@ -1,9 +1,6 @@
-use Rattle.std.proofs.Common.{ℕ, ◌+◌, ◌<◌, length, ◌∙◌, subst, arith}
-use Rattle.std.specs.Prelude.{slice_index_or}
-use Rattle.loop_core_sums.specs.declared.partial_sum.PartialSum.{PartialSum}
-use Rattle.loop_core_sums.specs.Rounds.{share_start}
-use Rattle.loop_core_sums.specs.Sums.{IsSumOf}
-use Rattle.loop_core_sums.proofs.RoundLaws.{sums_of_round}
+use Rattle.std.{proofs.Common.{ℕ, ◌+◌, ◌<◌, length, ◌∙◌, subst, arith}, specs.Prelude.{slice_index_or}}
+use Rattle.spec_run_loop.specs.{declared.partial_reduction.PartialReduction.{PartialReduction}, Rounds.{share_start}}
+use Rattle.spec_run_loop.{specs.Sums.{IsSumOf}, proofs.RoundLaws.{sums_of_round}}
 use Rattle.spec_run_loop.proofs.summing.run_shares.Goals as goal
 
 pub returns : goal.returns
@@ -13,7 +10,7 @@ returns g c =
     let ran = c.for_each_mut.new.s in
     let kept = c.for_each_mut.auto.s in
     let count = c.requires.count in
-    let each : (share : ℕ) (s : PartialSum) → share < length ran → IsSumOf of (share_start round share)
+    let each : (share : ℕ) (s : PartialReduction) → share < length ran → IsSumOf of (share_start round share)
     (share_start round (share + 1)) (slice_index_or ran share s) = λ share s below.
     (let done = (c.for_each_mut.ensures share s (omega (arith, kept, below))).1 in
     subst (IsSumOf of (share_start round share) (share_start round (share + 1))) done.left done.call) in

@@ -1,8 +1,7 @@
 use Rattle.std.proofs.Common.{sym, ap, ◌∙◌, subst}
 use Rattle.array_maps.specs.MapList.{AreWords}
 use Rattle.loop_core_sequential.specs.Loops.{RanLoopInOrder}
-use Rattle.loop_core_sums.specs.SumLoops.{SumLoopOf}
-use Rattle.spec_run_loop.proofs.SumLaws.{passed_so}
+use Rattle.spec_run_loop.{specs.SumLoops.{SumLoopOf}, proofs.SumLaws.{passed_so}}
 use Rattle.spec_run_loop.proofs.summing.run_sums.Goals as goal
 
 pub in_order-answer-requires-clause-sizes : goal.in_order-answer-requires-clause-sizes

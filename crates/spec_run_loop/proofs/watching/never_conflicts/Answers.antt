@@ -1,6 +1,5 @@
 use Rattle.std.proofs.Common.{◌≡◌, true, IfOk, subst}
-use Rattle.loop_core_independent.specs.Independent.{AlwaysPasses}
-use Rattle.spec_run_loop.specs.Jobs.{JobOf}
+use Rattle.spec_run_loop.specs.{Independent.{AlwaysPasses}, Jobs.{JobOf}}
 use Rattle.spec_run_loop.proofs.watching.never_conflicts.Goals as goal
 
 pub returns : goal.returns

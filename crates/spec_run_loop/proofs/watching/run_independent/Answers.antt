@@ -1,9 +1,7 @@
 use Rattle.std.proofs.Common.{refl, ap, subst}
 use Rattle.array_maps.specs.MapList.{AreWords}
 use Rattle.loop_core_sequential.specs.Loops.{RanLoopInOrder}
-use Rattle.spec_run_loop.specs.declared.decision.LoopAnswer.{LoopAnswer}
-use Rattle.spec_run_loop.specs.Courses.{ToTheEnd}
-use Rattle.spec_run_loop.specs.Jobs.{JobOf}
+use Rattle.spec_run_loop.specs.{declared.decision.LoopAnswer.{LoopAnswer}, Strategies.{ToTheEnd}, Jobs.{JobOf}}
 use Rattle.spec_run_loop.proofs.PassLaws.{passed_in_order, independent_passes}
 use Rattle.spec_run_loop.proofs.watching.run_independent.Goals as goal
 
@@ -19,8 +17,8 @@ returns-clause-outcome c =
     (subst (λ (j : JobOf). RanLoopInOrder j.program j.call start left c.in_order-answer.result) c.job.view_is
     c.in_order-answer.ensures))
 
-pub returns-clause-course : goal.returns-clause-course
-returns-clause-course c otherwise =
+pub returns-clause-strategy : goal.returns-clause-strategy
+returns-clause-strategy c otherwise =
     let job = c.args.job.now in
     let start = c.args.maps.now in
     let left = c.in_order-answer.new.maps in
@@ -30,4 +28,4 @@ returns-clause-course c otherwise =
     (subst AreWords c.words-words.ensures.words c.words-words.ensures.fit)
     (subst (λ (j : JobOf). RanLoopInOrder j.program j.call start left c.in_order-answer.result) c.job.view_is
     c.in_order-answer.ensures))
-    (ap (λ (a : LoopAnswer). a.course) c.passed.ensures)
+    (ap (λ (a : LoopAnswer). a.strategy) c.passed.ensures)

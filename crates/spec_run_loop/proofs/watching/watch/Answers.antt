@@ -4,9 +4,7 @@ use Rattle.loop_core_model.specs.declared.loop_test.Test.{Test}
 use Rattle.loop_core_model.specs.declared.loop_test.Test.TheVariants as tests
 use Rattle.loop_core_sequential.specs.Watched.{RanAndPasses, ReachesWritten}
 use Rattle.loop_core_gather.specs.Gathered.{IsOutcome}
-use Rattle.spec_run_loop.specs.declared.decision.LoopAnswer.{LoopAnswer}
-use Rattle.spec_run_loop.specs.Courses.{ToTheEnd, GivenUp}
-use Rattle.spec_run_loop.specs.Jobs.{JobOf}
+use Rattle.spec_run_loop.specs.{declared.decision.LoopAnswer.{LoopAnswer}, Strategies.{ToTheEnd, GivenUp}, Jobs.{JobOf}}
 use Rattle.spec_run_loop.proofs.PassLaws.{passed_in_order}
 use Rattle.spec_run_loop.proofs.watching.watch.Goals as goal
 
@@ -26,18 +24,18 @@ returns-clause-outcome g c =
     c.carry_out_from-verdict.result.verdict c.carry_out_from-verdict.result.answer c.carry_out_from-verdict.new.maps)
     c.in-Dependent.ensures.0 c.carry_out_from-verdict.ensures
 
-pub returns-in-Passed-clause-course : goal.returns-in-Passed-clause-course
-returns-in-Passed-clause-course g c =
+pub returns-in-Passed-clause-strategy : goal.returns-in-Passed-clause-strategy
+returns-in-Passed-clause-strategy g c =
     let start = c.args.maps.now in
     let left = c.in_order_watched.new.maps in
     ToTheEnd start left c.in-Passed.answer refl
     (subst (λ (job : JobOf). RanAndPasses job.program job.call start left c.in-Passed.answer) c.job.view_is
     c.in-Passed.ensures)
-    (ap (λ (a : LoopAnswer). a.course) c.passed.ensures)
+    (ap (λ (a : LoopAnswer). a.strategy) c.passed.ensures)
 
-pub returns-clause-course : goal.returns-clause-course
-returns-clause-course g c =
+pub returns-clause-strategy : goal.returns-clause-strategy
+returns-clause-strategy g c =
     let start = c.args.maps.now in
     GivenUp start refl
     (subst (λ (job : JobOf). ReachesWritten job.program job.call start) c.job.view_is c.in-Dependent.ensures.1.reaches)
-    c.course.ensures
+    c.strategy.ensures

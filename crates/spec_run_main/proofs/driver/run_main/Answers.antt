@@ -1,11 +1,10 @@
 use Rattle.std.proofs.Common.{rules, ◌++◌, ◌∷◌, [], ◌∙◌, ◌≤◌, sym, subst, arith}
-use Rattle.bpf_step_model.specs.Run.{mapped}
-use Rattle.bpf_step_model.specs.ProgramInOrder.{program_in_order, valid_call, refused_call}
+use Rattle.bpf_step_model.specs.{Run.{mapped}, ProgramInOrder.{program_in_order, valid_call, refused_call}}
 use Rattle.bpf_verify_sound.specs.Soundness.{most_from}
 use Rattle.bpf_step.proofs.Limits.{few_steps, iterations_end}
 use Rattle.spec_run_main.proofs.CallLists.{behind, none_before, one_more, all_made}
-use Rattle.spec_run_main.proofs.Turns.{Laws, program_ends, words_fit, starts, few_left, exits, refuses}
-use Rattle.spec_run_main.proofs.Turns.{refusal_lessens, call_sizes, loops, loop_lessens}
+use Rattle.spec_run_main.proofs.Turns.{Laws, program_ends, words_fit, starts, few_left, exits, refuses, refusal_lessens}
+use Rattle.spec_run_main.proofs.Turns.{call_sizes, loops, loop_lessens}
 use Rattle.spec_run_main.proofs.driver.run_main.Goals as goal
 
 pub loop-call-init : goal.loop-call-init
@@ -26,7 +25,7 @@ loop-call-init g c =
           c.new-main.ensures.program at c.requires.sizes
           (words_fit program c.args.maps.now c.requires.sizes c.sizes-sizes.ensures.words c.words_fit.ensures)
           (none_before whole);
-      told = c.requires.begins;
+      recorded = c.requires.begins;
       room = subst (λ slot. most_from program slot ≤ g.L.LoopRunner.room c.args.runner.now) (sym at.stands.slot)
           (grind (arith, few, room));
     }
@@ -37,9 +36,9 @@ next-requires-clause-served g c = few_left c.loop-call.invariant.still
 pub run_call-requires-clause-sizes : goal.run_call-requires-clause-sizes
 run_call-requires-clause-sizes g c = call_sizes c.loop-call.invariant.still c.in-Loop.ensures.ran
 
-pub run_call-requires-clause-told : goal.run_call-requires-clause-told
-run_call-requires-clause-told g c =
-    (c.args.runner.now, c.loop-call.invariant.calls, c.loop-call.invariant.told)
+pub run_call-requires-clause-recorded : goal.run_call-requires-clause-recorded
+run_call-requires-clause-recorded g c =
+    (c.args.runner.now, c.loop-call.invariant.calls, c.loop-call.invariant.recorded)
 
 pub loop-call-preserved-in-Loop : goal.loop-call-preserved-in-Loop
 loop-call-preserved-in-Loop g c =
@@ -56,7 +55,7 @@ loop-call-preserved-in-Loop g c =
     record {
       calls = before.calls ++ valid_call after.0 answer words ∷ [];
       still = after.2;
-      told = c.in_ok-answer-in-Loop.ensures.told c.args.runner.now before.calls after.0 after.1 before.told;
+      recorded = c.in_ok-answer-in-Loop.ensures.recorded c.args.runner.now before.calls after.0 after.1 before.recorded;
       room = omega (arith, fewer, room, used);
     }
 
@@ -76,8 +75,8 @@ loop-call-preserved g c =
       calls = before.calls ++ refused ∷ [];
       still = refuses before.still c.next.ensures.program c.in-Refused.ensures.ran
           (mapped (behind (before.calls ++ refused ∷ []))) (one_more before.calls refused);
-      told = c.in_ok-note_refusal-in-Refused.ensures.told c.args.program.now c.args.runner.now before.calls words
-          before.told;
+      recorded = c.in_ok-note_refusal-in-Refused.ensures.recorded c.args.program.now c.args.runner.now before.calls
+          words before.recorded;
       room = omega (arith, fewer, room, used);
     }
 
@@ -94,7 +93,7 @@ returns-in-Exit g c =
     record {
       calls = before.calls;
       gives = end.0 ∙ all_made before.calls c.in-Exit.ret c.next.new.store.words;
-      tells = before.told;
+      recorded = before.recorded;
       kept = end.1;
       ends = program_ends before.still.laws c.args.argument (search rules) c.args.maps.now.words fit;
       iterations = iterations_end before.still.laws.loops before.still.laws.counts c.args.program.now

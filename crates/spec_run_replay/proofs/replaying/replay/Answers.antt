@@ -1,14 +1,9 @@
-use Rattle.std.proofs.Common.{rules, ◌≡◌, ℕ, ℤ, pos, w64, ◌<◌, ◌^◌, ◌∙◌, sym, ap}
-use Rattle.std.proofs.Common.{subst, List, None, Some, Err, Option, arith}
-use Rattle.std.proofs.lemmas.Int.{ints}
-use Rattle.std.specs.Int.{cast_signed, cast_unsigned}
+use Rattle.std.proofs.Common.{rules, ◌≡◌, ℕ, ℤ, pos, w64, ◌<◌, ◌^◌, ◌∙◌, sym, ap, subst, List, None, Some, Err, Option}
+use Rattle.std.{proofs.{Common.{arith}, lemmas.Int.{ints}}, specs.Int.{cast_signed, cast_unsigned}}
 use Rattle.bpf_verify_sound.specs.Soundness.{IsSoundProgram}
-use Rattle.loop_core_model.specs.Split.{split_fault}
-use Rattle.loop_core_model.specs.declared.verdict.LoopReport.{LoopReport}
-use Rattle.loop_core_model.specs.declared.replay_fault.ReplayFault.{ReplayFault}
-use Rattle.loop_core_model.specs.Outcome.{Outcome, replayed}
-use Rattle.spec_run_replay.specs.FoundLoop.{CameToLoop}
-use Rattle.spec_run_replay.specs.ProgramReplay.{ReplaysFrom}
+use Rattle.loop_core_model.specs.{Split.{split_fault}, declared.verdict.LoopReport.{LoopReport}}
+use Rattle.loop_core_model.specs.{declared.replay_fault.ReplayFault.{ReplayFault}, Outcome.{Outcome, replayed}}
+use Rattle.spec_run_replay.specs.{FoundLoop.{CameToLoop}, ProgramReplay.{ReplaysFrom}}
 use Rattle.spec_run_replay.specs.declared.first_loop.NumberedCall.{NumberedCall}
 use Rattle.spec_run_replay.specs.declared.replaying.ReplayRefusal.TheVariants.{Schedule}
 use Rattle.spec_run_replay.proofs.ReplayLaws.{schedule_refused, loop_replayed}
@@ -46,13 +41,13 @@ returns-in-Ok-replay_loop-clause-replayed c =
     let small : left.answer < 2 ^ 32 = search rules in
     let answer : cast_signed w64 (cast_unsigned w64 c.from.result) ≡ pos left.answer =
     ap (λ (z : ℤ). cast_signed w64 (cast_unsigned w64 z)) c.from.ensures ∙ sym (word_kept left.answer small) in
-    let told : LoopReport = record {
+    let report : LoopReport = record {
       slot = c.slot.result;
       answer = cast_signed w64 (cast_unsigned w64 c.from.result);
       verdict = left.verdict;
     } in
     loop_replayed c.args.test program c.args.argument c.args.maps new bounds c.args.events.now found
-    c.law_of_filled_calls.ensures (sound at) (split at) (came at) o ended told
+    c.law_of_filled_calls.ensures (sound at) (split at) (came at) o ended report
     (ap (λ (s : ℕ). record {
       slot = s;
       answer = cast_signed w64 (cast_unsigned w64 c.from.result);

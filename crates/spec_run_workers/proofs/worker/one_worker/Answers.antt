@@ -1,8 +1,6 @@
-use Rattle.loop_core_block.specs.LoopBlocks.{RecordsRunOf}
-use Rattle.loop_core_block.specs.Shown.{shown}
+use Rattle.loop_core_block.specs.{LoopBlocks.{RecordsRunOf}, Shown.{shown}}
 use Rattle.std.proofs.Common.{map}
-use Rattle.spec_run_workers.specs.CompleteLaw.{WorkerOf}
-use Rattle.spec_run_workers.proofs.WorkerLaws.{images_all, worker_at}
+use Rattle.spec_run_workers.{specs.CompleteLaw.{WorkerOf}, proofs.WorkerLaws.{images_all, worker_at}}
 use Rattle.spec_run_workers.proofs.worker.one_worker.Goals as goal
 
 pub returns : goal.returns

@@ -1,5 +1,4 @@
-use Rattle.loop_core_block.specs.LoopBlocks.{RecordsRunOf}
-use Rattle.loop_core_block.specs.Shown.{shown}
+use Rattle.loop_core_block.specs.{LoopBlocks.{RecordsRunOf}, Shown.{shown}}
 use Rattle.spec_run_workers.proofs.AloneLaws.{all_of_one, alone_faultless}
 use Rattle.spec_run_workers.proofs.worker.run_alone.Goals as goal
 

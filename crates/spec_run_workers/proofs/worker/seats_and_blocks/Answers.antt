@@ -1,10 +1,7 @@
 use Rattle.std.proofs.Common.{◌≡◌, ◌+◌, ◌-◌, ◌++◌, ℕ, List, [], ◌∷◌, map, vec_len, ◌∙◌, ap, subst, rules, arith, IfOk}
-use Rattle.std.proofs.lemmas.Grind.{common_steps}
-use Rattle.std.proofs.lemmas.List.{map-append}
-use Rattle.loop_core_block.specs.declared.block.Block.{Block}
-use Rattle.loop_core_block.specs.Shown.{shown}
-use Rattle.spec_run_workers.specs.declared.worker.Worker.{Worker}
-use Rattle.spec_run_workers.specs.Workers.{board_worker, IsWorkerAt, AreOfWorkers}
+use Rattle.std.proofs.lemmas.{Grind.{common_steps}, List.{map-append}}
+use Rattle.loop_core_block.specs.{declared.block.Block.{Block}, Shown.{shown}}
+use Rattle.spec_run_workers.specs.{declared.worker.Worker.{Worker}, Workers.{board_worker, IsWorkerAt, AreOfWorkers}}
 use Rattle.spec_run_workers.proofs.WorkerLaws.{popped, one_more}
 use Rattle.spec_run_workers.proofs.worker.seats_and_blocks.Goals as goal
 

@@ -1,7 +1,6 @@
 use Rattle.std.proofs.Common.{◌≤◌, ◌-◌, All, IfOk, map, vec_len}
 use Rattle.loop_board.specs.Seats.{BoardId}
-use Rattle.loop_core_block.specs.Loops.{LoopOf}
-use Rattle.loop_core_block.specs.Shown.{shown}
+use Rattle.loop_core_block.specs.{Loops.{LoopOf}, Shown.{shown}}
 use Rattle.spec_run_workers.specs.Workers.{board_worker, IsWorkerAt, AreOfWorkers}
 use Rattle.spec_run_workers.proofs.worker.seats_and_blocks.Given as goal
 

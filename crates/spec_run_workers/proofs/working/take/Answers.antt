@@ -1,11 +1,9 @@
 use Rattle.std.proofs.Common.{◌≤◌, ℕ, sym, ap, ◌∙◌, subst}
 use Rattle.loop_core_model.specs.Intervals.{start_of}
-use Rattle.loop_core_block.specs.Loops.{LoopOf, IsSpeculative}
-use Rattle.loop_core_block.specs.Shown.{shown}
-use Rattle.spec_run_workers.specs.Worked.{NotRun}
+use Rattle.loop_core_block.specs.{Loops.{LoopOf, IsSpeculative}, Shown.{shown}}
+use Rattle.spec_run_workers.{specs.Worked.{NotRun}, proofs.working.take.Goals.{in-Some, in_default}}
 use Rattle.spec_run_workers.proofs.StillWorks.{on_err, stops_looking, runs_on, breaks, break_small}
 use Rattle.spec_run_workers.proofs.working.take.Goals as goal
-use Rattle.spec_run_workers.proofs.working.take.Goals.{in-Some, in_default}
 
 pub returns-in_err-block-clause-not_run : goal.returns-in_err-block-clause-not_run
 returns-in_err-block-clause-not_run g c =

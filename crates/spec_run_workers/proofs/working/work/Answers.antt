@@ -1,9 +1,6 @@
 use Rattle.std.proofs.Common.{◌<◌, List, [], ◌∷◌, ◌++◌, length, Option, map, sym, ◌∙◌, ap, subst, append-nil, arith}
-use Rattle.std.specs.Option.{option_to_list}
-use Rattle.std.proofs.lemmas.List.{map-append}
-use Rattle.loop_core_block.specs.declared.block.Block.{Block}
-use Rattle.loop_core_block.specs.LoopBlocks.{RecordsRunOf}
-use Rattle.loop_core_block.specs.Shown.{shown}
+use Rattle.std.{specs.Option.{option_to_list}, proofs.lemmas.List.{map-append}}
+use Rattle.loop_core_block.specs.{declared.block.Block.{Block}, LoopBlocks.{RecordsRunOf}, Shown.{shown}}
 use Rattle.spec_run_workers.specs.Worked.{WorkerStopped}
 use Rattle.spec_run_workers.proofs.StillWorks.{on_err, less_left, all_images, begins, drew_one, stops_behind, goes_on}
 use Rattle.spec_run_workers.proofs.working.work.Goals as goal

@@ -1,5 +1,4 @@
-use Rattle.tests_loops.specs.Stages.{IsRunOn}
-use Rattle.tests_loops.proofs.AllLaws.{pushed}
+use Rattle.tests_loops.{specs.Stages.{IsRunOn}, proofs.AllLaws.{pushed}}
 use Rattle.tests_loops.proofs.stage.all_blocks.Goals as goal
 
 pub loop-number-preserved : goal.loop-number-preserved

@@ -31,7 +31,7 @@ fn left_by_blocks(rt: &impl Abort, alloc: Global, stage: &Stage) -> Result<Vec<L
 }
 
 /// Runs the loop in order, on a copy of its maps.
-fn comes_to_33_in_order(rt: &impl Abort, alloc: Global, stage: &Stage) -> Result<(), Fail>
+fn is_33_in_order(rt: &impl Abort, alloc: Global, stage: &Stage) -> Result<(), Fail>
     requires { IsStage stage.now }
 {
     let mut maps = stage.maps.try_copy(alloc)?;
@@ -44,7 +44,7 @@ fn comes_to_33_in_order(rt: &impl Abort, alloc: Global, stage: &Stage) -> Result
 #[test]
 fn two_blocks_are_the_loop_in_order(rt: HostRuntime) -> Result<(), Fail> {
     let mut stage = stage_of(rt.alloc(), ADDS, 2).ok_or("a loop")?;
-    comes_to_33_in_order(&rt, rt.alloc(), &stage)?;
+    is_33_in_order(&rt, rt.alloc(), &stage)?;
     let pages = left_by_blocks(&rt, rt.alloc(), &stage)?;
     store_pages(&mut stage.maps, &pages);
     assert_eq!(rt; stage.maps.words(), [33].as_slice());

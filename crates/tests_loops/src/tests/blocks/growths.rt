@@ -54,14 +54,14 @@ fn stage_at_last(alloc: Global, case: &Case) -> Option<Stage>
 
 /// Runs a loop's blocks, gathers them, and commits them or runs the loop in order, once more if memory ran out. Asserts
 /// the outcome, and that the borrowed maps are unchanged.
-fn comes_to(rt: &impl Abort, alloc: Global, case: &Case, test: Test) -> Result<(), Fail> {
+fn has_outcome(rt: &impl Abort, alloc: Global, case: &Case, test: Test) -> Result<(), Fail> {
     let stage = stage_at_last(alloc, case).ok_or("a row has a loop")?;
-    let mut told = outcome_of(alloc, &stage, test);
-    if let Err(GatherError::Memory) = told {
+    let mut outcome = outcome_of(alloc, &stage, test);
+    if let Err(GatherError::Memory) = outcome {
         assert_eq!(rt; stage.maps.words(), case.words);
-        told = outcome_of(alloc, &stage, test);
+        outcome = outcome_of(alloc, &stage, test);
     }
-    let outcome = told?;
+    let outcome = outcome?;
     assert_eq!(rt; outcome.verdict, case.verdict);
     assert_eq!(rt; outcome.answer, case.answer);
     assert_eq!(rt; outcome.maps.words(), case.left);
@@ -70,11 +70,11 @@ fn comes_to(rt: &impl Abort, alloc: Global, case: &Case, test: Test) -> Result<(
 }
 
 #[test]
-fn lent_maps_stay_after_a_pass(rt: HostRuntime) -> Result<(), Fail> {
-    comes_to(&rt, rt.alloc(), &BREAKS_AT_5, Test::Flow)
+fn borrowed_maps_stay_after_a_pass(rt: HostRuntime) -> Result<(), Fail> {
+    has_outcome(&rt, rt.alloc(), &BREAKS_AT_5, Test::Flow)
 }
 
 #[test]
-fn lent_maps_stay_after_a_conflict(rt: HostRuntime) -> Result<(), Fail> {
-    comes_to(&rt, rt.alloc(), &COPIES_ON, Test::Lrpd)
+fn borrowed_maps_stay_after_a_conflict(rt: HostRuntime) -> Result<(), Fail> {
+    has_outcome(&rt, rt.alloc(), &COPIES_ON, Test::Lrpd)
 }

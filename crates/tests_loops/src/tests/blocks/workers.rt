@@ -1,8 +1,7 @@
 //! Two workers of one loop, each in a thread of the test, that meet as they run.
 
 ghost use Rattle.std.specs.Prelude.{◌≡◌, All, IfOk};
-ghost use Rattle.loop_core_model.specs.declared.loop_test.Test.TheVariants.{Flow};
-ghost use Rattle.loop_core_model.specs.Intervals.{blocks_of};
+ghost use Rattle.loop_core_model.specs.{declared.loop_test.Test.TheVariants.{Flow}, Intervals.{blocks_of}};
 ghost use Rattle.tests_loops.specs.Stages.{IsStage, IsRunOn};
 
 use crate::meeting::{Holds, MeetingGate};
@@ -94,10 +93,10 @@ fn two_workers_share_the_blocks_of_a_loop(rt: HostRuntime) -> Result<(), Fail> {
     let stage = stage_of(rt.alloc(), ADDS, 2).ok_or("a row has a loop")?;
     let gate = MeetingGate::new(EACH_FOR_THE_OTHER);
     let blocks = two_workers(&rt, rt.alloc(), &stage, &gate)?;
-    let told = gathered(rt.alloc(), &stage, blocks, Test::Flow)?;
-    assert_eq!(rt; told.verdict(), Verdict::Parallel);
-    assert_eq!(rt; [told.answer(), told.elements()], [8, 1]);
-    assert_eq!(rt; told.element(0), 27);
+    let outcome = gathered(rt.alloc(), &stage, blocks, Test::Flow)?;
+    assert_eq!(rt; outcome.verdict(), Verdict::Parallel);
+    assert_eq!(rt; [outcome.answer(), outcome.elements()], [8, 1]);
+    assert_eq!(rt; outcome.element(0), 27);
     assert!(rt; gate.has_met());
     Ok(())
 }

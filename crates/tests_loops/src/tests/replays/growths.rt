@@ -39,16 +39,16 @@ fn is_still(
     events: &[Event],
     test: Test,
 ) {
-    let mut told = stage.comes_to(alloc, row, events, test);
-    if told == Err(ReplayError::Memory) {
+    let mut replayed = stage.has_outcome(alloc, row, events, test);
+    if replayed == Err(ReplayError::Memory) {
         assert!(rt;
             stage.words() == row.words,
             "a refused replay leaves the maps"
         );
-        told = stage.comes_to(alloc, row, events, test);
+        replayed = stage.has_outcome(alloc, row, events, test);
     }
     assert!(rt;
-        told == Ok(true) && stage.words() == row.words,
+        replayed == Ok(true) && stage.words() == row.words,
         "of {test:?}"
     );
 }
@@ -69,11 +69,11 @@ fn stand_still(
 }
 
 #[test]
-fn lent_maps_stay_after_a_conflict(rt: HostRuntime) -> Result<(), Fail> {
+fn borrowed_maps_stay_after_a_conflict(rt: HostRuntime) -> Result<(), Fail> {
     stand_still(&rt, rt.alloc(), &A_BREAK_THAT_IS_NONE, 15, Test::Lrpd)
 }
 
 #[test]
-fn lent_maps_stay_after_a_pass(rt: HostRuntime) -> Result<(), Fail> {
+fn borrowed_maps_stay_after_a_pass(rt: HostRuntime) -> Result<(), Fail> {
     stand_still(&rt, rt.alloc(), &AN_EARLY_BREAK, 13, Test::Flow)
 }

@@ -65,8 +65,8 @@ fn lists_are_judged(rt: &impl Abort, alloc: Global, row: &Row) -> Result<(), Fai
         for number in 0..lists_of(length) {
             let list = list_of(number);
             let events = &list[..length];
-            let told = stage.comes_to(alloc, row, events, Test::Flow);
-            assert!(rt; told == said_of(row, events), "of {events:?}");
+            let replayed = stage.has_outcome(alloc, row, events, Test::Flow);
+            assert!(rt; replayed == said_of(row, events), "of {events:?}");
         }
     }
     Ok(())

@@ -49,8 +49,8 @@ fn schedules_agree(
         for word in 0..1 << length {
             if goes_on(row, word, length, &mut events)? {
                 ended = ended.saturating_add(1);
-                let told = stage.comes_to(alloc, row, &events, test);
-                assert!(rt; told == Ok(true), "of {events:?}");
+                let replayed = stage.has_outcome(alloc, row, &events, test);
+                assert!(rt; replayed == Ok(true), "of {events:?}");
             }
         }
     }

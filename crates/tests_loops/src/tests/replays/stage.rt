@@ -93,7 +93,7 @@ impl Stage {
     }
 
     /// Whether the replay of a list of events has the row's outcome.
-    pub fn comes_to(
+    pub fn has_outcome(
         &self,
         alloc: Global,
         row: &Row,

@@ -84,12 +84,12 @@ fn plan_of(held: &Held) -> Plan {
 fn has_passed(
     rt: &impl Abort,
     alloc: Global,
-    told: &str,
+    text: &str,
     wanted: &str,
     gate: &MeetingGate,
 ) -> Result<(), Fail> {
     let wanted = wanted.replace(alloc, " | ", "\n")?;
-    assert_eq!(rt; told.trim_end(), wanted.as_str());
+    assert_eq!(rt; text.trim_end(), wanted.as_str());
     assert!(rt; gate.has_met(), "of {wanted}");
     Ok(())
 }
@@ -98,9 +98,9 @@ fn loop_passes<R: Threads + Sync + Abort>(rt: &R, alloc: Global, held: &Held) ->
     let gate = MeetingGate::new(held.holds);
     let row = read_row(alloc, held.row).ok_or("a row has a program")?;
     let first = first_loop(alloc, &row).ok_or("a program has a loop")?;
-    let told = loop_report(rt, alloc, &row, &first, &plan_of(held), &gate)?;
+    let text = loop_report(rt, alloc, &row, &first, &plan_of(held), &gate)?;
     let (_, wanted) = held.report.split_once(" | ").ok_or("a report has lines")?;
-    has_passed(rt, alloc, &told, wanted, &gate)
+    has_passed(rt, alloc, &text, wanted, &gate)
 }
 
 fn program_passes<R: Threads + Sync + Abort>(
@@ -110,14 +110,14 @@ fn program_passes<R: Threads + Sync + Abort>(
 ) -> Result<(), Fail> {
     let gate = MeetingGate::new(held.holds);
     let row = read_row(alloc, held.row).ok_or("a row has a program")?;
-    let told = report(rt, alloc, &row, &plan_of(held), &gate)?;
-    has_passed(rt, alloc, &told, held.report, &gate)
+    let text = report(rt, alloc, &row, &plan_of(held), &gate)?;
+    has_passed(rt, alloc, &text, held.report, &gate)
 }
 
 fn input_passes<R: Threads + Sync + Abort>(rt: &R, alloc: Global, held: &Held) -> Result<(), Fail> {
     let gate = MeetingGate::new(held.holds);
-    let told = served(rt, alloc, held.row, &plan_of(held), &gate)?;
-    has_passed(rt, alloc, &told, held.report, &gate)
+    let text = served(rt, alloc, held.row, &plan_of(held), &gate)?;
+    has_passed(rt, alloc, &text, held.report, &gate)
 }
 
 const ALL: [Held; 4] = [ADDS, BREAKS_AT_5, THREE_AT_ONCE, LEAST_BREAK_LAST];
@@ -168,8 +168,8 @@ fn workers_of_a_loop_that_pays_meet(rt: HostRuntime) -> Result<(), Fail> {
         policy: Policy::Pays,
         ..plan_of(&WORTH_THREADS)
     };
-    let told = report(&rt, rt.alloc(), &row, &plan, &gate)?;
-    has_passed(&rt, rt.alloc(), &told, WORTH_THREADS.report, &gate)
+    let text = report(&rt, rt.alloc(), &row, &plan, &gate)?;
+    has_passed(&rt, rt.alloc(), &text, WORTH_THREADS.report, &gate)
 }
 
 /// A bit for each of the numbers 0 to 3.
@@ -177,7 +177,7 @@ const FIRST_FOUR: u64 = 15;
 
 /// One worker sees the break of the first block, and runs no iteration of the others: a look that loads nothing would.
 #[test]
-fn blocks_behind_a_break_are_skipped(rt: HostRuntime) -> Result<(), Fail> {
+fn blocks_after_a_break_are_skipped(rt: HostRuntime) -> Result<(), Fail> {
     let held = Held {
         workers: 1,
         holds: Holds {
@@ -188,8 +188,8 @@ fn blocks_behind_a_break_are_skipped(rt: HostRuntime) -> Result<(), Fail> {
     };
     let gate = MeetingGate::new(held.holds);
     let row = read_row(rt.alloc(), held.row).ok_or("a row has a program")?;
-    let told = report(&rt, rt.alloc(), &row, &plan_of(&held), &gate)?;
-    has_passed(&rt, rt.alloc(), &told, held.report, &gate)?;
+    let text = report(&rt, rt.alloc(), &row, &plan_of(&held), &gate)?;
+    has_passed(&rt, rt.alloc(), &text, held.report, &gate)?;
     assert_eq!(rt; [gate.blocks.came(), gate.turns.came()], [FIRST_FOUR; 2]);
     Ok(())
 }

@@ -85,8 +85,8 @@ fn row_of(alloc: Global, case: &Case) -> Result<Row, Fail> {
 }
 
 /// Whether memory ran out; the maps are as they were then.
-fn is_refused(rt: &impl Abort, case: &Case, told: &Result<Report, RunError>, maps: &Maps) -> bool {
-    match told {
+fn is_refused(rt: &impl Abort, case: &Case, ran: &Result<Report, RunError>, maps: &Maps) -> bool {
+    match ran {
         Err(RunError::Memory) => {
             assert_eq!(rt; maps.words(), case.words);
             true
@@ -110,11 +110,11 @@ fn runs_at_last<R: Threads + Sync + Abort, G: Gate>(
     gate: &G,
 ) -> Result<(), Fail> {
     let Row { program, mut maps } = row_of(alloc, case)?;
-    let mut told = run(rt, alloc, &program, &mut maps, 0, &PLAN, gate);
-    if is_refused(rt, case, &told, &maps) {
-        told = run(rt, alloc, &program, &mut maps, 0, &PLAN, gate);
+    let mut ran = run(rt, alloc, &program, &mut maps, 0, &PLAN, gate);
+    if is_refused(rt, case, &ran, &maps) {
+        ran = run(rt, alloc, &program, &mut maps, 0, &PLAN, gate);
     }
-    is_run(rt, case, &told?, &maps);
+    is_run(rt, case, &ran?, &maps);
     Ok(())
 }
 
@@ -145,9 +145,9 @@ fn maps_stay_where_a_worker_past_the_break_is_refused(rt: HostRuntime) -> Result
 fn maps_stay_where_order_is_refused(rt: HostRuntime) -> Result<(), Fail> {
     let alloc = rt.alloc();
     let Row { program, mut maps } = row_of(alloc, &TWO_LOOPS)?;
-    let mut told = run_in_order(alloc, &program, &mut maps, 0);
-    if is_refused(&rt, &TWO_LOOPS, &told, &maps) {
-        told = run_in_order(alloc, &program, &mut maps, 0);
+    let mut ran = run_in_order(alloc, &program, &mut maps, 0);
+    if is_refused(&rt, &TWO_LOOPS, &ran, &maps) {
+        ran = run_in_order(alloc, &program, &mut maps, 0);
     }
     let in_order = Case {
         loops: &[
@@ -164,6 +164,6 @@ fn maps_stay_where_order_is_refused(rt: HostRuntime) -> Result<(), Fail> {
         ],
         ..TWO_LOOPS
     };
-    is_run(&rt, &in_order, &told?, &maps);
+    is_run(&rt, &in_order, &ran?, &maps);
     Ok(())
 }

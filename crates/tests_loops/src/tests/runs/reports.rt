@@ -35,12 +35,12 @@ pub(crate) fn loop_report<R: Threads + Sync, G: Gate>(
         test: plan.test,
     };
     let outcome = run_loop(rt, &by, gate)?;
-    let told = LoopReport {
+    let line = LoopReport {
         slot: first.call.slot(),
         answer: i64::from(outcome.answer),
         verdict: outcome.verdict,
     };
-    Ok(print_replay(alloc, 0, &told, &outcome.maps)?)
+    Ok(print_replay(alloc, 0, &line, &outcome.maps)?)
 }
 
 /// The report on the program of a row: its return value, its loops, and the maps after it.
@@ -52,8 +52,8 @@ pub(crate) fn report<R: Threads + Sync, G: Gate>(
     gate: &G,
 ) -> Result<String, Fail> {
     let mut maps = row.maps.try_copy(alloc)?;
-    let told = run(rt, alloc, &row.program, &mut maps, 0, plan, gate)?;
-    Ok(print_report(alloc, told.ret, &told.loops, &maps)?)
+    let ran = run(rt, alloc, &row.program, &mut maps, 0, plan, gate)?;
+    Ok(print_report(alloc, ran.ret, &ran.loops, &maps)?)
 }
 
 /// What is written where a row is the input.

@@ -1,7 +1,6 @@
 -- What the operands' spans contain decides what the result's contains.
 use Rattle.std.proofs.Common.{subst}
-use Rattle.value_range.specs.Spans.{Span, IsSpan}
-use Rattle.value_range.proofs.AluContains.{span_of-contains}
+use Rattle.value_range.{specs.Spans.{Span, IsSpan}, proofs.AluContains.{span_of-contains}}
 use Rattle.value_range.proofs.arithmetic.alu.Goals as goal
 
 pub returns-clause-contains : goal.returns-clause-contains

@@ -1,6 +1,5 @@
 -- Operands are spans, so each row leaves one and contains the meaning.
-use Rattle.value_range.proofs.AluContains.{span_of-contains}
-use Rattle.value_range.proofs.RowSpans.{operand-span, span_of-span}
+use Rattle.value_range.proofs.{AluContains.{span_of-contains}, RowSpans.{operand-span, span_of-span}}
 use Rattle.value_range.proofs.laws.alu_law.Goals as goal
 
 pub returns : goal.returns

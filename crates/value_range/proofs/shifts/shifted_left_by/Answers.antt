@@ -1,6 +1,5 @@
 -- Nothing is lost where the greatest number, shifted, is one of the width.
-use Rattle.value_range.proofs.RowBounds.{shifted_left_some}
-use Rattle.value_range.proofs.RowLaws.{left-bounds, left-row}
+use Rattle.value_range.proofs.{RowBounds.{shifted_left_some}, RowLaws.{left-bounds, left-row}}
 use Rattle.value_range.proofs.shifts.shifted_left_by.Goals as goal
 
 pub norm-requires-clause-some : goal.norm-requires-clause-some

@@ -1,9 +1,6 @@
-use Rattle.std.proofs.Common.{rules, ◌≡◌, ◌<◌, ◌^◌, ap, length, ◌++◌, sym, subst, ◌∙◌, arith}
-use Rattle.std.proofs.ByRecursion.{All-append}
-use Rattle.std.proofs.lemmas.List.{take_all}
-use Rattle.std.specs.List.{concat, sum}
-use Rattle.array_maps.specs.MapList.{AreWords, lists}
-use Rattle.array_maps.proofs.MapLists.{one_map_more, length_concat}
+use Rattle.std.proofs.{Common.{rules, ◌≡◌, ◌<◌, ◌^◌, ap, length, ◌++◌, sym, subst, ◌∙◌, arith}, lemmas.List.{take_all}}
+use Rattle.std.{proofs.ByRecursion.{All-append}, specs.List.{concat, sum}}
+use Rattle.array_maps.{specs.MapList.{AreWords, lists}, proofs.MapLists.{one_map_more, length_concat}}
 use Rattle.array_maps.proofs.maps.Maps.of.Goals as goal
 
 pub loop-map-preserved : goal.loop-map-preserved

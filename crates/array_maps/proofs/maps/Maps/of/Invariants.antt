@@ -1,5 +1,4 @@
-use Rattle.std.proofs.Common.{◌≡◌, take}
-use Rattle.std.specs.List.{concat}
+use Rattle.std.{proofs.Common.{◌≡◌, take}, specs.List.{concat}}
 use Rattle.array_maps.specs.MapList.{AreWords, lists}
 use Rattle.array_maps.proofs.maps.Maps.of.Given as goal
 

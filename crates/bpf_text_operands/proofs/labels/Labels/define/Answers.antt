@@ -1,8 +1,6 @@
-use Rattle.std.proofs.Common.{rules, ◌≡◌, ap, ◌∙◌, unwrap_or}
-use Rattle.std.specs.BTreeMap.Entry.{map_with_value}
+use Rattle.std.{proofs.Common.{rules, ◌≡◌, ap, ◌∙◌, unwrap_or}, specs.BTreeMap.Entry.{map_with_value}}
 use Rattle.std.proofs.lemmas.Map.Text.{btree_map_updates_str}
-use Rattle.bpf_text_operands.specs.LabelTable.{label_named}
-use Rattle.bpf_text_operands.proofs.LabelLaws.{defined_once}
+use Rattle.bpf_text_operands.{specs.LabelTable.{label_named}, proofs.LabelLaws.{defined_once}}
 use Rattle.bpf_text_operands.proofs.labels.Labels.define.Goals as goal
 
 pub returns : goal.returns

@@ -1,9 +1,7 @@
 use Rattle.std.proofs.Common.{◌≡◌, ℕ, List, Bool, false, get_or, sym, ◌∙◌, ap, inl, inr, arith}
 use Rattle.std.proofs.lemmas.Bool.{cases_eq}
-use Rattle.bpf_verify_model.specs.Written.{all_written}
-use Rattle.bpf_verify_model.specs.Words.{marks_in_words}
+use Rattle.bpf_verify_model.{specs.{Written.{all_written}, Words.{marks_in_words}}, proofs.MarkLaws.{marked, unmarked}}
 use Rattle.bpf_verify_model.specs.WordsBack.{length-marks_in_words, get_or-marks_in_words}
-use Rattle.bpf_verify_model.proofs.MarkLaws.{marked, unmarked}
 use Rattle.bpf_verify_model.proofs.WriteLaws.{all_written-yes, all_written-no}
 use Rattle.bpf_verify_model.proofs.written.WrittenBytes.all_written.Goals as goal
 

@@ -1,7 +1,5 @@
-use Rattle.std.proofs.Common.{◌≡◌, refl, sym, ◌∙◌, ap, arith, List, Bool, get_or}
-use Rattle.std.specs.Prelude.{bit_and}
-use Rattle.bpf_verify_model.specs.Written.{joined_written}
-use Rattle.bpf_verify_model.specs.Words.{marks_in_words}
+use Rattle.std.{proofs.Common.{◌≡◌, refl, sym, ◌∙◌, ap, arith, List, Bool, get_or}, specs.Prelude.{bit_and}}
+use Rattle.bpf_verify_model.specs.{Written.{joined_written}, Words.{marks_in_words}}
 use Rattle.bpf_verify_model.proofs.MeetLaws.{met_to, met_to-none, met_to-step}
 use Rattle.bpf_verify_model.proofs.WordMeetLaws.{AreMarkWords-met, marks_in_words-met}
 use Rattle.bpf_verify_model.proofs.written.WrittenBytes.join.Goals as goal

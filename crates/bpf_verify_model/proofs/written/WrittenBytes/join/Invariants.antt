@@ -1,5 +1,4 @@
-use Rattle.std.proofs.Common.{◌≡◌}
-use Rattle.std.specs.Prelude.{bit_and}
+use Rattle.std.{proofs.Common.{◌≡◌}, specs.Prelude.{bit_and}}
 use Rattle.bpf_verify_model.proofs.MeetLaws.{met_to}
 use Rattle.bpf_verify_model.proofs.written.WrittenBytes.join.Given as goal
 

@@ -1,8 +1,6 @@
 use Rattle.std.proofs.Common.{◌≡◌, ℕ, suc, ◌+◌, ◌-◌, ◌/◌, ◌<◌, List, Bool, true, get_or, set, sym, ◌∙◌, ap, arith}
 use Rattle.std.specs.Prelude.{bit_or}
-use Rattle.bpf_verify_model.specs.Written.{written_from}
-use Rattle.bpf_verify_model.specs.Words.{marks_in_words}
-use Rattle.bpf_verify_model.specs.WordsBack.{length-marks_in_words}
+use Rattle.bpf_verify_model.specs.{Written.{written_from}, Words.{marks_in_words}, WordsBack.{length-marks_in_words}}
 use Rattle.bpf_verify_model.proofs.MarkLaws.{with_mark, marks_in_words-with_mark, AreMarkWords-with_mark}
 use Rattle.bpf_verify_model.proofs.WriteLaws.{written_from-none, written_from-more}
 use Rattle.bpf_verify_model.proofs.written.WrittenBytes.write.Goals as goal

@@ -1,6 +1,5 @@
 use Rattle.std.proofs.Common.{◌≡◌, ◌-◌}
-use Rattle.bpf_verify_model.specs.Written.{written_from}
-use Rattle.bpf_verify_model.specs.Words.{marks_in_words, AreMarkWords}
+use Rattle.bpf_verify_model.specs.{Written.{written_from}, Words.{marks_in_words, AreMarkWords}}
 use Rattle.bpf_verify_model.proofs.written.WrittenBytes.write.Given as goal
 
 abbrev pub invariant-loop-at : goal.invariant-loop-at

@@ -1,11 +1,8 @@
-use Rattle.std.proofs.Common.{ℕ, ap, sym, ◌∙◌, List, arith}
-use Rattle.std.specs.Prelude.{None}
+use Rattle.std.{proofs.Common.{ℕ, ap, sym, ◌∙◌, List, arith}, specs.Prelude.{None}}
 use Rattle.bpf_verify_model.specs.Inflow.{received_all}
 use Rattle.bpf_verify.specs.Passing.{out_of}
-use Rattle.bpf_verify_origin.proofs.FaultLaws.{starts-within}
-use Rattle.bpf_verify_origin.proofs.InflowLaws.{between-none, between-some}
-use Rattle.bpf_verify_origin.proofs.PassedLaws.{edge-passed}
-use Rattle.bpf_verify_origin.proofs.RunLaws.{holds-between}
+use Rattle.bpf_verify_origin.proofs.{FaultLaws.{starts-within}, InflowLaws.{between-none, between-some}}
+use Rattle.bpf_verify_origin.proofs.{PassedLaws.{edge-passed}, RunLaws.{holds-between}}
 use Rattle.bpf_verify_origin.proofs.inspection.Inspection.edge.Goals as goal
 
 pub returns-then-from-gt4096-clause-whole : goal.returns-then-from-gt4096-clause-whole

@@ -1,6 +1,5 @@
 use Rattle.std.proofs.Common.{subst}
-use Rattle.bpf_insn_types.specs.Values.{AreInsns}
-use Rattle.bpf_insn_types.specs.Program.{Program}
+use Rattle.bpf_insn_types.specs.{Values.{AreInsns}, Program.{Program}}
 use Rattle.bpf_verify_origin.proofs.inspection.Inspection.fits.Goals as goal
 
 pub returns : goal.returns

@@ -1,9 +1,7 @@
-use Rattle.std.proofs.Common.{ℕ, ap, sym, ◌∙◌, List, arith, is_some}
-use Rattle.std.specs.Option.{option_map}
+use Rattle.std.{proofs.Common.{ℕ, ap, sym, ◌∙◌, List, arith, is_some}, specs.Option.{option_map}}
 use Rattle.bpf_verify_model.specs.Accepted.{first_fault}
 use Rattle.bpf_verify.specs.Passing.{out_of}
-use Rattle.bpf_verify_origin.specs.Inspected.{IsPassedTo, broken_rule}
-use Rattle.bpf_verify_origin.proofs.FaultLaws.{starts-within}
+use Rattle.bpf_verify_origin.{specs.Inspected.{IsPassedTo, broken_rule}, proofs.FaultLaws.{starts-within}}
 use Rattle.bpf_verify_origin.proofs.FlowLaws.{passed-to, flow-none, flow-there, flow-holds}
 use Rattle.bpf_verify_origin.proofs.inspection.Inspection.flow.Goals as goal
 

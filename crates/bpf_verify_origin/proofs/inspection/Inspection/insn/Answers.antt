@@ -1,6 +1,5 @@
 use Rattle.std.proofs.Common.{List, get_or, ap, ◌∙◌, Option, None}
-use Rattle.bpf_insn_types.specs.declared.insn.Insn.{Insn}
-use Rattle.bpf_insn_types.specs.Program.{Program, insn_at}
+use Rattle.bpf_insn_types.specs.{declared.insn.Insn.{Insn}, Program.{Program, insn_at}}
 use Rattle.bpf_verify_origin.proofs.inspection.Inspection.insn.Goals as goal
 
 pub returns : goal.returns

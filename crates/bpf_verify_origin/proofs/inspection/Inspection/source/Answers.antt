@@ -1,8 +1,6 @@
 use Rattle.std.proofs.Common.{◌+◌, ◌*◌, List, get_or, ap, ◌∙◌}
 use Rattle.bpf_insn_types.specs.Program.{Program}
-use Rattle.bpf_verify_origin.specs.declared.source.Source.{Source}
-use Rattle.bpf_verify_origin.specs.declared.source.Source.TheVariants.{Start}
-use Rattle.bpf_verify_origin.specs.Sources.{source_before}
+use Rattle.bpf_verify_origin.specs.{declared.source.Source.{Source, TheVariants.{Start}}, Sources.{source_before}}
 use Rattle.bpf_verify_origin.proofs.RunSourceLaws.{source-holds}
 use Rattle.bpf_verify_origin.proofs.inspection.Inspection.source.Goals as goal
 

@@ -1,13 +1,9 @@
-use Rattle.std.proofs.Common.{◌≡◌, subst, ap, sym, ◌∙◌, List, Option, get_or, None, is_some}
-use Rattle.std.specs.Prelude.{IfSome}
+use Rattle.std.{proofs.Common.{◌≡◌, subst, ap, sym, ◌∙◌, List, Option, get_or, None, is_some}, specs.Prelude.{IfSome}}
 use Rattle.std.specs.Option.{option_map}
 use Rattle.bpf_insn_types.specs.Program.{Program, insn_at}
-use Rattle.bpf_verify_model.specs.declared.state.State.{State}
-use Rattle.bpf_verify_model.specs.Inflow.{state_before}
-use Rattle.bpf_verify_origin.specs.Inspected.{IsPassedTo, IsStateBefore, broken_rule}
-use Rattle.bpf_verify_origin.proofs.InspectionLaws.{state-there}
-use Rattle.bpf_verify_origin.proofs.PassedLaws.{never-past, never-within, state-passed}
-use Rattle.bpf_verify_origin.proofs.RunLaws.{holds-before}
+use Rattle.bpf_verify_model.specs.{declared.state.State.{State}, Inflow.{state_before}}
+use Rattle.bpf_verify_origin.{specs.Inspected.{IsPassedTo, IsStateBefore, broken_rule}, proofs.RunLaws.{holds-before}}
+use Rattle.bpf_verify_origin.proofs.{InspectionLaws.{state-there}, PassedLaws.{never-past, never-within, state-passed}}
 use Rattle.bpf_verify_origin.proofs.inspection.Inspection.state.Goals as goal
 
 pub returns-in_default-clause-whole : goal.returns-in_default-clause-whole

@@ -5,13 +5,10 @@ use base.Shift.{Keyless}
 use denote.Memory.{lone}
 use denote.RawPtr.{Ptr, block_ptr, null_ptr}
 use denote.Param.Send.{IsSend, part_keyless}
-use Rattle.std.specs.declared.option.Option.{Option}
-use Rattle.std.specs.declared.option.Option.TheVariants.{None, Some}
-use Rattle.std.proofs.Crossing.{frees}
+use Rattle.std.{specs.declared.option.Option.{Option, TheVariants.{None, Some}}, proofs.Crossing.{frees}}
 use Rattle.bpfspec_machine.specs.contracts.machine.Machine.{the_row as machine_row}
 use Rattle.bpfspec_machine.proofs.machine.Machine.TheSendSync.{the_send as machine_send}
-use Rattle.bpfspec_c.specs.Holding.{holds, heap}
-use Rattle.bpfspec_c.specs.contracts.held.Held.{the_row}
+use Rattle.bpfspec_c.specs.{Holding.{holds, heap}, contracts.held.Held.{the_row}}
 
 holds_keyless : (at : Ptr) (machine : Option machine_row.Denot) → Keyless (holds machine_row at machine)
 holds_keyless at None = tt

@@ -20,22 +20,17 @@ use denote.Memory.{lone}
 use denote.Steps.{nothing, heard}
 use denote.Triple.Walked.{Stays, stay_dropped, walk_of, Goes-dropped}
 use Rattle.core.proofs.alloc.Calls.{Goes-blank, handle_tells}
-use Rattle.std.specs.declared.option.Option.TheVariants.{Some}
+use Rattle.std.specs.{declared.option.Option.TheVariants.{Some}, contracts.impls.GlobalAllocator.TheImpl.{ghosts}}
+use Rattle.std.{proofs.raw_atomic.Walks.{proved_at, leaves}, specs.Prelude.{true, is_some}}
+use Rattle.std.specs.declared.option.Option.{Option}
 use Rattle.std.specs.contracts.alloc.Global as heap
 use Rattle.std.proofs.alloc.Global.TheLaws as heap_laws
-use Rattle.std.specs.contracts.impls.GlobalAllocator.TheImpl.{ghosts}
-use Rattle.std.proofs.raw_atomic.Walks.{proved_at, leaves}
 use Rattle.bpfspec_machine.specs.contracts.machine.Machine.{the_row as machine_row}
-use Rattle.std.specs.Prelude.{true, is_some}
-use Rattle.bpfspec_c.specs.Holding.{holds, heap}
-use Rattle.std_alloc.specs.Box.Ownership.{box_owns}
-use Rattle.std.specs.declared.option.Option.{Option}
-use Rattle.bpfspec_c.proofs.Values.{both, Loose, al, loose_good, loose_in}
-use Rattle.bpfspec_c.proofs.HeldValues.{Held, alone, held_out, held_value}
-use Rattle.bpfspec_c.specs.contracts.held.Held.into_loose.{ended, clauses}
-use Rattle.bpfspec_c.specs.contracts.held.Held.into_loose.Key.{name as #self}
-use Rattle.bpfspec_c.proofs.held.Held.into_loose.Statement.{statement}
+use Rattle.bpfspec_c.{specs.Holding.{holds, heap}, proofs.Values.{both, Loose, al, loose_good, loose_in}}
+use Rattle.bpfspec_c.proofs.{HeldValues.{Held, alone, held_out, held_value}, held.Held.into_loose.Statement.{statement}}
+use Rattle.bpfspec_c.specs.contracts.held.Held.into_loose.{ended, clauses, Key.{name as #self}}
 use Rattle.bpfspec_c.proofs.held.Held.into_loose.Code as code
+use Rattle.std_alloc.specs.Box.Ownership.{box_owns}
 
 pub into_loose_spec : {M : Type 1} → statement M
 into_loose_spec 𝓤 𝓛 𝓜 𝓡 wired =

@@ -15,12 +15,9 @@ use denote.RawPtr.{null_ptr, ptr_val}
 use denote.Steps.{nothing}
 use denote.Triple.Walked.{Stays, walk_of}
 use Rattle.core.proofs.atomic.Steps.{Ptr-Good}
-use Rattle.std.specs.declared.option.Option.TheVariants.{None}
-use Rattle.std.proofs.raw_atomic.Walks.{proved_at, leaves}
-use Rattle.bpfspec_c.proofs.HeldValues.{alone, held_in}
-use Rattle.bpfspec_c.specs.contracts.held.Held.none.{ended, clauses}
-use Rattle.bpfspec_c.specs.contracts.held.Held.none.Key.{name as #self}
-use Rattle.bpfspec_c.proofs.held.Held.none.Statement.{statement}
+use Rattle.std.{specs.declared.option.Option.TheVariants.{None}, proofs.raw_atomic.Walks.{proved_at, leaves}}
+use Rattle.bpfspec_c.{proofs.HeldValues.{alone, held_in}, specs.contracts.held.Held.none.{ended, clauses}}
+use Rattle.bpfspec_c.{specs.contracts.held.Held.none.Key.{name as #self}, proofs.held.Held.none.Statement.{statement}}
 use Rattle.bpfspec_c.proofs.held.Held.none.Code as code
 
 pub none_spec : {M : Type 1} → statement M

@@ -17,16 +17,13 @@ use denote.RawPtr.{block_ptr}
 use denote.Steps.{nothing}
 use denote.Triple.Walked.{Stays, stay_dropped, walk_of}
 use Rattle.core.proofs.alloc.Calls.{Goes-blank}
-use Rattle.std.specs.declared.option.Option.TheVariants.{Some}
+use Rattle.std.specs.{declared.option.Option.TheVariants.{Some}, contracts.impls.GlobalAllocator.TheImpl.{ghosts}}
+use Rattle.std.proofs.raw_atomic.Walks.{proved_at, leaves}
 use Rattle.std.specs.contracts.alloc.Global as heap
 use Rattle.std.proofs.alloc.Global.TheLaws as heap_laws
-use Rattle.std.specs.contracts.impls.GlobalAllocator.TheImpl.{ghosts}
-use Rattle.std.proofs.raw_atomic.Walks.{proved_at, leaves}
 use Rattle.bpfspec_machine.specs.contracts.machine.Machine.{the_row as machine_row}
-use Rattle.bpfspec_c.proofs.Values.{both, Loose, loose_good, loose_out}
-use Rattle.bpfspec_c.proofs.HeldValues.{alone, held_in}
-use Rattle.bpfspec_c.specs.contracts.held.Held.of.{ended, clauses}
-use Rattle.bpfspec_c.specs.contracts.held.Held.of.Key.{name as #self}
+use Rattle.bpfspec_c.proofs.{Values.{both, Loose, loose_good, loose_out}, HeldValues.{alone, held_in}}
+use Rattle.bpfspec_c.specs.contracts.held.Held.of.{ended, clauses, Key.{name as #self}}
 use Rattle.bpfspec_c.proofs.held.Held.of.Statement.{statement}
 use Rattle.bpfspec_c.proofs.held.Held.of.Code as code
 

@@ -24,19 +24,13 @@ use denote.Triple.Clauses.{Lasts, lasts}
 use denote.Triple.Spec.{triple_of}
 use denote.Triple.Call.{calls_at_last}
 use denote.Triple.Walked.{Stays, stay_dropped, walk_of}
-use Rattle.core.proofs.alloc.Calls.{Goes-blank}
-use Rattle.core.proofs.alloc.Shapes.{after}
-use Rattle.core.proofs.atomic.Steps.{fm}
-use Rattle.core.proofs.cell.Inside.{Good}
+use Rattle.core.proofs.{alloc.{Calls.{Goes-blank}, Shapes.{after}}, atomic.Steps.{fm}, cell.Inside.{Good}}
+use Rattle.std_alloc.proofs.{BoxSteps.Steps.{box_out, box_in}, boxed.Box.from_raw.Met.{met}}
 use Rattle.std_alloc.proofs.BoxSteps.Form as box
-use Rattle.std_alloc.proofs.BoxSteps.Steps.{box_out, box_in}
-use Rattle.std.proofs.raw_atomic.Walks.{proved_at, leaves}
-use Rattle.bpfspec_c.proofs.Values.{both, Loose, loose_good, loose_out}
 use Rattle.std_alloc.specs.contracts.boxed.Box.from_raw as callee
-use Rattle.std_alloc.proofs.boxed.Box.from_raw.Met.{met}
-use Rattle.bpfspec_c.specs.contracts.loose.Loose.into_box.{ended, clauses}
-use Rattle.bpfspec_c.specs.contracts.loose.Loose.into_box.Key.{name as #self}
-use Rattle.bpfspec_c.proofs.loose.Loose.into_box.Statement.{statement}
+use Rattle.std.proofs.raw_atomic.Walks.{proved_at, leaves}
+use Rattle.bpfspec_c.proofs.{Values.{both, Loose, loose_good, loose_out}, loose.Loose.into_box.Statement.{statement}}
+use Rattle.bpfspec_c.specs.contracts.loose.Loose.into_box.{ended, clauses, Key.{name as #self}}
 use Rattle.bpfspec_c.proofs.loose.Loose.into_box.Code as code
 
 pub into_box_spec : {M : Type 1} → statement M

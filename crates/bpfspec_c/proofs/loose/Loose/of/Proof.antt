@@ -26,18 +26,14 @@ use denote.Struct.Tuple.{Tuple}
 use denote.Triple.Spec.{triple_of}
 use denote.Triple.Call.{calls_at}
 use denote.Triple.Walked.{Stays, stay_dropped, walk_of}
-use Rattle.core.proofs.alloc.Calls.{Goes-blank, handle_tells}
-use Rattle.core.proofs.atomic.Steps.{fm}
-use Rattle.std_alloc.specs.Box.Ownership.{box_owns}
-use Rattle.std_alloc.proofs.BoxSteps.Form as box
-use Rattle.std_alloc.proofs.BoxSteps.Steps.{box_out, box_in}
-use Rattle.std.proofs.raw_atomic.Walks.{proved_at, leaves}
-use Rattle.bpfspec_c.proofs.Values.{both, loose_good, loose_in}
-use Rattle.std_alloc.specs.contracts.boxed.Box.into_raw_with_allocator as callee
+use Rattle.core.proofs.{alloc.Calls.{Goes-blank, handle_tells}, atomic.Steps.{fm}}
+use Rattle.std_alloc.{specs.Box.Ownership.{box_owns}, proofs.BoxSteps.Steps.{box_out, box_in}}
 use Rattle.std_alloc.proofs.boxed.Box.into_raw_with_allocator.Met.{met}
-use Rattle.bpfspec_c.specs.contracts.loose.Loose.of.{ended, clauses}
-use Rattle.bpfspec_c.specs.contracts.loose.Loose.of.Key.{name as #self}
-use Rattle.bpfspec_c.proofs.loose.Loose.of.Statement.{statement}
+use Rattle.std_alloc.proofs.BoxSteps.Form as box
+use Rattle.std_alloc.specs.contracts.boxed.Box.into_raw_with_allocator as callee
+use Rattle.std.proofs.raw_atomic.Walks.{proved_at, leaves}
+use Rattle.bpfspec_c.{proofs.Values.{both, loose_good, loose_in}, specs.contracts.loose.Loose.of.{ended, clauses}}
+use Rattle.bpfspec_c.{specs.contracts.loose.Loose.of.Key.{name as #self}, proofs.loose.Loose.of.Statement.{statement}}
 use Rattle.bpfspec_c.proofs.loose.Loose.of.Code as code
 
 pub of_spec : {M : Type 1} → statement M

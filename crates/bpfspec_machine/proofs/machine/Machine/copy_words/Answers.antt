@@ -1,6 +1,5 @@
 use Rattle.std.proofs.Common.{rules, ◌≡◌, true, length, sym, ap, ◌∙◌}
-use Rattle.bpfspec_machine.specs.Elements.{has_words}
-use Rattle.bpfspec_machine.proofs.WordLaws.{words_counted}
+use Rattle.bpfspec_machine.{specs.Elements.{has_words}, proofs.WordLaws.{words_counted}}
 use Rattle.bpfspec_machine.proofs.machine.Machine.copy_words.Goals as goal
 
 pub copy_from_slice-requires : goal.copy_from_slice-requires

@@ -1,7 +1,6 @@
 use Rattle.std.proofs.Common.{rules, ◌≡◌, true, length, arith}
 use Rattle.array_maps.specs.MapList.{base_of}
-use Rattle.bpfspec_machine.specs.Elements.{has_words}
-use Rattle.bpfspec_machine.proofs.WordLaws.{words_within}
+use Rattle.bpfspec_machine.{specs.Elements.{has_words}, proofs.WordLaws.{words_within}}
 use Rattle.bpfspec_machine.proofs.machine.Machine.set_words.Goals as goal
 
 pub store_run-requires : goal.store_run-requires

@@ -1,7 +1,5 @@
 use Rattle.std.proofs.Common.{arith}
-use Rattle.lane_stamps.specs.Sites.{shown}
-use Rattle.lane_stamps.proofs.LinkLaws.{none_watched}
-use Rattle.lane_stamps.proofs.StampLaws.{go_together}
+use Rattle.lane_stamps.{specs.Sites.{shown}, proofs.{LinkLaws.{none_watched}, StampLaws.{go_together}}}
 use Rattle.lane_stamps.proofs.StampSteps.{all_unmet, all_own}
 use Rattle.lane_stamps.proofs.turns.Stamps.limit.Goals as goal
 

@@ -1,6 +1,5 @@
 use Rattle.std.proofs.Common.{◌≡◌, ℕ, ◌≤◌, ◌<◌, ◌∙◌, sym, ap, subst, arith}
-use Rattle.loop_board.specs.declared.view.Extent.{Extent}
-use Rattle.loop_board.specs.Seats.{BoardId, SeatRecord}
+use Rattle.loop_board.specs.{declared.view.Extent.{Extent}, Seats.{BoardId, SeatRecord}}
 use Rattle.loop_board.proofs.Moves.{claims, never_before}
 use Rattle.loop_board.proofs.board.Board.claim.Goals as goal
 

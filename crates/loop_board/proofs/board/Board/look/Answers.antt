@@ -1,6 +1,5 @@
 use Rattle.std.proofs.Common.{ℕ, ◌<◌, ◌∙◌, sym, ap, subst, arith}
-use Rattle.loop_board.specs.Seats.{BoardId, SeatRecord}
-use Rattle.loop_board.proofs.Moves.{sees}
+use Rattle.loop_board.{specs.Seats.{BoardId, SeatRecord}, proofs.Moves.{sees}}
 use Rattle.loop_board.proofs.board.Board.look.Goals as goal
 
 pub load-requires : goal.load-requires

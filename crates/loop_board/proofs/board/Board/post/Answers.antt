@@ -1,7 +1,5 @@
 use Rattle.std.proofs.Common.{ℕ, ◌<◌, ◌≤◌, ◌∙◌, sym, ap, subst, arith}
-use Rattle.loop_board.specs.History.{most_index}
-use Rattle.loop_board.specs.Seats.{BoardId, SeatRecord}
-use Rattle.loop_board.proofs.Moves.{notes}
+use Rattle.loop_board.{specs.{History.{most_index}, Seats.{BoardId, SeatRecord}}, proofs.Moves.{notes}}
 use Rattle.loop_board.proofs.board.Board.post.Goals as goal
 
 pub fetch_min-requires : goal.fetch_min-requires

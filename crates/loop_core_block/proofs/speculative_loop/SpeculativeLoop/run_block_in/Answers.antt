@@ -1,8 +1,7 @@
 use Rattle.std.proofs.Common.{◌≡◌, ◌∙◌, sym, ap, arith}
 use Rattle.bpf_step_model.specs.State.{LoopCall}
 use Rattle.loop_core_model.specs.Split.{last_bound}
-use Rattle.loop_core_block.specs.Loops.{LoopOf}
-use Rattle.loop_core_block.proofs.SplitEnds.{ends_at}
+use Rattle.loop_core_block.{specs.Loops.{LoopOf}, proofs.SplitEnds.{ends_at}}
 use Rattle.loop_core_block.proofs.speculative_loop.SpeculativeLoop.run_block_in.Goals as goal
 
 pub run-requires-clause-rising : goal.run-requires-clause-rising

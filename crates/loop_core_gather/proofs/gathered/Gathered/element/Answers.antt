@@ -1,6 +1,5 @@
 use Rattle.std.proofs.Common.{◌≡◌, ◌+◌, ◌/◌, ◌<◌, rules, true, false, length, map, sym, ◌∙◌, ap, arith}
-use Rattle.std.specs.Prelude.{slice_index}
-use Rattle.std.proofs.lemmas.List.{get_or_default}
+use Rattle.std.{specs.Prelude.{slice_index}, proofs.lemmas.List.{get_or_default}}
 use Rattle.loop_core_block.specs.Shown.{shown}
 use Rattle.loop_core_gather.specs.Held.{chosen, GatheredOf}
 use Rattle.loop_core_gather.proofs.HeldLaws.{start_within, starts_at, element_is, untouched_at, start_is_left}

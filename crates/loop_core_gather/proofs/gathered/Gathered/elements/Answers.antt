@@ -1,7 +1,6 @@
 use Rattle.std.proofs.Common.{length, map, sym, ◌∙◌, ap}
 use Rattle.loop_core_block.specs.Shown.{shown}
-use Rattle.loop_core_gather.specs.Held.{chosen, GatheredOf}
-use Rattle.loop_core_gather.proofs.HeldLaws.{held_length}
+use Rattle.loop_core_gather.{specs.Held.{chosen, GatheredOf}, proofs.HeldLaws.{held_length}}
 use Rattle.loop_core_gather.proofs.gathered.Gathered.elements.Goals as goal
 
 pub returns : goal.returns

@@ -1,7 +1,5 @@
-use Rattle.std.proofs.Common.{◌≡◌, Some, length, refl, sym, ◌∙◌}
-use Rattle.std.proofs.lemmas.List.Elements.{All-pop}
-use Rattle.loop_core_block.specs.declared.block.Block.{Block as Held}
-use Rattle.loop_core_block.specs.Shown.{shown}
+use Rattle.std.proofs.{Common.{◌≡◌, Some, length, refl, sym, ◌∙◌}, lemmas.List.Elements.{All-pop}}
+use Rattle.loop_core_block.specs.{declared.block.Block.{Block as Held}, Shown.{shown}}
 use Rattle.loop_core_gather.proofs.HeldLaws.{starts_are}
 use Rattle.loop_core_gather.proofs.gathered.Gathered.into_workspace.Goals as goal
 

@@ -1,13 +1,10 @@
-use Rattle.std.proofs.Common.{◌≡◌, ◌+◌, ◌*◌, ◌/◌, ◌<◌, ℕ, List, false, length, map}
-use Rattle.std.proofs.Common.{refl, sym, ◌∙◌, ap, inl, inr, rules, arith}
-use Rattle.std.specs.Prelude.{slice_index}
-use Rattle.std.proofs.lemmas.Bool.{cases_lt}
+use Rattle.std.proofs.Common.{◌≡◌, ◌+◌, ◌*◌, ◌/◌, ◌<◌, ℕ, List, false, length, map, refl, sym, ◌∙◌, ap, inl, inr, rules}
+use Rattle.std.{proofs.{Common.{arith}, lemmas.Bool.{cases_lt}}, specs.Prelude.{slice_index}}
 use Rattle.std.proofs.lemmas.List.{get_or_default, get_or_past}
 use Rattle.loop_core_model.specs.Kept.{committed_of_kept}
 use Rattle.loop_core_block.specs.Shown.{shown}
-use Rattle.loop_core_gather.specs.Held.{chosen, kept_at, GatheredOf}
+use Rattle.loop_core_gather.{specs.Held.{chosen, kept_at, GatheredOf}, proofs.PageLaws.{none_reduction_only}}
 use Rattle.loop_core_gather.proofs.HeldLaws.{held_length, starts_are, element_is, untouched_at}
-use Rattle.loop_core_gather.proofs.PageLaws.{none_reduction_only}
 use Rattle.loop_core_gather.proofs.gathered.Gathered.page.Goals as goal
 
 -- the page of its elements

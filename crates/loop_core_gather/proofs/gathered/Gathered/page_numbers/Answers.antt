@@ -2,11 +2,9 @@ use Rattle.std.proofs.Common.{◌≡◌, ◌+◌, ◌/◌, ◌<◌, ℕ, List, l
 use Rattle.std.specs.Prelude.{slice_index}
 use Rattle.rayon.proofs.ListFacts.{IfOk-then}
 use Rattle.shadow_marks.specs.declared.planes.Planes.{Planes}
-use Rattle.loop_core_block.specs.declared.block.Block.{Block as Held}
-use Rattle.loop_core_block.specs.Shown.{shown}
-use Rattle.loop_core_gather.specs.Held.{chosen, left_words, TellsUntouched, GatheredOf}
-use Rattle.loop_core_gather.specs.Pages.{HaveAllTouched, ChangesWithin}
-use Rattle.loop_core_gather.proofs.HeldLaws.{held_length, start_is_left}
+use Rattle.loop_core_block.specs.{declared.block.Block.{Block as Held}, Shown.{shown}}
+use Rattle.loop_core_gather.specs.Held.{chosen, left_words, MarksTouched, GatheredOf}
+use Rattle.loop_core_gather.{specs.Pages.{HaveAllTouched, ChangesWithin}, proofs.HeldLaws.{held_length, start_is_left}}
 use Rattle.loop_core_gather.proofs.SharingLaws.{none_there}
 use Rattle.loop_core_gather.proofs.gathered.Gathered.page_numbers.Goals as goal
 
@@ -14,7 +12,7 @@ use Rattle.loop_core_gather.proofs.gathered.Gathered.page_numbers.Goals as goal
 changes_within : (planes : Planes) (blocks : List Held) (places start touched numbers : List ℕ) (g : GatheredOf)
     → left_words planes (chosen places (map shown blocks)) start ≡ g.words → start ≡ g.start
     → length touched ≡ (length start + 63) / 64
-    → ((k : ℕ) → k < length start → TellsUntouched (slice_index touched (k / 64)) k (map shown blocks) places)
+    → ((k : ℕ) → k < length start → MarksTouched (slice_index touched (k / 64)) k (map shown blocks) places)
     → HaveAllTouched touched numbers → ChangesWithin numbers g.start g.words
 changes_within planes blocks places start touched numbers g words same pages tells all =
     let within : ChangesWithin numbers start g.words = record {

@@ -1,5 +1,4 @@
-use Rattle.std.proofs.Common.{slice_index_or}
-use Rattle.std.proofs.lemmas.Option.{slice_get-get_or}
+use Rattle.std.proofs.{Common.{slice_index_or}, lemmas.Option.{slice_get-get_or}}
 use Rattle.loop_core_model.specs.declared.event.EventKind.TheVariants.{Claim}
 use Rattle.loop_core_replay.proofs.EventLaws.{step_done, step_passed, step_refused}
 use Rattle.loop_core_replay.proofs.replay.Replay.step.Goals as goal

@@ -1,5 +1,4 @@
-use Rattle.std.proofs.Common.{◌≡◌, [], drop}
-use Rattle.std.specs.List.{list_all}
+use Rattle.std.{proofs.Common.{◌≡◌, [], drop}, specs.List.{list_all}}
 use Rattle.loop_core_model.specs.Schedule.{is_stopped, worker_of}
 use Rattle.loop_core_replay.specs.Standing.{state}
 use Rattle.loop_core_replay.proofs.workers.Workers.have_stopped.Given as goal

@@ -1,8 +1,7 @@
 use Rattle.std.proofs.Common.{◌+◌, subst, arith}
 use Rattle.array_maps.specs.MapList.{AreWords}
 use Rattle.row_run.specs.Batches.{batch_log}
-use Rattle.loop_core_sequential.proofs.InOrder.{stayed, went_to}
-use Rattle.loop_core_sequential.proofs.Together.{lanes_went}
+use Rattle.loop_core_sequential.proofs.{InOrder.{stayed, went_to}, Together.{lanes_went}}
 use Rattle.loop_core_sequential.proofs.batches.Batches.go_together.Goals as goal
 
 pub returns-in_default-clause-went : goal.returns-in_default-clause-went

@@ -1,7 +1,7 @@
 use Rattle.std.proofs.Common.{ap, length, subst, sym, ◌∙◌}
 use Rattle.array_maps.specs.MapList.{AreWords}
 use Rattle.lane_stamps.specs.Sites.{shown}
-use Rattle.loop_core_batch.proofs.Sparing.{length-before}
+use Rattle.loop_core_model.proofs.Sparing.{length-before}
 use Rattle.row_run.specs.Batches.{batch_log}
 use Rattle.loop_core_sequential.proofs.WatchedLanes.{goes_on_watched}
 use Rattle.loop_core_sequential.proofs.batches.Batches.go_watched.Goals as goal

@@ -1,11 +1,7 @@
-use Rattle.std.proofs.Common.{ℕ, List, ap, subst, length, ◌∙◌, arith}
-use Rattle.std.specs.List.{AllPairs, sum}
-use Rattle.lane_stamps.specs.declared.site.Site.{Site}
-use Rattle.lane_stamps.specs.Sites.{LaneRows, shown}
-use Rattle.lane_stamps.specs.Stamps.{WatchedOwn}
+use Rattle.std.{proofs.Common.{ℕ, List, ap, subst, length, ◌∙◌, arith}, specs.List.{AllPairs, sum}}
+use Rattle.lane_stamps.specs.{declared.site.Site.{Site}, Sites.{LaneRows, shown}, Stamps.{WatchedOwn}}
 use Rattle.row_run.specs.Batches.{sites_of}
-use Rattle.loop_core_sequential.specs.Marked.{RanApart}
-use Rattle.loop_core_sequential.proofs.MarkedLaws.{ran_apart}
+use Rattle.loop_core_sequential.{specs.Marked.{RanApart}, proofs.MarkedLaws.{ran_apart}}
 use Rattle.loop_core_sequential.proofs.batches.Batches.ran_apart.Goals as goal
 
 pub run-ran-requires-clause-indices : goal.run-ran-requires-clause-indices

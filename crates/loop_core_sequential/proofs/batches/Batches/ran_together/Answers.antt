@@ -1,7 +1,5 @@
-use Rattle.std.proofs.Common.{ℕ, List, ap, arith, length, subst, ◌∙◌}
-use Rattle.std.specs.List.{sum}
-use Rattle.loop_core_sequential.specs.Lanes.{RanTogether}
-use Rattle.loop_core_sequential.proofs.Together.{ran_together}
+use Rattle.std.{proofs.Common.{ℕ, List, ap, arith, length, subst, ◌∙◌}, specs.List.{sum}}
+use Rattle.loop_core_sequential.{specs.Lanes.{RanTogether}, proofs.Together.{ran_together}}
 use Rattle.loop_core_sequential.proofs.batches.Batches.ran_together.Goals as goal
 
 pub returns : goal.returns

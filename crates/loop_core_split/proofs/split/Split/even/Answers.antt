@@ -1,15 +1,12 @@
-use Rattle.std.proofs.Common.{◌≡◌, ℕ, None, ◌+◌, ◌*◌, length, ◌/◌, List, []}
-use Rattle.std.proofs.Common.{◌∷◌, ◌++◌, arith, refl, sym, subst, ap, ◌∙◌}
-use Rattle.std.specs.Prelude.{map}
-use Rattle.std.specs.List.{range_with_len}
+use Rattle.std.proofs.Common.{◌≡◌, ℕ, None, ◌+◌, ◌*◌, length, ◌/◌, List, [], ◌∷◌, ◌++◌, arith, refl, sym, subst, ap}
+use Rattle.std.{proofs.Common.{◌∙◌}, specs.{Prelude.{map}, List.{range_with_len}}}
 use Rattle.std.proofs.lemmas.List.FromFn.{length-map-range_with_len, map-range_with_len_more}
-use Rattle.loop_core_model.specs.Split.{split_fault}
-use Rattle.loop_core_model.proofs.EvenSplitLaws.{even_is_split}
+use Rattle.loop_core_model.{specs.Split.{split_fault}, proofs.EvenSplitLaws.{even_is_split}}
 use Rattle.loop_core_split.proofs.SplitFacts.{no_even_split, split_is}
-use Rattle.loop_core_split.proofs.split.Split.even.Goals as goal
 use Rattle.loop_core_split.proofs.split.Split.even.Goals.{then-blocks-eq0-via-then-blocks-eq0}
 use Rattle.loop_core_split.proofs.split.Split.even.Goals.{then-blocks-eq0-via-else-blocks-eq0+then-blocks-gt-MAX_BLOCKS}
 use Rattle.loop_core_split.proofs.split.Split.even.Goals.{else-loop-k-test, then-loop-k-test+else-k-blocks}
+use Rattle.loop_core_split.proofs.split.Split.even.Goals as goal
 
 pub returns-then-blocks-eq0-clause-err : goal.returns-then-blocks-eq0-clause-err
 returns-then-blocks-eq0-clause-err c =

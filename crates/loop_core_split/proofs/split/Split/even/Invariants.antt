@@ -1,6 +1,4 @@
-use Rattle.std.proofs.Common.{◌≡◌, ◌*◌, ◌/◌}
-use Rattle.std.specs.Prelude.{map}
-use Rattle.std.specs.List.{range_with_len}
+use Rattle.std.{proofs.Common.{◌≡◌, ◌*◌, ◌/◌}, specs.{Prelude.{map}, List.{range_with_len}}}
 use Rattle.loop_core_split.proofs.split.Split.even.Given as goal
 
 -- the bounds so far

@@ -1,7 +1,6 @@
 use Rattle.std.proofs.Common.{◌≡◌, ℕ, None, ◌-◌, length, List, slice_index_or, sym}
 use Rattle.loop_core_model.specs.Split.{last_bound, split_fault}
-use Rattle.loop_core_split.specs.Splits.{IsSplit}
-use Rattle.loop_core_split.proofs.SplitFacts.{last_is}
+use Rattle.loop_core_split.{specs.Splits.{IsSplit}, proofs.SplitFacts.{last_is}}
 use Rattle.loop_core_split.proofs.split.Split.iterations.Goals as goal
 
 last : (xs bounds : List ℕ) (count : ℕ) → xs ≡ bounds → count ≡ length bounds → IsSplit bounds

@@ -1,6 +1,5 @@
 use Rattle.std.proofs.Common.{◌≤◌, length, arith}
-use Rattle.loop_core_undo.proofs.RestoreLaws.{all_back}
-use Rattle.loop_core_undo.proofs.ExchangeLaws.{all_exchanged}
+use Rattle.loop_core_undo.proofs.{RestoreLaws.{all_back}, ExchangeLaws.{all_exchanged}}
 use Rattle.loop_core_undo.proofs.undo_log.UndoLog.exchange.Goals as goal
 
 pub returns-clause-maps : goal.returns-clause-maps

@@ -1,5 +1,4 @@
-use Rattle.std.proofs.Common.{◌≡◌, ◌/◌, false, length, get_or, inl, inr, ◌∙◌, ap, arith}
-use Rattle.std.proofs.lemmas.Bool.{cases_eq}
+use Rattle.std.proofs.{Common.{◌≡◌, ◌/◌, false, length, get_or, inl, inr, ◌∙◌, ap, arith}, lemmas.Bool.{cases_eq}}
 use Rattle.loop_core_undo.proofs.UndoLaws.{keeps_same, keeps_more}
 use Rattle.loop_core_undo.proofs.undo_log.UndoLog.keep_run.Goals as goal
 

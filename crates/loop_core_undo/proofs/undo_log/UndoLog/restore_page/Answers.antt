@@ -1,6 +1,5 @@
 use Rattle.std.proofs.Common.{◌≡◌, List, ℕ, length, ap, subst, arith}
-use Rattle.loop_core_undo.specs.Pages.{PageIsBack}
-use Rattle.loop_core_undo.proofs.RestoreLaws.{page_back}
+use Rattle.loop_core_undo.{specs.Pages.{PageIsBack}, proofs.RestoreLaws.{page_back}}
 use Rattle.loop_core_undo.proofs.undo_log.UndoLog.restore_page.Goals as goal
 
 pub returns : goal.returns

@@ -4,7 +4,7 @@ use Rattle.loop_core_witness.proofs.finding.Search.first.Given as goal
 
 abbrev pub invariant-loop-index : goal.invariant-loop-index
 invariant-loop-index l = record {
-  behind : l.from ≤ l.index;
+  after : l.from ≤ l.index;
   same : l.maps ≡ l.self.start.now;
   none : NoneDoes l.kind l.self.program.now l.self.call.now l.self.start.now.words l.self.element l.from l.index;
 }

@@ -1,6 +1,5 @@
 use Rattle.std.proofs.Common.{rules, refl, get_or-set_same, get_or-set_other}
-use Rattle.private_copy.specs.declared.page.Combining.TheVariants.{Untouched, Mixed}
-use Rattle.private_copy.proofs.PageCells.{same_parts}
+use Rattle.private_copy.{specs.declared.page.Combining.TheVariants.{Untouched, Mixed}, proofs.PageCells.{same_parts}}
 use Rattle.private_copy.proofs.page.Page.mark_mixed.Goals as goal
 
 pub returns-clause-here : goal.returns-clause-here

@@ -1,7 +1,5 @@
 use Rattle.std.proofs.Common.{rules}
-use Rattle.private_copy.specs.Cells.{cell_in}
-use Rattle.private_copy.specs.Shown.{last_in}
-use Rattle.private_copy.proofs.OverwriteLaws.{none_yet, one_more}
+use Rattle.private_copy.{specs.{Cells.{cell_in}, Shown.{last_in}}, proofs.OverwriteLaws.{none_yet, one_more}}
 use Rattle.private_copy.proofs.page.Page.overwrite.Goals as goal
 
 pub loop-k-init : goal.loop-k-init

@@ -1,6 +1,4 @@
-use Rattle.private_copy.specs.Cells.{cell_in}
-use Rattle.private_copy.specs.Shown.{last_in}
-use Rattle.private_copy.specs.Overwriting.{AreOverwritten}
+use Rattle.private_copy.specs.{Cells.{cell_in}, Shown.{last_in}, Overwriting.{AreOverwritten}}
 use Rattle.private_copy.proofs.page.Page.overwrite.Given as goal
 
 abbrev pub invariant-loop-k : goal.invariant-loop-k

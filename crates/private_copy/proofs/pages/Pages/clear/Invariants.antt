@@ -1,6 +1,5 @@
 use Rattle.std.proofs.Common.{◌≡◌, ◌≤◌, length}
-use Rattle.private_copy.specs.Clearing.{AreSpare}
-use Rattle.private_copy.proofs.ClearLaws.{AreAmong}
+use Rattle.private_copy.{specs.Clearing.{AreSpare}, proofs.ClearLaws.{AreAmong}}
 use Rattle.private_copy.proofs.pages.Pages.clear.Given as goal
 
 abbrev pub invariant-loop-self : goal.invariant-loop-self

@@ -1,7 +1,6 @@
 use Rattle.std.proofs.Common.{◌<◌, ◌/◌, ◌%◌, refl, sym, ◌∙◌, ap, length, Some, None, arith}
 use Rattle.std.proofs.lemmas.List.{get_or_default, length-map}
-use Rattle.private_copy.specs.declared.page.Page.{Page}
-use Rattle.private_copy.specs.Cells.{PlacedPages, total_of, cell_in, cells_of, cell_at}
+use Rattle.private_copy.specs.{declared.page.Page.{Page}, Cells.{PlacedPages, total_of, cell_in, cells_of, cell_at}}
 use Rattle.private_copy.proofs.PageLaws.{cell_there, unplaced_cell}
 use Rattle.private_copy.proofs.pages.Pages.get.Goals as goal
 

@@ -1,6 +1,5 @@
 use Rattle.std.proofs.Common.{◌∙◌, ap}
-use Rattle.private_copy.specs.Cells.{mixed_cell}
-use Rattle.private_copy.proofs.CellLaws.{ShowsPage, shows_page}
+use Rattle.private_copy.{specs.Cells.{mixed_cell}, proofs.CellLaws.{ShowsPage, shows_page}}
 use Rattle.private_copy.proofs.pages.Pages.mark_mixed.Goals.{After-deref_mut}
 use Rattle.private_copy.proofs.pages.Pages.mark_mixed.Goals as goal
 

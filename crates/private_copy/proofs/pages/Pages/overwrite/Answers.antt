@@ -1,9 +1,6 @@
 use Rattle.std.proofs.Common.{◌*◌, ◌+◌, ap, subst, Some, None}
-use Rattle.private_copy.specs.declared.page.Page.{Page}
-use Rattle.private_copy.specs.Cells.{PlacedPages, total_of, cell_in, cell_at}
-use Rattle.private_copy.specs.Shown.{last_in}
-use Rattle.private_copy.specs.Overwriting.{AreOverwritten}
-use Rattle.private_copy.proofs.CellLaws.{read_at}
+use Rattle.private_copy.specs.{declared.page.Page.{Page}, Cells.{PlacedPages, total_of, cell_in, cell_at}}
+use Rattle.private_copy.{specs.{Shown.{last_in}, Overwriting.{AreOverwritten}}, proofs.CellLaws.{read_at}}
 use Rattle.private_copy.proofs.OverwriteLaws.{page_overwritten, none_overwritten, default_none}
 use Rattle.private_copy.proofs.pages.Pages.overwrite.Goals as goal
 

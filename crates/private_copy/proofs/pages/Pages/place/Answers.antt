@@ -1,12 +1,9 @@
-use Rattle.std.proofs.Common.{rules, vec_len, ◌≡◌, ◌<◌, ◌+◌, ◌-◌, sym, ◌∙◌, ap, subst, arith}
-use Rattle.std.proofs.Common.{length, length-set, take, get_or, None, false, [], ◌∷◌, ◌++◌}
-use Rattle.std.proofs.lemmas.List.{length-take, get_or-take}
+use Rattle.std.proofs.Common.{rules, vec_len, ◌≡◌, ◌<◌, ◌+◌, ◌-◌, sym, ◌∙◌, ap, subst, arith, length, length-set, take}
+use Rattle.std.proofs.{Common.{get_or, None, false, [], ◌∷◌, ◌++◌}, lemmas.List.{length-take, get_or-take, length-map}}
 use Rattle.std.proofs.lemmas.List.Edits.{length-swap}
-use Rattle.std.proofs.lemmas.List.{length-map}
-use Rattle.private_copy.specs.Cells.{PlacedPages, total_of, cells_of, IsBlank}
-use Rattle.private_copy.specs.Touched.{has_page}
-use Rattle.private_copy.proofs.PageLaws.{Stands, where_stands, take_swap, cells_stay}
-use Rattle.private_copy.proofs.PageLaws.{agree_more, spare_blank, blank_is_some}
+use Rattle.private_copy.specs.{Cells.{PlacedPages, total_of, cells_of, IsBlank}, Touched.{has_page}}
+use Rattle.private_copy.proofs.PageLaws.{Stands, where_stands, take_swap, cells_stay, agree_more, spare_blank}
+use Rattle.private_copy.proofs.PageLaws.{blank_is_some}
 use Rattle.private_copy.proofs.pages.Pages.place.Goals.{In-Some, In-Some-pop, in-Some-1, in-None-1}
 use Rattle.private_copy.proofs.pages.Pages.place.Goals as goal
 

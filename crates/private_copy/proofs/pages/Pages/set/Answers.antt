@@ -1,6 +1,5 @@
 use Rattle.std.proofs.Common.{◌∙◌}
-use Rattle.private_copy.proofs.CellLaws.{ShowsPage, shows_page}
-use Rattle.private_copy.proofs.pages.Pages.set.Goals.{After-deref_mut}
+use Rattle.private_copy.proofs.{CellLaws.{ShowsPage, shows_page}, pages.Pages.set.Goals.{After-deref_mut}}
 use Rattle.private_copy.proofs.pages.Pages.set.Goals as goal
 
 -- the element's page is placed

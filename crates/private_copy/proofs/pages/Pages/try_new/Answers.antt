@@ -1,6 +1,5 @@
 use Rattle.std.proofs.Common.{◌/◌, sym, ◌∙◌, ap, refl, arith, length, length-append, get_or, None, [], ◌∷◌, ◌++◌}
-use Rattle.std.specs.Prelude.{is_some}
-use Rattle.std.proofs.lemmas.List.{length-replicate, replicate_more}
+use Rattle.std.{specs.Prelude.{is_some}, proofs.lemmas.List.{length-replicate, replicate_more}}
 use Rattle.private_copy.specs.Touched.{has_page}
 use Rattle.private_copy.proofs.PageLaws.{unplaced_cell, none_placed, number_added, noted_before, noted_behind}
 use Rattle.private_copy.proofs.pages.Pages.try_new.Goals as goal

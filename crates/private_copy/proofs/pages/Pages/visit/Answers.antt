@@ -1,10 +1,7 @@
 use Rattle.std.proofs.Common.{◌≡◌, ◌<◌, ◌/◌, ◌%◌, refl, sym, ◌∙◌, ap, arith, length, Some, None, false, take}
-use Rattle.std.specs.Prelude.{is_some}
-use Rattle.std.proofs.lemmas.List.{get_or_default, length-map, length-take}
-use Rattle.private_copy.specs.declared.page.Page.{Page}
-use Rattle.private_copy.specs.Cells.{PlacedPages, total_of, cell_in, cells_of, cell_at}
-use Rattle.private_copy.specs.Touched.{has_page}
-use Rattle.private_copy.proofs.PageLaws.{cell_there, unplaced_cell, some_left}
+use Rattle.std.{specs.Prelude.{is_some}, proofs.lemmas.List.{get_or_default, length-map, length-take}}
+use Rattle.private_copy.specs.{declared.page.Page.{Page}, Cells.{PlacedPages, total_of, cell_in, cells_of, cell_at}}
+use Rattle.private_copy.{specs.Touched.{has_page}, proofs.PageLaws.{cell_there, unplaced_cell, some_left}}
 use Rattle.private_copy.proofs.pages.Pages.visit.Goals as goal
 
 pub returns-in-Some-clause-cell : goal.returns-in-Some-clause-cell

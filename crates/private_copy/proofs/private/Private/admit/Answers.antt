@@ -1,7 +1,5 @@
-use Rattle.std.proofs.Common.{sym, ◌∙◌, ap}
-use Rattle.std.specs.Prelude.{slice_index}
-use Rattle.private_copy.specs.declared.page.Cell.{Cell}
-use Rattle.private_copy.specs.Shown.{seen_word}
+use Rattle.std.{proofs.Common.{sym, ◌∙◌, ap}, specs.Prelude.{slice_index}}
+use Rattle.private_copy.specs.{declared.page.Cell.{Cell}, Shown.{seen_word}}
 use Rattle.private_copy.proofs.AccessLaws.{word_is, seen_own, seen_start}
 use Rattle.private_copy.proofs.private.Private.admit.Goals as goal
 

@@ -1,9 +1,6 @@
 use Rattle.std.proofs.Common.{◌≡◌, ℕ, ap, refl, arith}
-use Rattle.private_copy.specs.declared.page.Cell.{Cell}
-use Rattle.private_copy.specs.Cells.{cell_at, reduction_in}
-use Rattle.private_copy.specs.Shown.{copy_of, last_in}
-use Rattle.private_copy.proofs.AccessLaws.{same_cell}
-use Rattle.private_copy.proofs.BeginLaws.{shows_start, none_flagged, begins}
+use Rattle.private_copy.specs.{declared.page.Cell.{Cell}, Cells.{cell_at, reduction_in}, Shown.{copy_of, last_in}}
+use Rattle.private_copy.proofs.{AccessLaws.{same_cell}, BeginLaws.{shows_start, none_flagged, begins}}
 use Rattle.private_copy.proofs.private.Private.begin.Goals as goal
 
 pub returns-clause-ok : goal.returns-clause-ok
@@ -26,5 +23,5 @@ returns-clause-ok c =
       begun = refl;
     }
 
-pub returns-clause-stands : goal.returns-clause-stands
-returns-clause-stands c runs stands = begins (copy_of c.args.self.now) _ c.args.need (returns-clause-ok c) runs stands
+pub returns-clause-records : goal.returns-clause-records
+returns-clause-records c runs are = begins (copy_of c.args.self.now) _ c.args.need (returns-clause-ok c) runs are

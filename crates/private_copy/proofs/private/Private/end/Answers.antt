@@ -1,8 +1,7 @@
 use Rattle.std.proofs.Common.{ℕ, List, subst}
 use Rattle.loop_core_model.specs.Marks.{Visit}
 use Rattle.shadow_marks.specs.Standing.{StandFor}
-use Rattle.private_copy.specs.Visits.{visits_of}
-use Rattle.private_copy.proofs.VisitLaws.{visits_more}
+use Rattle.private_copy.{specs.Visits.{visits_of}, proofs.VisitLaws.{visits_more}}
 use Rattle.private_copy.proofs.private.Private.end.Goals as goal
 
 pub returns-clause-visits : goal.returns-clause-visits

@@ -1,6 +1,5 @@
 use Rattle.std.proofs.Common.{refl, sym, ◌∙◌, ap}
-use Rattle.private_copy.specs.Cells.{mixed_cell}
-use Rattle.private_copy.proofs.AccessLaws.{stays_mixed}
+use Rattle.private_copy.{specs.Cells.{mixed_cell}, proofs.AccessLaws.{stays_mixed}}
 use Rattle.private_copy.proofs.private.Private.mark_mixed.Goals as goal
 
 pub returns-then-mixed : goal.returns-then-mixed

@@ -1,10 +1,7 @@
-use Rattle.std.proofs.Common.{◌∙◌, ap, refl}
-use Rattle.std.specs.Prelude.{slice_index}
+use Rattle.std.{proofs.Common.{◌∙◌, ap, refl}, specs.Prelude.{slice_index}}
 use Rattle.array_maps.specs.Accesses.{ReadWrite, exchanged}
 use Rattle.loop_core_model.specs.declared.access.Access.TheVariants.{Both}
-use Rattle.private_copy.specs.Cells.{left_cell}
-use Rattle.private_copy.specs.Shown.{copy_of}
-use Rattle.private_copy.proofs.AccessLaws.{in_range, leaves}
+use Rattle.private_copy.{specs.{Cells.{left_cell}, Shown.{copy_of}}, proofs.AccessLaws.{in_range, leaves}}
 use Rattle.private_copy.proofs.store.PrivateStore.fetch.Goals as goal
 
 pub admit-old-requires-clause-within : goal.admit-old-requires-clause-within

@@ -1,8 +1,7 @@
 use Rattle.std.proofs.Common.{refl}
 use Rattle.array_maps.specs.Accesses.{Write}
 use Rattle.loop_core_model.specs.declared.access.Access.TheVariants.{Write as Writes}
-use Rattle.private_copy.specs.Cells.{left_cell}
-use Rattle.private_copy.proofs.AccessLaws.{in_range, leaves}
+use Rattle.private_copy.{specs.Cells.{left_cell}, proofs.AccessLaws.{in_range, leaves}}
 use Rattle.private_copy.proofs.store.PrivateStore.store.Goals as goal
 
 pub admit-requires-clause-within : goal.admit-requires-clause-within

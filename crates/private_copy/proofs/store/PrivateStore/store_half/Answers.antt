@@ -1,11 +1,7 @@
-use Rattle.std.proofs.Common.{◌∙◌, ap, refl}
-use Rattle.std.specs.Prelude.{slice_index}
-use Rattle.array_maps.specs.Accesses.{ReadWrite}
-use Rattle.array_maps.specs.Halves.{with_half}
+use Rattle.std.{proofs.Common.{◌∙◌, ap, refl}, specs.Prelude.{slice_index}}
+use Rattle.array_maps.specs.{Accesses.{ReadWrite}, Halves.{with_half}}
 use Rattle.loop_core_model.specs.declared.access.Access.TheVariants.{Both}
-use Rattle.private_copy.specs.Cells.{left_cell}
-use Rattle.private_copy.specs.Shown.{copy_of}
-use Rattle.private_copy.proofs.AccessLaws.{in_range, leaves}
+use Rattle.private_copy.{specs.{Cells.{left_cell}, Shown.{copy_of}}, proofs.AccessLaws.{in_range, leaves}}
 use Rattle.private_copy.proofs.store.PrivateStore.store_half.Goals as goal
 
 pub admit-word-requires-clause-within : goal.admit-word-requires-clause-within

@@ -1,9 +1,7 @@
 use Rattle.std.proofs.Common.{◌∙◌, ap, refl}
 use Rattle.array_maps.specs.Accesses.{Reduce, combined}
 use Rattle.loop_core_model.specs.declared.access.Access.TheVariants.{Reduce as Reduces}
-use Rattle.private_copy.specs.declared.reduction.Reduction.{Reduction}
-use Rattle.private_copy.specs.Cells.{reduction_in}
-use Rattle.private_copy.specs.Reductions.{reduced}
+use Rattle.private_copy.specs.{declared.reduction.Reduction.{Reduction}, Cells.{reduction_in}, Reductions.{reduced}}
 use Rattle.private_copy.proofs.AccessLaws.{in_range, leaves}
 use Rattle.private_copy.proofs.store.PrivateStore.update.Goals as goal
 

@@ -1,5 +1,4 @@
-use Rattle.std.proofs.Common.{ℕ, ◌<◌}
-use Rattle.std.proofs.lemmas.List.Elements.{recursion_from_All}
+use Rattle.std.proofs.{Common.{ℕ, ◌<◌}, lemmas.List.Elements.{recursion_from_All}}
 use Rattle.private_copy.proofs.AccessLaws.{words_small}
 use Rattle.private_copy.proofs.store.PrivateStore.words_fit.Goals as goal
 

@@ -1,7 +1,6 @@
 use Rattle.std.proofs.Common.{◌∙◌, ap, sym}
 use Rattle.loop_core_model.specs.Flags.{flagged}
-use Rattle.shadow_marks.specs.declared.element_flags.Flag.TheVariants.{Wrote, By}
-use Rattle.shadow_marks.specs.Kept.{flags_in, with_flag}
+use Rattle.shadow_marks.specs.{declared.element_flags.Flag.TheVariants.{Wrote, By}, Kept.{flags_in, with_flag}}
 use Rattle.shadow_marks.proofs.element_flags.ElementFlags.after.Goals as goal
 
 pub returns-in-Reduce : goal.returns-in-Reduce

@@ -1,5 +1,4 @@
-use Rattle.shadow_marks.specs.Kept.{bit_place}
-use Rattle.shadow_marks.proofs.BitLaws.{bit_tested}
+use Rattle.shadow_marks.{specs.Kept.{bit_place}, proofs.BitLaws.{bit_tested}}
 use Rattle.shadow_marks.proofs.element_flags.ElementFlags.has.Goals as goal
 
 pub returns : goal.returns

@@ -1,6 +1,5 @@
 use Rattle.std.proofs.Common.{◌≡◌, ℕ, List, [], ◌∷◌, ◌++◌, refl, length, set, sym, ◌∙◌, subst, arith}
-use Rattle.shadow_marks.specs.declared.element_flags.ElementFlags.{ElementFlags}
-use Rattle.shadow_marks.specs.Kept.{nothing_kept}
+use Rattle.shadow_marks.specs.{declared.element_flags.ElementFlags.{ElementFlags}, Kept.{nothing_kept}}
 use Rattle.shadow_marks.proofs.TouchLaws.{Covers, nothing_flagged, last_within, covers_rest, none_touched}
 use Rattle.shadow_marks.proofs.iter_flags.IterFlags.take.Goals as goal
 

@@ -1,7 +1,5 @@
-use Rattle.std.proofs.Common.{ap, refl, length, arith}
-use Rattle.std.specs.Vec.{with_items}
-use Rattle.shadow_marks.proofs.FoldLaws.{each_plane}
-use Rattle.shadow_marks.proofs.ClearLaws.{cleared_in, page_cleared}
+use Rattle.std.{proofs.Common.{ap, refl, length, arith}, specs.Vec.{with_items}}
+use Rattle.shadow_marks.proofs.{FoldLaws.{each_plane}, ClearLaws.{cleared_in, page_cleared}}
 use Rattle.shadow_marks.proofs.planes.Planes.clear_page.Goals as goal
 
 pub clear_bits-requires : goal.clear_bits-requires

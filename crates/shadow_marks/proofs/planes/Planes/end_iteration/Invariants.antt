@@ -1,5 +1,4 @@
-use Rattle.shadow_marks.specs.Iteration.{touched_count}
-use Rattle.shadow_marks.proofs.EndLaws.{Comes}
+use Rattle.shadow_marks.{specs.Iteration.{touched_count}, proofs.EndLaws.{Comes}}
 use Rattle.shadow_marks.proofs.planes.Planes.end_iteration.Given as goal
 
 abbrev pub invariant-loop-e : goal.invariant-loop-e

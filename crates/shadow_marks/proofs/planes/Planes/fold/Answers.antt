@@ -1,7 +1,5 @@
-use Rattle.std.proofs.Common.{refl, arith}
-use Rattle.std.proofs.lemmas.Grind.{common_steps}
-use Rattle.shadow_marks.specs.Kept.{flags_in}
-use Rattle.shadow_marks.proofs.FoldLaws.{has_word, each_plane, parts_fold}
+use Rattle.std.proofs.{Common.{refl, arith}, lemmas.Grind.{common_steps}}
+use Rattle.shadow_marks.{specs.Kept.{flags_in}, proofs.FoldLaws.{has_word, each_plane, parts_fold}}
 use Rattle.shadow_marks.proofs.planes.Planes.fold.Goals as goal
 
 pub fold-requires : goal.fold-requires

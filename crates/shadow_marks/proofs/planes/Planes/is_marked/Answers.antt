@@ -1,5 +1,4 @@
-use Rattle.std.proofs.Common.{◌≡◌, ℕ, ◌<◌, List, length, ◌∙◌, arith}
-use Rattle.std.specs.Prelude.{slice_index}
+use Rattle.std.{proofs.Common.{◌≡◌, ℕ, ◌<◌, List, length, ◌∙◌, arith}, specs.Prelude.{slice_index}}
 use Rattle.std.proofs.lemmas.List.{get_or_default}
 use Rattle.array_maps.specs.declared.access.Op.TheVariants.{Add, Or, And, Xor, AddH}
 use Rattle.shadow_marks.proofs.ClearLaws.{unmarked_by_words, no_words}

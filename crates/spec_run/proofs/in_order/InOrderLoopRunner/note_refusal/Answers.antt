@@ -1,10 +1,9 @@
-use Rattle.std.proofs.Common.{rules, w64, refl}
-use Rattle.std.proofs.lemmas.Int.{to_z-of_z}
+use Rattle.std.proofs.{Common.{rules, w64, refl}, lemmas.Int.{to_z-of_z}}
 use Rattle.loop_core_model.specs.Report.{loop_report_in_order}
 use Rattle.spec_run_main.proofs.ReportLines.{refused_line}
 use Rattle.spec_run.proofs.in_order.InOrderLoopRunner.note_refusal.Goals as goal
 
-pub returns-clause-told : goal.returns-clause-told
-returns-clause-told c = λ program first calls words before.
+pub returns-clause-recorded : goal.returns-clause-recorded
+returns-clause-recorded c = λ program first calls words before.
     refused_line loop_report_in_order words calls refl (to_z-of_z w64 c.args.call.answer (search rules))
     c.in_ok-push.ensures.items before

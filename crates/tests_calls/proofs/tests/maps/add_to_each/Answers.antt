@@ -1,11 +1,8 @@
-use Rattle.std.proofs.Common.{◌≡◌, ℕ, ◌+◌, ◌<◌, List, [], ◌∷◌, ◌++◌, map, take}
-use Rattle.std.proofs.Common.{length, get_or, sym, ◌∙◌, ap, subst, arith}
-use Rattle.std.proofs.lemmas.List.{take_more, map-append}
-use Rattle.array_maps.specs.Accesses.{Access, words_after, words_after_all}
-use Rattle.array_maps.specs.Store.{Effects}
+use Rattle.std.proofs.Common.{◌≡◌, ℕ, ◌+◌, ◌<◌, List, [], ◌∷◌, ◌++◌, map, take, length, get_or, sym, ◌∙◌, ap, subst}
+use Rattle.std.proofs.{Common.{arith}, lemmas.List.{take_more, map-append}}
+use Rattle.array_maps.specs.{Accesses.{Access, words_after, words_after_all}, Store.{Effects}}
+use Rattle.array_maps.proofs.{ElementLaws.{length-words_after_all}, StoreLaws.{effects-more, words_after_all-more}}
 use Rattle.tests_calls.specs.Added.{addition}
-use Rattle.array_maps.proofs.ElementLaws.{length-words_after_all}
-use Rattle.array_maps.proofs.StoreLaws.{effects-more, words_after_all-more}
 use Rattle.tests_calls.proofs.tests.maps.add_to_each.Goals as goal
 
 pub update-requires-clause-within : goal.update-requires-clause-within

@@ -1,6 +1,5 @@
 use Rattle.std.proofs.Common.{◌≡◌, ◌+◌, ◌≤◌, take, map}
-use Rattle.array_maps.specs.Accesses.{words_after_all}
-use Rattle.array_maps.specs.Store.{Effects}
+use Rattle.array_maps.specs.{Accesses.{words_after_all}, Store.{Effects}}
 use Rattle.tests_calls.specs.Added.{addition}
 use Rattle.tests_calls.proofs.tests.maps.add_to_each.Given as goal
 

@@ -1,8 +1,7 @@
 use Rattle.std.proofs.Common.{All, IfOk, Vec, Global, subst}
 use Rattle.loop_core_block.specs.declared.block.Block.{Block}
 use Rattle.loop_core_model.specs.declared.loop_test.Test.TheVariants.{Flow}
-use Rattle.tests_loops.specs.Stages.{IsRunOn}
-use Rattle.tests_loops.proofs.AllLaws.{appended, popped}
+use Rattle.tests_loops.{specs.Stages.{IsRunOn}, proofs.AllLaws.{appended, popped}}
 use Rattle.tests_loops.proofs.tests.blocks.workers.joined.Goals as goal
 
 pub loop-worker-preserved : goal.loop-worker-preserved

@@ -1,3 +1,0 @@
-pub mod Swapping
-pub mod Sparing
-pub mod EffectLaws

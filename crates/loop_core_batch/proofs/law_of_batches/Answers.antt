@@ -1,5 +1,0 @@
-use Rattle.loop_core_batch.proofs.EffectLaws.{loop_by_each_lane}
-use Rattle.loop_core_batch.proofs.law_of_batches.Goals as goal
-
-pub returns : goal.returns
-returns c = record { each = loop_by_each_lane }

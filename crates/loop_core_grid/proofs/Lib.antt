@@ -1,3 +1,0 @@
-pub mod GridLaws
-pub mod SpanLaws
-pub mod TouchLaws

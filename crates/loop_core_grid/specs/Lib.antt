@@ -1,3 +1,0 @@
-pub mod Choosing
-pub mod Touching
-pub mod Grids

@@ -1,5 +1,0 @@
-use Rattle.loop_core_sums.proofs.FunctionEnds.{NoneAfter}
-use Rattle.loop_core_sums.proofs.function_end.function_end.Given as goal
-
-abbrev pub invariant-loop-function : goal.invariant-loop-function
-invariant-loop-function l = NoneAfter l.program l.slot l.function

@@ -1,5 +1,0 @@
-pub mod SumOps
-pub mod SumLaw
-pub mod SumLoops
-pub mod Rounds
-pub mod Sums

@@ -1,0 +1,138 @@
+//! Which iterations and elements are shown.
+
+ghost use Rattle.std.specs.Prelude.{◌≡◌, ◌≤◌, IfOk};
+ghost use Rattle.loop_core_witness.specs.Choosing.{span_around, lesser_of, greater_of, are_apart, first_span};
+ghost use Rattle.loop_core_witness.specs.Choosing.{second_span, lower_span, upper_span, less_than, shown_elements};
+
+use crate::focus::Focus;
+use std::alloc::{AllocError, Global};
+
+/// The most rows, and the most columns.
+const MOST: u32 = 64;
+
+/// Iterations that follow on one another.
+#[derive(Clone, Copy, Debug)]
+pub struct Span {
+    /// The index of the first.
+    pub from: u32,
+    /// The index after that of the last.
+    pub past: u32,
+}
+
+/// `most` of `count` iterations, or all, with an index in their middle where that can be.
+fn span_around(index: u32, count: u32, most: u32) -> Span
+    ensures is { result ≡ span_around index count most }
+    ensures rising { result.from ≤ result.past }
+    ensures within { result.past ≤ count }
+{
+    let from = index
+        .saturating_sub(most / 2)
+        .min(count.saturating_sub(most));
+    Span {
+        from,
+        past: from + most.min(count - from),
+    }
+}
+
+/// The lesser iteration of a focus; 0 where there is none.
+fn lesser_of(focus: Option<Focus>) -> u32
+    ensures { result ≡ lesser_of focus }
+{
+    match focus {
+        Some(at) => at.first.min(at.second),
+        None => 0,
+    }
+}
+
+/// The greater one.
+fn greater_of(focus: Option<Focus>) -> u32
+    ensures { result ≡ greater_of focus }
+{
+    match focus {
+        Some(at) => at.first.max(at.second),
+        None => 0,
+    }
+}
+
+/// Whether two of `count` iterations are too far apart for one span.
+fn are_apart(low: u32, high: u32, count: u32) -> bool
+    ensures { result ≡ are_apart low high count }
+{
+    high.saturating_sub(low) >= MOST && high < count
+}
+
+/// The first span of `count` iterations that is shown: with two of them in its middle, or around the lesser one.
+fn first_span(low: u32, high: u32, count: u32) -> Span
+    ensures is { result ≡ first_span low high count }
+    ensures rising { result.from ≤ result.past }
+    ensures within { result.past ≤ count }
+{
+    if are_apart(low, high, count) {
+        span_around(low, count, MOST / 2)
+    } else {
+        span_around(low + high.saturating_sub(low) / 2, count, MOST)
+    }
+}
+
+/// The second one: around the greater one, or empty where the first has both.
+fn second_span(low: u32, high: u32, count: u32) -> Span
+    ensures is { result ≡ second_span low high count }
+    ensures rising { result.from ≤ result.past }
+    ensures within { result.past ≤ count }
+{
+    if are_apart(low, high, count) {
+        return span_around(high, count, MOST / 2);
+    }
+    let both = first_span(low, high, count);
+    Span {
+        from: both.past,
+        past: both.past,
+    }
+}
+
+/// The first span of `count` iterations that is shown: with both iterations of a focus, or around the lesser one.
+pub(crate) fn lower_span(count: u32, focus: Option<Focus>) -> Span
+    ensures is { result ≡ lower_span count focus }
+    ensures rising { result.from ≤ result.past }
+    ensures within { result.past ≤ count }
+{
+    first_span(lesser_of(focus), greater_of(focus), count)
+}
+
+/// The second one: around the greater one, or empty.
+pub(crate) fn upper_span(count: u32, focus: Option<Focus>) -> Span
+    ensures is { result ≡ upper_span count focus }
+    ensures rising { result.from ≤ result.past }
+    ensures within { result.past ≤ count }
+{
+    second_span(lesser_of(focus), greater_of(focus), count)
+}
+
+/// How many of some elements are less than that of a focus.
+fn less_than(focus: Option<Focus>, elements: &[u32]) -> usize
+    ensures { result ≡ less_than focus elements.now }
+{
+    match focus {
+        Some(at) => {
+            let middle = at.element;
+            elements.iter().filter(|element| **element < middle).count()
+        }
+        None => 0,
+    }
+}
+
+/// Of elements, which rise, those around that of a focus, at most 64.
+pub(crate) fn shown_elements(
+    alloc: Global,
+    elements: &[u32],
+    focus: Option<Focus>,
+) -> Result<Vec<u32>, AllocError>
+    ensures { IfOk result (λ shown. shown.items ≡ shown_elements focus elements.now) }
+{
+    let most = MOST as usize;
+    let from = less_than(focus, elements)
+        .saturating_sub(most / 2)
+        .min(elements.len().saturating_sub(most));
+    let past = from + most.min(elements.len() - from);
+    elements[from..past].to_vec(alloc)
+}

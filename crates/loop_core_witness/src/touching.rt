@@ -1,0 +1,132 @@
+//! Which elements iterations access.
+
+ghost use Rattle.std.specs.Prelude.{◌≡◌, ◌/◌, ◌<◌, ◌≤◌, ◌||◌, if◌then◌else◌, [], ◌∷◌, ◌++◌, length, IfOk, OnOk};
+ghost use Rattle.bpf_verify_sound.specs.Soundness.{OverApproximatesCall};
+ghost use Rattle.loop_core_block.specs.{Ran.{RecordsRun}, Shown.{shown}};
+ghost use Rattle.loop_core_model.specs.declared.loop_test.Test.TheVariants.{Flow};
+ghost use Rattle.shadow_marks.specs.Standing.{ArePlanes, EachPlane};
+ghost use Rattle.loop_core_witness.specs.Touching.{AreTouched, is_reduced, is_marked, marked_by};
+
+use crate::choosing::Span;
+use array_maps::Maps;
+use bpf_step::LoopCall;
+use bpf_verify::Verified;
+use loop_core_block::{Block, run_block};
+use loop_core_model::Test;
+use loop_core_split::{NoGate, Split};
+use shadow_marks::{OperatorPlanes, Planes, is_set};
+use std::alloc::{AllocError, Global};
+
+/// Whether planes mark an element as reduced.
+fn is_reduced(planes: &OperatorPlanes, element: u32) -> bool
+    requires { EachPlane (λ words. element / 64 < length words) planes.now }
+    ensures { result ≡ is_reduced planes.now element }
+{
+    is_set(&planes.add, element)
+        || is_set(&planes.or, element)
+        || is_set(&planes.and, element)
+        || is_set(&planes.xor, element)
+        || is_set(&planes.addh, element)
+}
+
+/// Whether planes mark an element as accessed. Each access is plain or by an operator.
+fn is_marked(planes: &Planes, element: u32) -> bool
+    requires whole { ArePlanes planes.now }
+    requires below { element < planes.now.elements }
+    ensures { result ≡ is_marked planes.now element }
+{
+    is_set(&planes.plain, element) || is_reduced(&planes.operators, element)
+}
+
+/// The split of a call's n iterations of which block 1 is a span.
+#[tactic(auto, using(crate::proofs::SpanLaws::no_fault))]
+fn split_at(alloc: Global, span: Span, n: u32) -> Result<Split, AllocError>
+    requires rising { span.from ≤ span.past }
+    requires within { span.past ≤ n }
+    ensures { IfOk result (λ split. split ≡ 0 ∷ span.from ∷ span.past ∷ n ∷ []) }
+{
+    let mut bounds = Vec::new(alloc);
+    bounds.extend_from_slice(&[0, span.from, span.past, n])?;
+    match Split::of(bounds, n) {
+        Ok(split) => Ok(split),
+        Err(_) => unreachable!(),
+    }
+}
+
+/// What the iterations of a span do.
+fn block_of<'a>(
+    alloc: Global,
+    program: &Verified,
+    call: &LoopCall,
+    start: &'a Maps,
+    span: Span,
+) -> Result<Block<'a>, AllocError>
+    requires known { OverApproximatesCall program.now call.now }
+    requires sizes { start.now.sizes ≡ program.now.sizes }
+    requires rising { span.from ≤ span.past }
+    requires within { span.past ≤ call.now.n }
+    ensures first { IfOk result (λ b. (shown b).first ≡ span.from) }
+    ensures past { IfOk result (λ b. (shown b).past ≡ span.past) }
+    ensures ran { IfOk result (λ b. RecordsRun Flow program.now call.now start.now.words (shown b)) }
+{
+    let split = split_at(alloc, span, call.n())?;
+    run_block(alloc, program, call, start, &split, 1, &NoGate, Test::Flow)
+}
+
+/// Adds an element, if iterations of one of two blocks accessed it.
+fn add_if_marked(
+    elements: &mut Vec<u32>,
+    lower: &Planes,
+    upper: &Planes,
+    element: u32,
+) -> Result<(), AllocError>
+    requires lower { ArePlanes lower.now }
+    requires upper { ArePlanes upper.now }
+    requires in_lower { element < lower.now.elements }
+    requires in_upper { element < upper.now.elements }
+    ensures { OnOk result (elements.new.items ≡ elements.old.items
+        ++ (if is_marked lower.now element || is_marked upper.now element then element ∷ [] else [])) }
+{
+    if is_marked(lower, element) || is_marked(upper, element) {
+        elements.push(element)?;
+    }
+    Ok(())
+}
+
+/// The elements that the planes of one of two blocks mark as accessed, rising.
+fn marked_elements(alloc: Global, lower: &Planes, upper: &Planes) -> Result<Vec<u32>, AllocError>
+    requires lower { ArePlanes lower.now }
+    requires upper { ArePlanes upper.now }
+    requires same { lower.now.elements ≡ upper.now.elements }
+    ensures { IfOk result (λ elements. elements.items ≡ marked_by lower.now upper.now) }
+{
+    let mut elements = Vec::new(alloc);
+    for element in 0..lower.elements {
+        add_if_marked(&mut elements, lower, upper, element)?;
+    }
+    Ok(elements)
+}
+
+/// The elements that the iterations of two spans access, rising: of each span those up to the first that breaks. The
+/// start maps are of the program's sizes.
+pub(crate) fn touched_elements(
+    alloc: Global,
+    program: &Verified,
+    call: &LoopCall,
+    start: &Maps,
+    lower: Span,
+    upper: Span,
+) -> Result<Vec<u32>, AllocError>
+    requires known { OverApproximatesCall program.now call.now }
+    requires sizes { start.now.sizes ≡ program.now.sizes }
+    requires rising { lower.from ≤ lower.past }
+    requires within { lower.past ≤ call.now.n }
+    requires upper_rising { upper.from ≤ upper.past }
+    requires upper_within { upper.past ≤ call.now.n }
+    ensures { IfOk result (λ elements.
+        AreTouched program.now call.now start.now.words lower upper elements.items) }
+{
+    let below = block_of(alloc, program, call, start, lower)?;
+    let above = block_of(alloc, program, call, start, upper)?;
+    marked_elements(alloc, below.planes(), above.planes())
+}

@@ -1,3 +1,0 @@
-pub mod Elements
-pub mod Ordered
-pub mod Independence

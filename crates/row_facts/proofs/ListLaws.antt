@@ -1,0 +1,69 @@
+-- The sites of a list, one more at a time.
+use Rattle.std.proofs.Common.{◌≡◌, ◌∙◌, ℕ, ◌+◌, ◌<◌, List, [], ◌∷◌, ◌++◌, true, false, length, get_or, take, refl, sym}
+use Rattle.std.{proofs.Common.{ap, subst}, specs.{Prelude.{drop, slice_index_or}, List.{AllZip, filter}}}
+use Rattle.std.proofs.lemmas.List.{append-nil, take_more, Elements.{filter-append}}
+use Rattle.lane_stamps.specs.{declared.site.Site.{Site}, Sites.{ranked_as, unranked}}
+use Rattle.row_list.specs.declared.row_op.RowOp.{RowOp, TheVariants.{All}}
+use Rattle.row_facts.specs.{Sites.{is_access, sites_of}, SiteKinds.{AreListed, IsKindOf}}
+
+filter_one : (op : RowOp) → is_access op ≡ true → filter is_access (op ∷ []) ≡ op ∷ []
+filter_one op e = rw e refl
+
+filter_none : (op : RowOp) → is_access op ≡ false → filter is_access (op ∷ []) ≡ []
+filter_none op e = rw e refl
+
+zip_more : (ops : List RowOp) (sites : List Site) (op : RowOp) (site : Site) → AllZip IsKindOf ops sites → IsKindOf op site
+    → AllZip IsKindOf (ops ++ op ∷ []) (sites ++ site ∷ [])
+zip_more [] [] op site zip one = (one, tt)
+zip_more [] (s ∷ sites) op site zip one = absurd zip
+zip_more (o ∷ ops) [] op site zip one = absurd zip
+zip_more (o ∷ ops) (s ∷ sites) op site zip one = (zip.0, zip_more ops sites op site zip.1 one)
+
+-- an operation that is none has no site
+pub listed_same : (list : List RowOp) (ops : List RowOp) (sites : List Site) (op : RowOp) → is_access op ≡ false
+    → AreListed list ops sites → AreListed (list ++ op ∷ []) ops sites
+listed_same list ops sites op is are = record {
+  all = are.all ∙ sym (append-nil (sites_of list)) ∙ ap (λ (xs : List RowOp). sites_of list ++ xs) (sym (filter_none op is))
+      ∙ sym (filter-append is_access list (op ∷ []));
+  kinds = are.kinds;
+}
+
+-- an access has one
+pub listed_more : (list : List RowOp) (ops : List RowOp) (sites : List Site) (op : RowOp) (site : Site) → is_access op ≡ true
+    → IsKindOf op site → AreListed list ops sites → AreListed (list ++ op ∷ []) (ops ++ op ∷ []) (sites ++ site ∷ [])
+listed_more list ops sites op site is kind are = record {
+  all = ap (λ (xs : List RowOp). xs ++ op ∷ []) are.all
+      ∙ ap (λ (xs : List RowOp). sites_of list ++ xs) (sym (filter_one op is))
+      ∙ sym (filter-append is_access list (op ∷ []));
+  kinds = zip_more ops sites op site are.kinds kind;
+}
+
+-- of all operations up to one, and of those up to the next
+pub listed_next : (list ops new_ops : List RowOp) (sites new_sites : List Site) (k : ℕ) → k < length list
+    → ((before : List RowOp) → AreListed before ops sites → AreListed (before ++ get_or list k All ∷ []) new_ops new_sites)
+    → AreListed (take k list) ops sites → AreListed (take (k + 1) list) new_ops new_sites
+listed_next list ops new_ops sites new_sites k less more are =
+    subst (λ (l : List RowOp). AreListed l new_ops new_sites) (sym (take_more list k All less)) (more (take k list) are)
+
+head_same : (n o : Site) (new old : List Site) → unranked (n ∷ new) ≡ unranked (o ∷ old) → ranked_as 0 n ≡ ranked_as 0 o
+head_same n o new old same = ap (λ (l : List Site). slice_index_or l 0 (ranked_as 0 o)) same
+
+tail_same : (n o : Site) (new old : List Site) → unranked (n ∷ new) ≡ unranked (o ∷ old) → unranked new ≡ unranked old
+tail_same n o new old same = ap (λ (l : List Site). drop 1 l) same
+
+-- ranks don't matter
+kinds_ranked : (ops : List RowOp) (old new : List Site) → unranked new ≡ unranked old → AllZip IsKindOf ops old
+    → AllZip IsKindOf ops new
+kinds_ranked [] [] [] same zip = tt
+kinds_ranked [] [] (n ∷ new) same zip = absurd (cc same)
+kinds_ranked [] (o ∷ old) new same zip = absurd zip
+kinds_ranked (op ∷ ops) [] new same zip = absurd zip
+kinds_ranked (op ∷ ops) (o ∷ old) [] same zip = absurd (cc same)
+kinds_ranked (op ∷ ops) (o ∷ old) (n ∷ new) same zip = (
+  record { has = zip.0.has; kind = ap (λ (s : Site). s.kind) (head_same n o new old same) ∙ zip.0.kind },
+  kinds_ranked ops old new (tail_same n o new old same) zip.1,
+)
+
+pub listed_ranked : (list ops : List RowOp) (old new : List Site) → unranked new ≡ unranked old → AreListed list ops old
+    → AreListed list ops new
+listed_ranked list ops old new same are = record { all = are.all; kinds = kinds_ranked ops old new same are.kinds }

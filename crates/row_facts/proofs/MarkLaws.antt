@@ -1,0 +1,27 @@
+-- Which sites are watched.
+use Rattle.std.proofs.Common.{◌≡◌, ℕ, ◌≤◌, List, length, slice_index_or, ap, subst}
+use Rattle.lane_stamps.specs.{declared.site.Site.{Site}, Stamps.{AreRanked}}
+use Rattle.row_facts.specs.{declared.{meeting.Meeting.{Meeting}, listed.ListSites.{ListSites}}, Meetings.{AreMeetings}}
+use Rattle.row_facts.specs.{Lists.{AreListSites}, SiteKinds.{AreListed}}
+use Rattle.row_facts.specs.Marks.{AreEven, AreMarked, IsWatched, WatchesEach}
+use Rattle.row_list.specs.declared.row_op.RowOp.{RowOp}
+
+pub are_marked : (meetings : List Meeting) (sites : List Site) → WatchesEach sites meetings → AreEven sites
+    → AreMarked meetings sites
+are_marked meetings sites each even = record {
+  listed = λ i j d within inside listed.
+      let k : ℕ = listed.0 in
+      let meeting : Meeting = record { first = i; second = j } in
+      let found : slice_index_or meetings k meeting ≡ meeting = listed.2 in
+      let both = each k meeting listed.1 in (
+        subst (IsWatched sites) (ap (λ (m : Meeting). m.first) found) both.0 d within,
+        subst (IsWatched sites) (ap (λ (m : Meeting). m.second) found) both.1 d inside,
+      );
+  even = λ i j d within inside. (even i d within).each j d inside;
+}
+
+pub list_sites_of : (list : List RowOp) (made : ListSites) (meetings : List Meeting) → length made.sites.items ≤ 64
+    → AreListed list made.accesses.items made.sites.items → AreRanked made.sites.items → AreMeetings list meetings
+    → AreMarked meetings made.sites.items → AreListSites list made
+list_sites_of list made meetings few listed ranked are marked =
+    record { few = few; listed = listed; ranked = ranked; meetings = meetings; are = are; marked = marked }

@@ -1,0 +1,15 @@
+-- The sites of a list.
+use Rattle.std.specs.Prelude.{◌≤◌, List, length}
+use Rattle.lane_stamps.specs.Stamps.{AreRanked}
+use Rattle.row_list.specs.declared.row_op.RowOp.{RowOp}
+use Rattle.row_facts.specs.{declared.{meeting.Meeting.{Meeting}, listed.ListSites.{ListSites}}, Meetings.{AreMeetings}}
+use Rattle.row_facts.specs.{SiteKinds.{AreListed}, Marks.{AreMarked}}
+
+-- sites are those of a list, in order, ranked, and marked by accesses of which no others meet
+pub record AreListSites (list : List RowOp) (made : ListSites) : Type 0 where
+  pub few : length made.sites.items ≤ 64
+  pub listed : AreListed list made.accesses.items made.sites.items
+  pub ranked : AreRanked made.sites.items
+  pub meetings : List Meeting
+  pub are : AreMeetings list meetings
+  pub marked : AreMarked meetings made.sites.items

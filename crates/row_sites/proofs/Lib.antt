@@ -1,3 +1,0 @@
-pub mod NarrowLaws
-pub mod ListLaws
-pub mod MarkLaws

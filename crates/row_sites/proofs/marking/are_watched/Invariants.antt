@@ -1,8 +1,0 @@
-use Rattle.std.proofs.Common.{ℕ, ◌<◌, slice_index_or}
-use Rattle.row_facts.specs.declared.meeting.Meeting.{Meeting}
-use Rattle.row_sites.specs.Marks.{IsWatched}
-use Rattle.row_sites.proofs.marking.are_watched.Given as goal
-
-abbrev pub invariant-loop-meeting : goal.invariant-loop-meeting
-invariant-loop-meeting l = (k : ℕ) (d : Meeting) → k < l.meeting-index
-    → IsWatched l.sites (slice_index_or l.meetings k d).first × IsWatched l.sites (slice_index_or l.meetings k d).second

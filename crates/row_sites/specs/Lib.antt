@@ -1,4 +1,0 @@
-pub mod Narrower
-pub mod Sites
-pub mod Marks
-pub mod Lists

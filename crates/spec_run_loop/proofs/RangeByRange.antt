@@ -1,0 +1,74 @@
+-- Sums, combined range after range.
+use Rattle.std.proofs.Common.{◌≡◌, ℕ, ◌+◌, ◌<◌, List, length, Some, None, sym, ap, ◌∙◌, subst, arith}
+use Rattle.std.specs.{Prelude.{slice_index_or}, List.{sum}}
+use Rattle.array_maps.specs.MapList.{MapList, AreWords}
+use Rattle.bpf_verify_sound.specs.Soundness.{AreMapWords}
+use Rattle.loop_core_sequential.{specs.Rests.{RanOn, RanTo}, proofs.InOrder.{stayed, ran_both, broke_before}}
+use Rattle.spec_run_loop.specs.{declared.partial_reduction.PartialReduction.{PartialReduction}, SumLoops.{SumLoopOf}}
+use Rattle.spec_run_loop.specs.Sums.{combined_words, IsSumFor, IsSumOf, AreSumsOf}
+
+module _ (l : SumLoopOf) (from to : ℕ) (sums : List PartialReduction) (are : AreSumsOf l from to sums) (old : MapList) where
+  -- so many ranges were added up
+  abbrev pub Added : (share : ℕ) → MapList → Type 0
+  Added share now = RanOn l.program l.call from (are.start share) old now
+
+  pub none_added : Added 0 old
+  none_added =
+      let low = are.before 0 (omega arith) in
+      let first = are.first in
+      let high = are.within in
+      subst (λ (index : ℕ). RanOn l.program l.call from index old old) (sym first)
+      (stayed l.program l.call from old (omega (arith, low, first, high)))
+
+  -- the maps are of the program's sizes on the way
+  pub fit_on_the_way : (share : ℕ) (now : MapList) → Added share now → old.sizes ≡ l.program.sizes
+      → length now.words ≡ sum now.sizes → AreWords now.words → AreMapWords l.program now.words
+  fit_on_the_way share now added sizes count fit = record {
+    count = count ∙ ap sum (added.sizes ∙ sizes);
+    fit = fit;
+  }
+
+  -- one more
+  one_ran : (share : ℕ) (s : PartialReduction) (now new : MapList) → share < length sums → s ≡ slice_index_or sums share s
+      → Added share now → AreMapWords l.program now.words
+      → new ≡ record { sizes = now.sizes; words = combined_words l.op now.words s.maps.words }
+      → RanTo l.program l.call from (are.start (share + 1)) old new s.broke
+  one_ran share s now new below here added fit is =
+      let its : IsSumOf l (are.start share) (are.start (share + 1)) s =
+      subst (IsSumOf l (are.start share) (are.start (share + 1))) (sym here) (are.each share s below) in
+      ran_both l.program l.call from (are.start share) (are.start (share + 1)) old now new s.broke added
+      (subst (λ (maps : MapList). RanTo l.program l.call (are.start share) (are.start (share + 1)) now maps
+      s.broke) (sym is) (its.adds now fit))
+
+  pub one_added : (share : ℕ) (s : PartialReduction) (now new : MapList) → share < length sums
+      → s ≡ slice_index_or sums share s → Added share now → AreMapWords l.program now.words
+      → new ≡ record { sizes = now.sizes; words = combined_words l.op now.words s.maps.words } → s.broke ≡ None
+      → Added (share + 1) new
+  one_added share s now new below here added fit is none =
+      subst (RanTo l.program l.call from (are.start (share + 1)) old new) none
+      (one_ran share s now new below here added fit is)
+
+  pub broke_off : (share : ℕ) (s : PartialReduction) (now new : MapList) (answer : ℕ) → share < length sums
+      → s ≡ slice_index_or sums share s → Added share now → AreMapWords l.program now.words
+      → new ≡ record { sizes = now.sizes; words = combined_words l.op now.words s.maps.words }
+      → s.broke ≡ Some answer → RanTo l.program l.call from to old new (Some answer)
+  broke_off share s now new answer below here added fit is broke =
+      broke_before l.program l.call from (are.start (share + 1)) to old new answer
+      (are.before (share + 1) (omega (arith, below)))
+      (subst (RanTo l.program l.call from (are.start (share + 1)) old new) broke
+      (one_ran share s now new below here added fit is))
+
+  pub all_added : (share : ℕ) (now : MapList) → share ≡ length sums → Added share now
+      → RanTo l.program l.call from to old now None
+  all_added share now all added =
+      subst (λ (index : ℕ). RanOn l.program l.call from index old now) (ap are.start all ∙ are.last) added
+
+-- a sum has a word for each of the maps'
+pub as_long : (l : SumLoopOf) (sums : List PartialReduction) → ((share : ℕ) (s : PartialReduction) → share < length sums
+    → IsSumFor l (slice_index_or sums share s)) → (share : ℕ) (s : PartialReduction) (old now : MapList)
+    → share < length sums → s ≡ slice_index_or sums share s → now.sizes ≡ old.sizes → old.sizes ≡ l.program.sizes
+    → length now.words ≡ sum now.sizes → length s.maps.words ≡ sum s.maps.sizes
+    → length s.maps.words ≡ length now.words
+as_long l sums fit share s old now below here kept sizes count others =
+    let its : IsSumFor l s = subst (IsSumFor l) (sym here) (fit share s below) in
+    others ∙ ap sum (its ∙ sym (kept ∙ sizes)) ∙ sym count
