@@ -7,7 +7,7 @@ from collections.abc import Iterator
 from functools import lru_cache
 from pathlib import Path
 
-from .items import Item, names_in
+from .items import NAME, Item, names_in
 from .specs import Imports, Place, SpecFile, read_specs
 from .types import SourceFile, find_type, imported_from, read_source
 
@@ -67,13 +67,28 @@ class Crates:
         imported or defined."""
         operators = {name for name in (*own, *imports.names) if HOLE in name}
         for name in operators | names_in(text):
-            first, _, rest = name.partition(".")
+            first = name.partition(".")[0]
             if first in own:
                 yield own[first]
-            if first in imports.names:
-                yield from self._at(*imports.names[first])
-            if first in imports.places and rest:
-                yield from self._at(imports.places[first], rest.partition(".")[0])
+            yield from self._imported(imports, name)
+
+    def cited(self, imports: Imports, text: str) -> tuple[Item, ...]:
+        """The definitions that a text cites by imports, in order, each once."""
+        found = (item for word in NAME.findall(text) for item in self._imported(imports, word))
+        return tuple(dict.fromkeys(item for item in found if item.is_definition))
+
+    def imported(self, imports: Imports) -> Iterator[Item]:
+        """The definitions that are imported by name."""
+        items = (item for place, name in imports.names.values() for item in self._at(place, name))
+        return (item for item in items if item.is_definition)
+
+    def _imported(self, imports: Imports, word: str) -> Iterator[Item]:
+        """What a word stands for by imports; one with a dot is a name at a place."""
+        first, _, rest = word.partition(".")
+        if first in imports.names:
+            yield from self._at(*imports.names[first])
+        if first in imports.places and rest:
+            yield from self._at(imports.places[first], rest.partition(".")[0])
 
     def _at(self, place: Place, name: str) -> Iterator[Item]:
         """The item of a name at a place."""

@@ -3,7 +3,7 @@
 from __future__ import annotations
 
 from collections.abc import Iterable
-from typing import Dict, List, Tuple, Union
+from typing import Union
 
 from .btf import SourceLine
 from .btf import Kind as TypeKind
@@ -24,8 +24,8 @@ class Traps:
     """The traps of a unit, by their numbers from 1."""
 
     def __init__(self) -> None:
-        self.all: List[Trap] = []
-        self._numbers: Dict[Trap, int] = {}
+        self.all: list[Trap] = []
+        self._numbers: dict[Trap, int] = {}
 
     def number(self, trap: Trap) -> int:
         """The number of a trap; equal ones have one."""
@@ -56,7 +56,7 @@ class Planner:
             return self._exact(insn, base, frame)
         return self._flat(insn, base, state)
 
-    def _things(self, base: Value, line: SourceLine | None) -> List[Thing]:
+    def _things(self, base: Value, line: SourceLine | None) -> list[Thing]:
         """The things that an address may lead to."""
         found = set(base.real)
         if not found and ARGUMENT in base.things:
@@ -89,7 +89,7 @@ class Planner:
                 return Plan(Where.FRAME, byte - FRAME_BYTES)
             self.facts.move(thing.number)
             self.facts.take(thing.number, byte)
-        self.facts.access((thing.number,), insn.size, is_even, byte)
+        self.facts.access((thing.number,), insn.size, is_even, False)
         at = spot.byte_in_map(byte, insn.size)
         if at is None or not is_even and isinstance(insn, Atomic):
             return self._stop(insn, f"an access of {thing.name} that isn't at a multiple of its size")
@@ -103,13 +103,13 @@ class Planner:
         for thing in things:
             if thing.kind == Kind.FRAME:
                 self.facts.move(thing.number)
-        self.facts.access([thing.number for thing in things], insn.size, True, None)
+        self.facts.access([thing.number for thing in things], insn.size, True, True)
         spots = [self.layout.spots[thing.number] for thing in things if thing.number in self.layout.spots]
         if len(spots) < len(things) or len({spot.scale for spot in spots}) > 1:
             return self._stop(insn, "an access that isn't laid out")  # of a round that isn't the last
         return self._tested(insn, base, things, spots, state)
 
-    def _tested(self, insn: Access, base: Value, things: List[Thing], spots: List[Spot], state: State) -> Plan | Stop:
+    def _tested(self, insn: Access, base: Value, things: list[Thing], spots: list[Spot], state: State) -> Plan | Stop:
         known, size, scale, offset = base.range, insn.size, spots[0].scale, insn.offset
         least = min(spot.address + min(spot.low, spot.size) for spot in spots)
         most = max(spot.address + spot.size for spot in spots) - size
@@ -117,7 +117,7 @@ class Planner:
         is_uneven = known.z >= 3 and bool((known.lo + offset) % size)
         is_moved = bool(offset % size) and not is_uneven
         if is_uneven:
-            self.facts.access([thing.number for thing in things], size, False, None)
+            self.facts.access([thing.number for thing in things], size, False, True)
         if is_uneven and (scale or isinstance(insn, Atomic)):
             return self._stop(insn, f"an access of {names(things)} that isn't at a multiple of its size")
         if is_moved:
@@ -140,14 +140,14 @@ class Planner:
         place = (Where.FLAT, 0, scale, bool(scale), offset, is_moved)
         return Plan(*place, low, high, align, byte, is_uneven, uneven, trap)
 
-    def _trap(self, insn: Access, things: List[Thing], spots: List[Spot], offset: int, name: str) -> int:
+    def _trap(self, insn: Access, things: list[Thing], spots: list[Spot], offset: int, name: str) -> int:
         text = f"an access outside {name}"
         if len(things) != 1 or things[0].kind not in (Kind.GLOBAL, Kind.MAP):
             return self.traps.number(Trap(insn.line, text))
         size, count = self._element(things[0], spots[0])
         return self.traps.number(Trap(insn.line, text, name, spots[0].address - offset, size, count))
 
-    def _element(self, thing: Thing, spot: Spot) -> Tuple[int, int]:
+    def _element(self, thing: Thing, spot: Spot) -> tuple[int, int]:
         """The bytes from one element of an array to the next, and how many there are."""
         if thing.entries:
             return spot.stride, thing.entries

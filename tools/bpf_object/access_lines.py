@@ -2,14 +2,12 @@
 
 from __future__ import annotations
 
-from typing import List, Optional, Tuple
-
 from .code import FRAME, FRAME_BYTES, NUMBER_LIMIT, REGISTERS, Atomic, Function, Load, Store, line_text
 from .lines import Writer
 from .live import writes_of
 from .plans import Touch, Where
 from .ranges import LOW, Range, signed
-from .refusal import NoRoom, Refused
+from .refusal import NoRoom
 from .uneven_lines import UnevenLines
 from .values import Value
 
@@ -49,12 +47,12 @@ class AccessLines:
         self._out = out
         self._scratch = scratch
         self._impossible = impossible  # the trap of a test that always holds
-        self._spare: List[int] = []
+        self._spare: list[int] = []
         self._live = 0
-        self.kept: Optional[Tuple[int, int]] = None  # a register with an address, and the byte of the map there
-        self._free: List[int] = []
-        self._aside: List[int] = []
-        self._busy: List[int] = []
+        self.kept: tuple[int, int] | None = None  # a register with an address, and the byte of the map there
+        self._free: list[int] = []
+        self._aside: list[int] = []
+        self._busy: list[int] = []
         self._touch: Touch
 
     def write(self, touch: Touch, live: int) -> None:
@@ -166,7 +164,7 @@ class AccessLines:
         if self.kept is not None and written >> self.kept[0] & 1:
             self.kept = None
 
-    def _known_address(self, byte: int) -> Tuple[int, int]:
+    def _known_address(self, byte: int) -> tuple[int, int]:
         """A register with an address in the map, and the offset from there to a byte.
 
         The register of the access before is used again, as long as nothing else is put in it.

@@ -2,30 +2,12 @@
 
 from __future__ import annotations
 
-from typing import Dict, List, NamedTuple, Optional, Tuple
+from typing import NamedTuple, Optional
 
 from .access import Planner
 from .btf import SourceLine
-from .code import (
-    FRAME,
-    FRAME_BYTES,
-    LOOP,
-    RESULT,
-    Address,
-    Alu,
-    Atomic,
-    Branch,
-    Call,
-    CodeOf,
-    Function,
-    Insn,
-    Load,
-    MapOf,
-    Number,
-    Stop,
-    Store,
-    line_text,
-)
+from .code import FRAME, FRAME_BYTES, LOOP, RESULT, Address, Alu, Atomic, Branch, Call, CodeOf, Function, Insn, Load
+from .code import MapOf, Number, Stop, Store, line_text
 from .inline import lowest_byte
 from .memory import Kind, Thing
 from .plans import LoopCall, Moved, Plan, Touch, Where
@@ -55,18 +37,18 @@ class Done(NamedTuple):
     """What an instruction gives, and what is done in its place."""
 
     value: Value
-    insns: List
+    insns: list
 
 
-Refined = Optional[Tuple[Value, Value]]  # what two operands are; nothing where it can't come to that
+Refined = Optional[tuple[Value, Value]]  # what two operands are; nothing where it can't come to that
 
 
 class Results:
     """What was found of a function's instructions, by their identities and operands, as long as the layout is one."""
 
     def __init__(self) -> None:
-        self.done: Dict[Tuple[int, Held, Held], Tuple[Alu, Done]] = {}  # each keeps what its identity is of
-        self.compared: Dict[Tuple[int, Value, Held], Tuple[Branch, Refined, Refined]] = {}
+        self.done: dict[tuple[int, Held, Held], tuple[Alu, Done]] = {}  # each keeps what its identity is of
+        self.compared: dict[tuple[int, Value, Held], tuple[Branch, Refined, Refined]] = {}
 
 
 class Analysis:
@@ -78,12 +60,12 @@ class Analysis:
         self.number = number
         self.function = function
         self.frame = frame
-        self.entries: Dict[int, Entry] = {}
+        self.entries: dict[int, Entry] = {}
         self.lowest = lowest_byte(function)
         self._results = results
-        self._plans: Dict[Tuple[int, Held, int], Tuple[Insn, Plan | Stop, Held]] = {}  # each with its instruction
+        self._plans: dict[tuple[int, Held, int], tuple[Insn, Plan | Stop, Held]] = {}  # each with its instruction
 
-    def step(self, insn: Insn, state: State) -> List:
+    def step(self, insn: Insn, state: State) -> list:
         """The instructions that are done in place of one; a `Stop` among them ends the path."""
         if isinstance(insn, Alu):
             return self.alu(insn, state)
@@ -114,7 +96,7 @@ class Analysis:
             raise Refused(f"{line_text(insn.line)}the address of a map or a function is used as a number")
         return held
 
-    def _address(self, insn: Address, state: State) -> List:
+    def _address(self, insn: Address, state: State) -> list:
         self.facts.use((insn.thing,))
         spot = self.planner.layout.spots.get(insn.thing)
         address = (spot.address + insn.offset) & ALL if spot else 0
@@ -128,11 +110,11 @@ class Analysis:
             (thing,) = real
             spot = self.planner.layout.spots.get(thing)
             byte = (found.range.lo - spot.address) & ALL if spot else ALL
-            if spot and not spot.scale and spot.low <= byte < spot.size and not spot.cells:
+            if spot and not spot.scale and spot.low <= byte < spot.size:
                 return Address(dst, thing, byte, line, found.range.lo)
         return constant(dst, found.range.lo, line)
 
-    def alu(self, insn: Alu, state: State) -> List:
+    def alu(self, insn: Alu, state: State) -> list:
         """The instructions that are done in place of one that computes."""
         regs, dst, src = state.regs, insn.dst, insn.src
         is_move = insn.op.startswith("mov")
@@ -211,7 +193,7 @@ class Analysis:
                     self.facts.move(thing)
                     self.take(thing, value.range.lo)
 
-    def _access(self, insn: Load | Store | Atomic, state: State) -> List:
+    def _access(self, insn: Load | Store | Atomic, state: State) -> list:
         plan = self._plan(insn, state)
         if isinstance(plan, Stop):
             return [plan]
@@ -262,7 +244,7 @@ class Analysis:
                 if not state.is_written(at, 1):
                     self.facts.leave_unwritten(self.number, at)
 
-    def _store(self, insn: Store, plan: Plan, state: State) -> Tuple[Store, bool]:
+    def _store(self, insn: Store, plan: Plan, state: State) -> tuple[Store, bool]:
         """Puts what is stored in the frame; gives the store, and whether that has no bits above its size."""
         value = Value(exact(insn.imm)) if insn.src is None else self.value(insn.src, state, insn)
         if insn.src == FRAME:
@@ -289,7 +271,7 @@ class Analysis:
         elif insn.op == "xchg" or insn.op.endswith("_fetch"):
             state.regs[insn.src] = Value(top(bits), LOADED)
 
-    def _loop(self, insn: Call, state: State) -> List:
+    def _loop(self, insn: Call, state: State) -> list:
         count, callback = self.value(1, state, insn), state.regs[2]
         context = self.value(3, state, insn)
         self.value(4, state, insn)
@@ -307,7 +289,7 @@ class Analysis:
         state.regs[:6] = [ANY, None, None, None, None, None]
         return [LoopCall(callback.number, callback.number not in self.facts.hidden, insn.line)]
 
-    def compare(self, end: Branch, state: State) -> Tuple[Optional[State], Optional[State]]:
+    def compare(self, end: Branch, state: State) -> tuple[State | None, State | None]:
         """What is known where a branch is taken, and where not; nothing where it can't come to that."""
         a = self.value(end.dst, state, end)
         b = None if end.src is None else self.value(end.src, state, end)
@@ -322,7 +304,7 @@ class Analysis:
         behind = state.copy() if other else None
         return _put(end, taken, state), _put(end, other, behind)
 
-    def _compared(self, end: Branch, a: Value, b: Value) -> Tuple[Branch, Refined, Refined]:
+    def _compared(self, end: Branch, a: Value, b: Value) -> tuple[Branch, Refined, Refined]:
         """What the operands are where a branch is taken, and where not."""
         if a.real and b.real and a.real != b.real:
             self.facts.together(a.real | b.real)

@@ -6,20 +6,22 @@ writes is a counted number where a round begins; so what it holds at the round's
 
 from __future__ import annotations
 
-from typing import Dict, List, NamedTuple, Optional, Set
+from typing import NamedTuple
 
-from .code import FRAME, LOOP, Address, Alu, Atomic, Branch, Call, Function, Insn, Load, Number, Store
-from .code import order_of, successors, writes
+from .code import FRAME, FRAME_BYTES, LOOKUP, LOOP, Address, Alu, Atomic, Block, Branch, Call, Function, Insn, Load
+from .code import Number, Store, backward, loop_of, order_of, reads, successors, writes
 from .counted import ANY, Counted, Known, Place, Plain, Slot, combine, cut, join_known, number
+from .counted import Counter, Test, range_in, trips
+from .inline import live_in_of
+from .live import bits
 from .ranges import OPPOSITE, TOP, exact, refine, top
-from .taken import lowest_taken
-from .trips import Counter, Test, range_in, trips
 
 FRAME_THING = -1  # the frame, as what an address is in
 MOST_ROUNDS = 1 << 23  # more aren't told apart from those that aren't known
 
-Visits = Dict[int, int]  # how often first blocks of loops are come to at most, by their labels, where that is known
-State = Dict[Place, Known]
+Visits = dict[int, int]  # how often first blocks of loops are come to at most, by their labels, where that is known
+State = dict[Place, Known]
+KEY = 2  # the register with the address of a lookup's key, which isn't written
 
 
 class Way(NamedTuple):
@@ -35,12 +37,12 @@ class Way(NamedTuple):
 class LoopFacts:
     """What is found of one loop."""
 
-    def __init__(self, labels: Set[int]) -> None:
+    def __init__(self, labels: set[int]) -> None:
         self.labels = labels
         self.before: State = {}
-        self.ends: List[State] = []
-        self.ways: List[Way] = []
-        self.rounds: Optional[int] = None
+        self.ends: list[State] = []
+        self.ways: list[Way] = []
+        self.rounds: int | None = None
         self.is_open = True  # its rounds aren't found yet
 
 
@@ -52,16 +54,12 @@ class Bounds:
         self._order = order_of(function)
         self._place = {label: at for at, label in enumerate(self._order)}
         self._lowest = lowest_taken(function)
-        self._leads: Dict[int, List[int]] = {label: [] for label in self._order}
-        for label in self._order:
-            for following in successors(function.blocks[label].end):
-                self._leads[following].append(label)
         self.loops = {header: LoopFacts(labels) for header, labels in self._find().items()}
-        self._arriving: Dict[int, List[State]] = {function.entry: [{}]}
+        self._arriving: dict[int, list[State]] = {function.entry: [{}]}
         for label in self._order:
             self._follow(label)
 
-    def rounds(self, header: int) -> Optional[int]:
+    def rounds(self, header: int) -> int | None:
         """How often a loop's first block is come to, at most, each time that the loop begins."""
         loop = self.loops.get(header)
         if loop is None:
@@ -77,7 +75,7 @@ class Bounds:
         """How often the first blocks of a loop and of those in it are come to, at most, where that is known."""
         found: Visits = {}
         for header in self.loops[outer].labels & self.loops.keys() if outer in self.loops else ():
-            product: Optional[int] = 1
+            product: int | None = 1
             for other, loop in self.loops.items():
                 if header in loop.labels and other in self.loops[outer].labels:
                     rounds = self.rounds(other)
@@ -86,23 +84,12 @@ class Bounds:
                 found[header] = product
         return found
 
-    def _find(self) -> Dict[int, Set[int]]:
+    def _find(self) -> dict[int, set[int]]:
         """The blocks of each loop; nothing where one is entered by another block than its first."""
-        found: Dict[int, Set[int]] = {}
-        for header in self._order:
-            waiting = [label for label in self._leads[header] if self._place[label] >= self._place[header]]
-            if not waiting:
-                continue
-            labels = {header}
-            while waiting:
-                label = waiting.pop()
-                if label not in labels:
-                    labels.add(label)
-                    waiting += self._leads[label]
-            if any(self._place[label] < self._place[header] for label in labels):
-                return {}
-            found[header] = labels
-        return found
+        headers = {header for _, header in backward(self._function)}
+        found = {header: loop_of(self._function, header) for header in self._order if header in headers}
+        places = ((self._place[header], self._place[label]) for header, labels in found.items() for label in labels)
+        return {} if any(inside < first for first, inside in places) else found
 
     def _follow(self, label: int) -> None:
         state = _join(self._arriving.pop(label, []))
@@ -124,10 +111,10 @@ class Bounds:
         for place in self._written(self.loops[header].labels, state):
             state[place] = Counted(header, place)
 
-    def _written(self, labels: Set[int], state: State) -> Set[Place]:
+    def _written(self, labels: set[int], state: State) -> set[Place]:
         """The places that some blocks write, of the registers and of what a state knows."""
         insns = [insn for label in labels for insn in self._function.blocks[label].insns]
-        written: Set[Place] = {register for insn in insns for register in writes(insn)}
+        written: set[Place] = {register for insn in insns for register in writes(insn)}
         slots = [place for place in state if isinstance(place, Slot)]
         if any(isinstance(insn, Call) and insn.helper == LOOP for insn in insns):
             return written | set(slots)
@@ -214,7 +201,7 @@ class Bounds:
         elif following in self.loops:
             self.loops[following].ends.append(state)
 
-    def _tests(self, header: int, way: Way) -> List[Test]:
+    def _tests(self, header: int, way: Way) -> list[Test]:
         """A way out as a counter's test, where its number is counted in the loop itself."""
         a = way.a
         if not isinstance(a, Counted) or a.loop != header:
@@ -223,7 +210,7 @@ class Bounds:
         bound = self._plain(way.b)
         return [Test(way.op, way.width, a, counter, bound, way.is_same)] if counter and bound else []
 
-    def _counter(self, counted: Counted) -> Optional[Counter]:
+    def _counter(self, counted: Counted) -> Counter | None:
         """What a counted number is where its loop begins, and by how much it rises."""
         loop = self.loops[counted.loop]
         start = self._plain(loop.before.get(counted.place, ANY))
@@ -236,7 +223,7 @@ class Bounds:
         is_own = (step.loop, step.place) == (counted.loop, counted.place)
         return Counter(start, step) if is_own else None
 
-    def _plain(self, known: Known) -> Optional[Plain]:
+    def _plain(self, known: Known) -> Plain | None:
         """The range of a number, by the rounds of the loop that counts it where it is counted."""
         if isinstance(known, Plain):
             return known
@@ -257,7 +244,7 @@ def _meets(slot: Slot, insn: Store | Atomic) -> bool:
     return slot.offset < insn.offset + insn.size and insn.offset < slot.offset + slot.size
 
 
-def _join(states: List[State]) -> Optional[State]:
+def _join(states: list[State]) -> State | None:
     """What is known where paths meet."""
     if not states:
         return None
@@ -265,3 +252,46 @@ def _join(states: List[State]) -> Optional[State]:
     for state in states[1:]:
         joined = {place: join_known(known, state[place]) for place, known in joined.items() if place in state}
     return joined
+
+
+def lowest_taken(function: Function) -> int:
+    """The lowest byte whose address may lead to a store, counted from the frame's end; those below are safe."""
+    live_in = live_in_of(function)
+    return min((_lowest_in(block, live_in) for block in function.blocks.values()), default=0)
+
+
+def _lowest_in(block: Block, live_in: dict[int, int]) -> int:
+    lowest = 0
+    held: dict[int, int] = {}  # the registers with an address in the frame, and its byte
+    for insn in block.insns:
+        used = [register for register in _leading_on(insn) if register in held or register == FRAME]
+        lowest = min([lowest, *(held.get(register, -FRAME_BYTES) for register in used)])
+        sums = _sum_of(insn, held)
+        for register in writes(insn):
+            held.pop(register, None)
+        held.update(sums)
+    read = bits(reads(block.end))
+    for following in successors(block.end):
+        read |= live_in[following]
+    return min([lowest, *(byte for register, byte in held.items() if read >> register & 1)])
+
+
+def _leading_on(insn: Insn) -> tuple[int, ...]:
+    """The registers that an instruction reads, without those whose address it only makes another of or loads from."""
+    is_sum = isinstance(insn, Alu) and insn.width == 64 and (insn.op == "mov" or insn.op == "add" and insn.src is None)
+    if is_sum or isinstance(insn, Load):
+        return ()
+    if isinstance(insn, (Store, Atomic)) and insn.base == FRAME:
+        return reads(insn)[1:]
+    if isinstance(insn, Call) and insn.helper == LOOKUP:
+        return tuple(register for register in reads(insn) if register != KEY)
+    return reads(insn)
+
+
+def _sum_of(insn: Insn, held: dict[int, int]) -> dict[int, int]:
+    """The register with an address in the frame that an instruction makes, if it does."""
+    if not isinstance(insn, Alu):
+        return {}
+    if insn.op == "mov" and insn.src is not None and (insn.src == FRAME or insn.src in held):
+        return {insn.dst: held.get(insn.src, 0)}
+    return {insn.dst: held[insn.dst] + insn.imm} if insn.op == "add" and insn.dst in held else {}

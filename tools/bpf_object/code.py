@@ -7,7 +7,7 @@ from __future__ import annotations
 
 from collections.abc import Iterator
 from dataclasses import dataclass, field
-from typing import NamedTuple, Optional, Union
+from typing import NamedTuple, Union
 
 from .btf import SourceLine
 
@@ -25,9 +25,9 @@ class Alu(NamedTuple):
     op: str
     width: int
     dst: int
-    src: Optional[int]
+    src: int | None
     imm: int
-    line: Optional[SourceLine] = None
+    line: SourceLine | None = None
 
 
 class Number(NamedTuple):
@@ -35,7 +35,7 @@ class Number(NamedTuple):
 
     dst: int
     value: int
-    line: Optional[SourceLine] = None
+    line: SourceLine | None = None
 
 
 class Address(NamedTuple):
@@ -44,8 +44,8 @@ class Address(NamedTuple):
     dst: int
     thing: int
     offset: int
-    line: Optional[SourceLine] = None
-    number: Optional[int] = None  # where the thing has a place
+    line: SourceLine | None = None
+    number: int | None = None  # where the thing has a place
     is_native: bool = False  # an address in the map, and no number
 
 
@@ -54,7 +54,7 @@ class MapOf(NamedTuple):
 
     dst: int
     thing: int
-    line: Optional[SourceLine] = None
+    line: SourceLine | None = None
 
 
 class CodeOf(NamedTuple):
@@ -62,7 +62,7 @@ class CodeOf(NamedTuple):
 
     dst: int
     function: int
-    line: Optional[SourceLine] = None
+    line: SourceLine | None = None
 
 
 class Load(NamedTuple):
@@ -73,7 +73,7 @@ class Load(NamedTuple):
     dst: int
     base: int
     offset: int
-    line: Optional[SourceLine] = None
+    line: SourceLine | None = None
 
 
 class Store(NamedTuple):
@@ -82,9 +82,9 @@ class Store(NamedTuple):
     size: int
     base: int
     offset: int
-    src: Optional[int]
+    src: int | None
     imm: int
-    line: Optional[SourceLine] = None
+    line: SourceLine | None = None
 
 
 class Atomic(NamedTuple):
@@ -95,21 +95,21 @@ class Atomic(NamedTuple):
     base: int
     offset: int
     src: int
-    line: Optional[SourceLine] = None
+    line: SourceLine | None = None
 
 
 class Call(NamedTuple):
     """A call of a helper."""
 
     helper: int
-    line: Optional[SourceLine] = None
+    line: SourceLine | None = None
 
 
 class CallLocal(NamedTuple):
     """A call of another function."""
 
     function: int
-    line: Optional[SourceLine] = None
+    line: SourceLine | None = None
 
 
 Insn = Union[Alu, Number, Address, MapOf, CodeOf, Load, Store, Atomic, Call, CallLocal]
@@ -119,7 +119,7 @@ class Goto(NamedTuple):
     """The end of a block that has one successor."""
 
     target: int
-    line: Optional[SourceLine] = None
+    line: SourceLine | None = None
 
 
 class Branch(NamedTuple):
@@ -128,25 +128,25 @@ class Branch(NamedTuple):
     op: str
     width: int
     dst: int
-    src: Optional[int]
+    src: int | None
     imm: int
     taken: int
     other: int
-    line: Optional[SourceLine] = None
+    line: SourceLine | None = None
 
 
 class Exit(NamedTuple):
     """The end of the function."""
 
-    line: Optional[SourceLine] = None
+    line: SourceLine | None = None
 
 
 class Stop(NamedTuple):
     """The end of the program by a trap of a number."""
 
     trap: int
-    register: Optional[int] = None  # what the test was of
-    line: Optional[SourceLine] = None
+    register: int | None = None  # what the test was of
+    line: SourceLine | None = None
 
 
 End = Union[Goto, Branch, Exit, Stop]
@@ -158,6 +158,11 @@ class Block:
 
     insns: list
     end: End
+
+    @property
+    def line(self) -> SourceLine | None:
+        """The line of C that it begins at."""
+        return self.insns[0].line if self.insns else self.end.line
 
 
 class Kept(NamedTuple):
@@ -288,6 +293,23 @@ def backward(function: Function) -> Iterator[tuple[int, int]]:
         for following in successors(function.blocks[label].end):
             if place[following] <= at:
                 yield label, following
+
+
+def loop_of(function: Function, header: int) -> set[int]:
+    """The blocks of the loop that begins at one."""
+    place = {label: at for at, label in enumerate(order_of(function))}
+    leads: dict[int, list[int]] = {}
+    for label in place:
+        for following in successors(function.blocks[label].end):
+            leads.setdefault(following, []).append(label)
+    labels = {header}
+    waiting = [label for label in leads.get(header, []) if place[label] >= place[header]]
+    while waiting:
+        label = waiting.pop()
+        if label not in labels:
+            labels.add(label)
+            waiting += leads.get(label, [])
+    return labels
 
 
 def line_text(line: SourceLine | None) -> str:

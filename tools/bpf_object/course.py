@@ -2,7 +2,7 @@
 
 from __future__ import annotations
 
-from typing import List, NamedTuple, Optional, Tuple
+from typing import NamedTuple
 
 from .ranges import ALL, Range, exact, refine
 
@@ -24,18 +24,18 @@ class Round(NamedTuple):
     """A copied round: its instructions, and where its tests can lead."""
 
     size: int
-    ways: List[Way]
+    ways: list[Way]
 
 
 class Course:
     """The last rounds of a loop."""
 
     def __init__(self) -> None:
-        self._rounds: List[Round] = []
+        self._rounds: list[Round] = []
         self._count = 0
         self._next_look = SEEN_ROUNDS  # at that round
 
-    def end_round(self, size: int, ways: List[Way]) -> None:
+    def end_round(self, size: int, ways: list[Way]) -> None:
         """A round is copied."""
         self._rounds = [*self._rounds[1 - SEEN_ROUNDS :], Round(size, ways)]
         self._count += 1
@@ -57,7 +57,7 @@ class Course:
         return more if all(_stays(ways, more + 1) for ways in zip(*(one.ways for one in self._rounds))) else 0
 
 
-def _stays(seen: Tuple[Way, ...], rounds: int) -> bool:
+def _stays(seen: tuple[Way, ...], rounds: int) -> bool:
     """Whether a comparison may hold in so many more rounds, if what it compares changes as in those that were seen."""
     last = seen[-1]
     steps = _steps([way.a for way in seen]), _steps([way.b for way in seen])
@@ -78,13 +78,13 @@ def _may_hold(way: Way, a: Range, b: Range) -> bool:
     return refine(way.op, way.width, a, b) is not None
 
 
-def _steps(seen: List[Range]) -> Optional[tuple[int, int]]:
+def _steps(seen: list[Range]) -> tuple[int, int] | None:
     """By how much both bounds of a number change from round to round, where it is the same in all."""
     found = {(later.lo - one.lo, later.hi - one.hi) for one, later in zip(seen, seen[1:])}
     return found.pop() if len(found) == 1 else None
 
 
-def _moved(known: Range, steps: tuple[int, int], ahead: int) -> Optional[Range]:
+def _moved(known: Range, steps: tuple[int, int], ahead: int) -> Range | None:
     """What a number will be some rounds ahead, where it stays one of 64 bits."""
     low, high = known.lo + steps[0] * ahead, known.hi + steps[1] * ahead
     if not 0 <= low <= high <= ALL:

@@ -5,7 +5,6 @@ from __future__ import annotations
 import struct
 from collections.abc import Iterator
 from dataclasses import dataclass
-from typing import Tuple
 
 from .refusal import Refused
 
@@ -108,7 +107,7 @@ class Relocation:
     symbol: Symbol
 
 
-Part = Tuple[str, int, bytes, Tuple[Tuple[int, int, str, int], ...]]  # a section, and what it refers to
+Part = tuple[str, int, bytes, tuple[tuple[int, int, str, int], ...]]  # a section, and what it refers to
 
 
 class Object:

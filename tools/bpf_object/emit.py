@@ -1,28 +1,31 @@
-"""Makes a unit of a program that was rewritten: its text, and what its slots and elements mean in C."""
+"""Makes a unit of a program that was rewritten: its text, what its slots and elements mean, and what was rewritten."""
 
 from __future__ import annotations
 
 import re
 from collections import Counter
-from typing import Dict, List, Optional, Tuple
+from collections.abc import Iterator
 
 from .btf import SourceLine
-from .code import Function
+from .code import Function, Goto, Load, line_text, order_of, reads, successors
 from .layout import Layout
 from .lines import Line
+from .live import bits, is_pure, reads_of, writes_of
 from .loaded import Loaded
-from .least import least_slots
 from .lower import Lowering, callback_order
 from .memory import FLAG, Kind, Memory
 from .mend import Rewritten
-from .rewrites import rewrites_of
+from .plans import Touch, Where
 from .room import SlotsOf
 from .sums import sum_up, summed_bytes
 from .unit import printable
-from .webs import Webs
+from .webs import Webs, is_plain
 
 LABEL_LIMIT = 16  # characters of a function's name in labels
 FLAG_ELEMENT = 0  # the element of the trap that was taken
+ADDRESS_SLOTS = 3  # of the address of a byte of the map, from a number
+ALIGN_SLOTS = 3  # of a test whether an address is a multiple of the size
+BYTES_OF_HALF = 4
 
 
 class Slots:
@@ -30,8 +33,8 @@ class Slots:
 
     def __init__(self) -> None:
         self.count = 0
-        self.lines: Dict[int, SourceLine] = {}
-        self.loops: Dict[int, Optional[SourceLine]] = {}
+        self.lines: dict[int, SourceLine] = {}
+        self.loops: dict[int, SourceLine | None] = {}
 
 
 class Emitted:
@@ -41,8 +44,8 @@ class Emitted:
         self._memory = memory
         self._rewritten = rewritten
         self._names = label_names(rewritten.functions)
-        self._parts: Dict[int, List[Line]] = {}
-        self._can_trap: Dict[int, bool] = {}
+        self._parts: dict[int, list[Line]] = {}
+        self._can_trap: dict[int, bool] = {}
         summed = summed_bytes(rewritten)
         functions = rewritten.functions.items()
         self._least = {n: least_slots(function, summed if n else range(0)) for n, function in functions}
@@ -73,7 +76,7 @@ class Emitted:
     def _slots_of(self, number: int) -> int:
         return sum(line.slots for line in self._lines_of(number))
 
-    def _lines_of(self, number: int) -> List[Line]:
+    def _lines_of(self, number: int) -> list[Line]:
         """The lines of a function; main's are written behind those of all callbacks."""
         if number not in self._parts:
             Webs(self._rewritten.functions[number]).apply()
@@ -83,7 +86,7 @@ class Emitted:
             self._parts[number] = lowering.lines(self._can_trap)
         return self._parts[number]
 
-    def loaded(self, programs: List[str]) -> Loaded:
+    def loaded(self, programs: list[str]) -> Loaded:
         """All that is known of it."""
         rewritten = self._rewritten
         lines = {number: self._lines_of(number) for number in callback_order(rewritten)}
@@ -105,9 +108,9 @@ class Emitted:
         )
 
 
-def label_names(functions: Dict[int, Function]) -> Dict[int, str]:
+def label_names(functions: dict[int, Function]) -> dict[int, str]:
     """A label for each function, which isn't one of a block: those end with `_` and a number, or with a word."""
-    names: Dict[int, str] = {}
+    names: dict[int, str] = {}
     for number in sorted(functions):
         name = re.sub(r"[^A-Za-z0-9_]", "_", functions[number].name)[:LABEL_LIMIT]
         name = name if re.match(r"[A-Za-z_]", name) else f"f{name}"
@@ -116,12 +119,12 @@ def label_names(functions: Dict[int, Function]) -> Dict[int, str]:
     return names
 
 
-def text_of(lines: List[Line]) -> Tuple[List[str], Slots]:
+def text_of(lines: list[Line]) -> tuple[list[str], Slots]:
     """The text of some lines, with their source lines, and what their slots are of."""
     slots = Slots()
     wanted = {line.text.rpartition(" ")[2] for line in lines if not line.is_label}
-    text: List[str] = []
-    shown: Optional[SourceLine] = None
+    text: list[str] = []
+    shown: SourceLine | None = None
     for line in lines:
         if line.is_label:
             if line.text[:-1] in wanted or slots.count == 0:
@@ -138,7 +141,7 @@ def text_of(lines: List[Line]) -> Tuple[List[str], Slots]:
     return text, slots
 
 
-def _header(memory: Memory, layout: Layout, rewritten: Rewritten, has_traps: bool) -> List[str]:
+def _header(memory: Memory, layout: Layout, rewritten: Rewritten, has_traps: bool) -> list[str]:
     header = ["; map 0: all variables; the loader rewrote the program, and chose their places"]
     if has_traps:
         header.append(";   element 0 is 0, or the number of the trap that ended the program; element 1 what it tested")
@@ -154,3 +157,109 @@ def _header(memory: Memory, layout: Layout, rewritten: Rewritten, has_traps: boo
         apart = f", an element for each {8 >> spot.scale} bytes" if spot.scale else ""
         header.append(f";   {printable(thing.name)} from element {spot.element}{apart}")
     return [*header, f"maps {layout.elements}"]
+
+
+def least_slots(function: Function, summed: range) -> int:
+    """The slots of the instructions whose results are read, and of each end with a choice.
+
+    A sum in some bytes of the map may become one instruction, where each load of a word belongs to a store there.
+    """
+    slots = 0
+    live_in: dict[int, int] = {}
+    loads: Counter[int] = Counter()
+    stores: Counter[int] = Counter()
+    for label in reversed(order_of(function)):
+        block = function.blocks[label]
+        slots += not isinstance(block.end, Goto)
+        live = bits(reads(block.end))
+        for following in successors(block.end):
+            live |= live_in[following]
+        for insn in reversed(block.insns):
+            written = writes_of(insn)
+            if not written & live and is_pure(insn):
+                continue
+            live = live & ~written | reads_of(insn)
+            if not isinstance(insn, Touch):
+                slots += 1
+                continue
+            slots += _least_of(insn)
+            if insn.plan.at in summed:
+                (loads if isinstance(insn.insn, Load) else stores)[insn.plan.at // 8] += 1
+        live_in[label] = live
+    return slots - 2 * sum(count for word, count in stores.items() if count == loads[word])
+
+
+def _least_of(touch: Touch) -> int:
+    """The slots of an access, by the shortest way that it can be written."""
+    plan, size = touch.plan, touch.insn.size
+    if plan.where is Where.FRAME or is_plain(touch):
+        return 1
+    is_part = size < BYTES_OF_HALF and not plan.is_alone
+    slots = 2 if is_part else 1
+    if plan.where is Where.FLAT:
+        slots += ADDRESS_SLOTS + (plan.low is not None) + (plan.high is not None) + plan.is_moved + (plan.scale > 0)
+        slots += ALIGN_SLOTS if plan.align else 0
+    return slots
+
+
+def rewrites_of(memory: Memory, rewritten: Rewritten, sources: dict[int, Function]) -> list[str]:
+    """A line for each rewrite: first those of whole variables and functions, then those at lines of C."""
+    return [*_of_things(memory, rewritten), *_of_loops(rewritten, sources), *_at_lines(rewritten)]
+
+
+def _of_things(memory: Memory, rewritten: Rewritten) -> Iterator[str]:
+    yield "all variables and maps are in one map, and addresses in it are numbers where the verifier needs it"
+    for thing in memory.things:
+        spot = rewritten.layout.spots.get(thing.number)
+        if spot is None:
+            continue
+        if spot.scale:
+            size = 8 >> spot.scale
+            yield f"{thing.name or thing.section}: an element for each {size} byte{'s' if size > 1 else ''}"
+        if thing.kind == Kind.FRAME and spot.low < spot.size:
+            what = f"{line_text(thing.line)}local variables of {thing.name}"
+            yield f"{what}, {spot.size - spot.low} bytes of its frame, are in the map"
+        if thing.kind == Kind.HIDDEN and thing.function in rewritten.facts.hidden:
+            yield f"{thing.name} is handed on in the map, since it isn't the same in all calls"
+
+
+def _of_loops(rewritten: Rewritten, sources: dict[int, Function]) -> Iterator[str]:
+    for loop, rounds in sorted(rewritten.copied.items()):
+        number, header = loop
+        line = sources[number].blocks[header].line
+        end = ", and a trap behind the last" if loop in rewritten.cut else ""
+        yield f"{line_text(line)}the loop's rounds are copied, {rounds} of them{end}"
+    for number, function in sources.items():
+        if number and function.kept is not None:
+            parts = ", and so are those of a loop in it" if function.parts else ""
+            yield f"{line_text(function.line)}the loop's rounds are iterations of a loop call{parts}"
+
+
+def _at_lines(rewritten: Rewritten) -> Iterator[str]:
+    found: set[tuple[str, int, str]] = set()
+    for function in rewritten.functions.values():
+        for block in function.blocks.values():
+            for insn in block.insns:
+                if isinstance(insn, Touch) and insn.plan.where is not Where.FRAME:
+                    found |= {(*_place(insn.line), text) for text in _texts(insn, rewritten)}
+    for file, number, text in sorted(found):
+        yield f"{file}:{number}: {text}" if file else text
+
+
+def _place(line: SourceLine | None) -> tuple[str, int]:
+    return (line.file, line.number) if line else ("", 0)
+
+
+def _texts(touch: Touch, rewritten: Rewritten) -> Iterator[str]:
+    plan, size = touch.plan, touch.insn.size
+    if plan.low is not None or plan.high is not None:
+        trap = rewritten.traps.all[plan.bound_trap - 1]
+        yield f"a test, and a trap at {trap.text}"
+    if plan.align:
+        yield f"a test, and a trap at {rewritten.traps.all[plan.trap - 1].text}"
+    if size < 4 and not plan.is_alone:
+        yield f"{size} byte{'s' if size > 1 else ''} by shifts and masks of an element"
+    if plan.where is Where.FLAT and not touch.is_native:
+        yield "an address that is a number"
+    if touch.was_sum:
+        yield "a sum by an atomic operation, since nothing else is done with it"

@@ -4,11 +4,10 @@ from __future__ import annotations
 
 from collections.abc import Iterable
 from dataclasses import dataclass, field
-from typing import FrozenSet, Tuple
 
 from .values import VAGUE, Things
 
-Followed = Tuple[FrozenSet, ...]
+Followed = tuple[frozenset, ...]
 
 
 @dataclass
@@ -23,7 +22,6 @@ class Facts:
     sizes: dict[int, set[int]] = field(default_factory=dict)  # of the accesses of a thing
     uneven: set[int] = field(default_factory=set)  # things with an access that isn't at a multiple of its size
     varied: set[int] = field(default_factory=set)  # things with an access at an address that isn't one alone
-    cells: dict[int, set[tuple[int, int]]] = field(default_factory=dict)  # the other accesses: their bytes and sizes
     hidden: set[int] = field(default_factory=set)  # callbacks that are given several ctx
     undefined: set[tuple[int, int]] = field(default_factory=set)  # a function, and a register that is read unwritten
     unwritten: set[tuple[int, int]] = field(default_factory=set)  # a function, and 8 bytes of its frame likewise
@@ -76,16 +74,14 @@ class Facts:
                 self.room[thing] = size
                 self.version += 1
 
-    def access(self, things: Iterable[int], size: int, is_even: bool, byte: int | None) -> None:
-        """An access of some bytes, at a byte where that is known."""
+    def access(self, things: Iterable[int], size: int, is_even: bool, is_varied: bool) -> None:
+        """An access of some bytes, at an address that may not be one alone."""
         for thing in things:
             self._add(self.sizes.setdefault(thing, set()), (size,))
             if not is_even:
                 self._add(self.uneven, (thing,))
-            if byte is None:
+            if is_varied:
                 self._add(self.varied, (thing,))
-            else:
-                self._add(self.cells.setdefault(thing, set()), ((byte, size),))
 
     def hide(self, callback: int) -> None:
         """A callback is given several ctx."""

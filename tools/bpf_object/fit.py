@@ -2,20 +2,18 @@
 
 from __future__ import annotations
 
-from collections.abc import Iterable
-from typing import Callable, Dict, List, Optional, Set, Tuple
+from collections.abc import Callable, Iterable
 
 from .bounds import Bounds
-from .btf import SourceLine
-from .code import Alu, Block, Branch, Function, order_of, successors, writes
+from .code import Alu, Block, Branch, Function, loop_of, order_of, successors, writes
+from .counted import FALLING, RISING
 from .emit import Emitted
 from .inline import callbacks_in, inline_loop
 from .memory import Memory
 from .mend import Mender, Rewritten
-from .outline import MOST_ROUNDS, loop_of, outline, part
+from .outline import MOST_ROUNDS, outline, part
 from .refusal import NoRoom, Refused
 from .room import too_long, too_much
-from .trips import FALLING, RISING
 from .unit import SLOTS_LIMIT
 from .unroll import Loop, TooMany
 
@@ -25,13 +23,13 @@ ENOUGH = 0.9  # of the slots, where no more rounds are tried
 ENOUGH_ROUNDS = 64  # of a loop whose rounds aren't known: callbacks with fewer become loops of main
 TRIES = 8
 
-Try = Callable[[Dict[Loop, int]], Tuple[Rewritten, Emitted]]
+Try = Callable[[dict[Loop, int]], tuple[Rewritten, Emitted]]
 
 
-def fit(memory: Memory, functions: Dict[int, Function], choices: Iterable[Set[int]]) -> Emitted:
+def fit(memory: Memory, functions: dict[int, Function], choices: Iterable[set[int]]) -> Emitted:
     """The unit by the first of some choices of what is spread that has room for its loops, or for the most of them."""
-    first: Optional[NoRoom] = None
-    best: Optional[Tuple[int, Emitted]] = None
+    first: NoRoom | None = None
+    best: tuple[int, Emitted] | None = None
     for sizes in choices:
         fitting = _Fit(memory, functions, sizes)
         try:
@@ -54,16 +52,16 @@ def fit(memory: Memory, functions: Dict[int, Function], choices: Iterable[Set[in
 class _Fit:
     """Finds which loops are copied, and which are callbacks, by what there is room for."""
 
-    def __init__(self, memory: Memory, functions: Dict[int, Function], sizes: Set[int]) -> None:
+    def __init__(self, memory: Memory, functions: dict[int, Function], sizes: set[int]) -> None:
         self._memory = memory
         self._functions = functions
-        self._limited: Set[Loop] = set()  # the loops of which fewer rounds are copied
+        self._limited: set[Loop] = set()  # the loops of which fewer rounds are copied
         self._sizes = sizes
-        self._rounds: Dict[Loop, int] = {}  # of the loops that end by themselves
+        self._rounds: dict[Loop, int] = {}  # of the loops that end by themselves
         self._given = functions  # before any loop of main is made a callback
         self._bounds = Bounds(functions[0])  # of the loops of main as it is given
-        self._headers: List[int] = []  # of the loops that are made callbacks, of which none is in another
-        self._parted: Set[int] = set()  # the headers of loops in callbacks that were parted
+        self._headers: list[int] = []  # of the loops that are made callbacks, of which none is in another
+        self._parted: set[int] = set()  # the headers of loops in callbacks that were parted
         self._mender = Mender(memory, functions, sizes)
 
     @property
@@ -76,11 +74,11 @@ class _Fit:
         """Whether any had one at any time."""
         return self._mender.was_spread
 
-    def _attempt(self, rounds: Dict[Loop, int]) -> Tuple[Rewritten, Emitted]:
+    def _attempt(self, rounds: dict[Loop, int]) -> tuple[Rewritten, Emitted]:
         done = self._mender.run(BUDGET, rounds)
         return done, Emitted(self._memory, done)
 
-    def run(self) -> Tuple[Rewritten, Emitted]:
+    def run(self) -> tuple[Rewritten, Emitted]:
         """The unit with all rounds of all loops, or else with as many as there is room for of those that go on."""
         done, emitted = self._fitting()
         best = _most_rounds(self._attempt, self._limited, done, emitted) if done.cut else (done, emitted)
@@ -93,7 +91,7 @@ class _Fit:
                 raise NoRoom(best[0].endless) from None
             return best
 
-    def _fitting(self) -> Tuple[Rewritten, Emitted]:
+    def _fitting(self) -> tuple[Rewritten, Emitted]:
         """The unit with few rounds of the loops that there is no room for."""
         while True:
             try:
@@ -112,13 +110,13 @@ class _Fit:
                 raise NoRoom(too_long(emitted.slots_of_lines(), done.functions.values()))
             self._limit(longest)
 
-    def _alike(self, loop: Optional[Loop]) -> List[Loop]:
+    def _alike(self, loop: Loop | None) -> list[Loop]:
         """A loop of main that takes too many rounds, and the copies of it behind: they likely do so too."""
         if loop is None or loop[0]:
             return [loop] if loop else []
         main = self._functions[0]
         place = {label: at for at, label in enumerate(order_of(main))}
-        line = _line_of(main, loop[1])
+        line = main.blocks[loop[1]].line
         inside = loop_of(main, loop[1])
         headers = {
             to
@@ -126,13 +124,13 @@ class _Fit:
             for to in successors(main.blocks[label].end)
             if place[loop[1]] < place[to] <= place[label]
         }
-        others = [header for header in headers if header not in inside and line and _line_of(main, header) == line]
+        others = [header for header in headers if header not in inside and line and main.blocks[header].line == line]
         loops = {header: loop_of(main, header) for header in others}
         apart = {header for header, labels in loops.items() if not labels & inside}
         outermost = (one for one in sorted(apart) if not any(one in loops[other] for other in apart - {one}))
         return [loop, *((0, header) for header in outermost)]
 
-    def _longest(self, done: Rewritten, emitted: Emitted) -> List[Loop]:
+    def _longest(self, done: Rewritten, emitted: Emitted) -> list[Loop]:
         """The loops with the most rounds, main's before all others, as many as have to be shorter."""
         counts = [(n, loop) for loop, n in done.copied.items() if loop not in self._limited and n >= FIRST_ROUNDS]
         of_main = [one for one in counts if not one[1][0]]
@@ -142,8 +140,8 @@ class _Fit:
             return [max(counts)[1]] if counts else []
         insns = sum(len(block.insns) + 1 for function in done.functions.values() for block in function.blocks.values())
         left: float = emitted.slots
-        chosen: List[Loop] = []
-        inside: Set[int] = set()
+        chosen: list[Loop] = []
+        inside: set[int] = set()
         for rounds, loop in sorted(of_main, reverse=True):
             labels = loop_of(self._functions[0], loop[1])
             if labels & inside:
@@ -166,7 +164,7 @@ class _Fit:
         number, header = loop
         return MOST_ROUNDS if number and _counts(self._functions[number], header) else ENOUGH_ROUNDS
 
-    def _with_loops_of_main(self, cut: Set[Loop]) -> Tuple[Rewritten, Emitted]:
+    def _with_loops_of_main(self, cut: set[Loop]) -> tuple[Rewritten, Emitted]:
         """The unit in which the callbacks of some loops, or in them, are loops of main: these can be parted."""
         changed = self._given
         headers = sorted(header for number, header in cut if not number)
@@ -190,7 +188,7 @@ class _Fit:
                 self._begin_with(outlined)
         return self.run()
 
-    def _outlined(self, more: List[int]) -> Optional[Dict[int, Function]]:
+    def _outlined(self, more: list[int]) -> dict[int, Function] | None:
         """The functions with more loops of main as callbacks, instead of those in them."""
         headers = self._headers
         if any(header not in self._given[0].blocks for header in more):
@@ -198,14 +196,14 @@ class _Fit:
         for header in more:
             inside = loop_of(self._given[0], header)
             headers = [*(other for other in headers if other not in inside), header]
-        functions: Optional[Dict[int, Function]] = self._given
+        functions: dict[int, Function] | None = self._given
         for one in headers:
             functions = outline(functions, one, self._bounds.visits(one)) if functions else None
         if functions is not None:
             self._headers = headers
         return functions
 
-    def _limit(self, loops: List[Loop]) -> None:
+    def _limit(self, loops: list[Loop]) -> None:
         """Loops are made callbacks, where they are main's, or parted; or else fewer rounds of one are copied."""
         number, header = loop = loops[0]
         changed = None
@@ -219,7 +217,7 @@ class _Fit:
         else:
             self._begin_with(changed if number else self._with_parts(changed))
 
-    def _with_parts(self, functions: Dict[int, Function]) -> Dict[int, Function]:
+    def _with_parts(self, functions: dict[int, Function]) -> dict[int, Function]:
         """The functions, where the loops of callbacks are parted that were so before."""
         for header in sorted(self._parted):
             for number, function in functions.items():
@@ -228,16 +226,11 @@ class _Fit:
                     break
         return functions
 
-    def _begin_with(self, functions: Dict[int, Function]) -> None:
+    def _begin_with(self, functions: dict[int, Function]) -> None:
         self._functions = functions
         self._mender.begin_with(functions)
         self._rounds.clear()
         self._limited.clear()
-
-
-def _line_of(function: Function, header: int) -> Optional[SourceLine]:
-    block = function.blocks[header]
-    return block.insns[0].line if block.insns else block.end.line
 
 
 def _counts(function: Function, header: int) -> bool:
@@ -268,10 +261,10 @@ def _is_loop(function: Function, header: int) -> bool:
     )
 
 
-def _most_rounds(attempt: Try, limited: Set[Loop], done: Rewritten, emitted: Emitted) -> Tuple[Rewritten, Emitted]:
+def _most_rounds(attempt: Try, limited: set[Loop], done: Rewritten, emitted: Emitted) -> tuple[Rewritten, Emitted]:
     """The unit with the most rounds that are found to fit, by secants between one that fits and one that doesn't."""
-    known: List[Tuple[int, int]] = [(FIRST_ROUNDS, emitted.slots)]
-    over: Optional[int] = None
+    known: list[tuple[int, int]] = [(FIRST_ROUNDS, emitted.slots)]
+    over: int | None = None
     best = done, emitted
     for _ in range(TRIES):
         rounds = _guess(known, over)
@@ -292,7 +285,7 @@ def _most_rounds(attempt: Try, limited: Set[Loop], done: Rewritten, emitted: Emi
     return best
 
 
-def _guess(known: List[Tuple[int, int]], over: Optional[int]) -> int:
+def _guess(known: list[tuple[int, int]], over: int | None) -> int:
     """The next number of rounds to try."""
     rounds, slots = known[-1]
     if len(known) == 1:

@@ -3,7 +3,7 @@
 from __future__ import annotations
 
 from collections.abc import Iterable
-from typing import Dict, FrozenSet, List, NamedTuple, Optional, Tuple
+from typing import NamedTuple
 
 from .code import Function, successors
 
@@ -11,7 +11,7 @@ from .code import Function, successors
 class Part(NamedTuple):
     """A loop, or a single block."""
 
-    labels: FrozenSet[int]
+    labels: frozenset[int]
     first: int
     is_loop: bool
 
@@ -21,9 +21,9 @@ class Graph:
 
     def __init__(self, function: Function) -> None:
         self._next = {label: successors(block.end) for label, block in function.blocks.items()}
-        self._parts: Dict[Tuple[FrozenSet[int], Optional[int]], List[Part]] = {}
+        self._parts: dict[tuple[frozenset[int], int | None], list[Part]] = {}
 
-    def parts(self, labels: FrozenSet[int], header: int | None) -> List[Part]:
+    def parts(self, labels: frozenset[int], header: int | None) -> list[Part]:
         """The loops and single blocks of some labels, in an order that the edges among them follow.
 
         Edges that lead to the header are left out.
@@ -34,17 +34,17 @@ class Graph:
             self._parts[key] = [Part(frozenset(part), part[0], self._is_loop(part, header)) for part in parts]
         return self._parts[key]
 
-    def _is_loop(self, part: List[int], header: int | None) -> bool:
+    def _is_loop(self, part: list[int], header: int | None) -> bool:
         """Whether a part leads to itself."""
         return len(part) > 1 or (part[0] in self._next[part[0]] and part[0] != header)
 
-    def _find(self, labels: FrozenSet[int], header: int | None) -> List[List[int]]:
+    def _find(self, labels: frozenset[int], header: int | None) -> list[list[int]]:
         """Tarjan's algorithm, without recursion."""
-        index: Dict[int, int] = {}
-        low: Dict[int, int] = {}
-        open_labels: List[int] = []
+        index: dict[int, int] = {}
+        low: dict[int, int] = {}
+        open_labels: list[int] = []
         is_open: set[int] = set()
-        parts: List[List[int]] = []
+        parts: list[list[int]] = []
 
         def following(label: int) -> Iterable[int]:
             return [n for n in self._next[label] if n in labels and n != header]

@@ -8,34 +8,10 @@ from __future__ import annotations
 
 from collections.abc import Iterable, Iterator
 from dataclasses import replace
-from typing import Dict, List, Optional, Set, Tuple
 
 from .btf import SourceLine
-from .code import (
-    FRAME,
-    FRAME_BYTES,
-    LOOP,
-    RESULT,
-    SAVED,
-    Alu,
-    Atomic,
-    Block,
-    Branch,
-    Call,
-    CallLocal,
-    CodeOf,
-    Exit,
-    Function,
-    Goto,
-    Load,
-    Store,
-    line_text,
-    order_of,
-    reads,
-    renamed,
-    successors,
-    writes,
-)
+from .code import FRAME, FRAME_BYTES, LOOP, RESULT, SAVED, Alu, Atomic, Block, Branch, Call, CallLocal, CodeOf, Exit
+from .code import Function, Goto, Load, Store, line_text, order_of, reads, renamed, successors, writes
 from .refusal import NoRoom, Refused
 
 SIZE_LIMIT = 20000  # instructions of a function, with all that is put in
@@ -44,7 +20,7 @@ ALL_REGISTERS = (1 << 11) - 1
 TOO_BIG, INVALID = -7, -22  # answers of a loop call that isn't done
 
 
-def inline(functions: Dict[int, Function]) -> Dict[int, Function]:
+def inline(functions: dict[int, Function]) -> dict[int, Function]:
     """Main and its callbacks, without calls among them."""
     inliner = _Inliner(functions)
     done = {0: inliner.whole(0, False)}
@@ -57,19 +33,19 @@ def inline(functions: Dict[int, Function]) -> Dict[int, Function]:
     return done
 
 
-def inline_callback(functions: Dict[int, Function], number: int) -> Function:
+def inline_callback(functions: dict[int, Function], number: int) -> Function:
     """A callback of functions whose own calls were put in, with its loop calls put in."""
     return _Inliner(functions).whole(number, True)
 
 
-def inline_loop(functions: Dict[int, Function], number: int) -> Optional[Tuple[Dict[int, Function], List[int]]]:
+def inline_loop(functions: dict[int, Function], number: int) -> tuple[dict[int, Function], list[int]] | None:
     """The functions with a callback as loops of main, and the first blocks of these.
 
     It is nothing where main doesn't name the callback right at its calls.
     """
     main = functions[0]
     done = replace(main, blocks=dict(main.blocks))
-    headers: List[int] = []
+    headers: list[int] = []
     try:
         for label in order_of(main):
             headers += _put_in_loops(done, label, number, functions[number])
@@ -89,20 +65,20 @@ def _put_in_loops(main: Function, label: int, number: int, body: Function) -> It
             yield _Site(main, label, at, body).put_in(True)
 
 
-def callbacks_in(function: Function, labels: Iterable[int]) -> Set[int]:
+def callbacks_in(function: Function, labels: Iterable[int]) -> set[int]:
     """The callbacks that some blocks name."""
     insns = (insn for label in labels for insn in function.blocks[label].insns)
     return {insn.function for insn in insns if isinstance(insn, CodeOf)}
 
 
-def _callbacks(function: Function) -> List[int]:
+def _callbacks(function: Function) -> list[int]:
     return [insn.function for block in function.blocks.values() for insn in block.insns if isinstance(insn, CodeOf)]
 
 
 class _Inliner:
-    def __init__(self, functions: Dict[int, Function]) -> None:
+    def __init__(self, functions: dict[int, Function]) -> None:
         self._functions = functions
-        self._open: List[int] = []  # those that are being put in
+        self._open: list[int] = []  # those that are being put in
 
     def whole(self, number: int, is_callback: bool) -> Function:
         """A function with all that it calls; a callback's own loop calls too."""
@@ -136,7 +112,7 @@ class _Inliner:
         _Site(function, label, at, body).put_in(isinstance(insn, Call))
 
 
-def _call_at(block: Block, is_callback: bool) -> Optional[int]:
+def _call_at(block: Block, is_callback: bool) -> int | None:
     for at, insn in enumerate(block.insns):
         if isinstance(insn, CallLocal) or (is_callback and isinstance(insn, Call) and insn.helper == LOOP):
             return at
@@ -154,7 +130,7 @@ def _loop_callback(block: Block, at: int) -> int:
     raise Refused(f"{line_text(line)}a callback calls bpf_loop with a callback that isn't named there")
 
 
-def _without_name(insns: List) -> List:
+def _without_name(insns: list) -> list:
     """What is done in front of a loop call that is put in, without the callback's name where nothing else reads it."""
     named = max(at for at, insn in enumerate(insns) if isinstance(insn, CodeOf) and insn.dst == 2)
     is_read = any(2 in reads(insn) for insn in insns[named + 1 :])
@@ -170,7 +146,7 @@ class _Site:
         self._label = label
         self._at = at
         self._body = body
-        self._line: Optional[SourceLine] = self._block.insns[at].line
+        self._line: SourceLine | None = self._block.insns[at].line
         self._next = max(function.blocks) + 1
         live = _live_before(function, label, at + 1, live_in_of(function))
         targets = sorted(SAVED, key=lambda register: live >> register & 1)  # those that hold nothing first
@@ -213,7 +189,7 @@ class _Site:
         """Copies the body, with its frame below a byte; each end leads on. Gives the first block."""
         labels = {label: self._new_label() for label in self._body.blocks}
         for label, block in self._body.blocks.items():
-            insns: List = []
+            insns: list = []
             for insn in block.insns:
                 insns += self._moved(insn, bottom - FRAME_BYTES)
             end = Goto(rest, block.end.line) if isinstance(block.end, Exit) else renamed(block.end, labels)
@@ -223,7 +199,7 @@ class _Site:
             self._function.blocks[labels[label]] = Block(insns, end)
         return labels[self._body.entry]
 
-    def _moved(self, insn, shift: int) -> List:
+    def _moved(self, insn, shift: int) -> list:
         names = self._registers
         if isinstance(insn, (Load, Store, Atomic)):
             offset = insn.offset + (shift if insn.base == FRAME else 0)
@@ -236,7 +212,7 @@ class _Site:
             return [found, Alu("add", 64, found.dst, None, shift, insn.line)]
         return [found]
 
-    def _loop(self, test: int, rest: int, places: List[int], bottom: int, front: List) -> Branch:
+    def _loop(self, test: int, rest: int, places: list[int], bottom: int, front: list) -> Branch:
         """The callback's rounds, with the count, the round and ctx in the frame."""
         line = self._line
         count, at, context = places
@@ -265,14 +241,14 @@ def _is_register(insn, field: str) -> bool:
     return hasattr(insn, field) and getattr(insn, field) is not None
 
 
-def _saved_used(function: Function) -> Set[int]:
+def _saved_used(function: Function) -> set[int]:
     insns = [insn for block in function.blocks.values() for insn in block.insns]
     return {register for insn in insns for register in writes(insn) if register in SAVED}
 
 
-def live_in_of(function: Function) -> Dict[int, int]:
+def live_in_of(function: Function) -> dict[int, int]:
     """The registers that are read from each block on, before they are written."""
-    live_in: Dict[int, int] = dict.fromkeys(function.blocks, 0)
+    live_in: dict[int, int] = dict.fromkeys(function.blocks, 0)
     blocks = [(label, *_effect(function, label)) for label in order_of(function)[::-1]]
     is_changed = True
     while is_changed:
@@ -288,7 +264,7 @@ def live_in_of(function: Function) -> Dict[int, int]:
     return live_in
 
 
-def _effect(function: Function, label: int) -> Tuple[int, int, Tuple[int, ...]]:
+def _effect(function: Function, label: int) -> tuple[int, int, tuple[int, ...]]:
     """The registers that a block reads before it writes them, those that it leaves as they are, and where it leads."""
     followings = successors(function.blocks[label].end)
     read = _live_before(function, label, 0, dict.fromkeys(followings, 0))
@@ -296,7 +272,7 @@ def _effect(function: Function, label: int) -> Tuple[int, int, Tuple[int, ...]]:
     return read, _live_before(function, label, 0, all_live) if followings else 0, followings
 
 
-def _live_before(function: Function, label: int, at: int, live_in: Dict[int, int]) -> int:
+def _live_before(function: Function, label: int, at: int, live_in: dict[int, int]) -> int:
     block = function.blocks[label]
     live = 0
     for following in successors(block.end):
@@ -315,7 +291,7 @@ def lowest_byte(function: Function) -> int:
     """The lowest byte of the frame that a function names by constants or keeps registers in, at a multiple of 8."""
     lowest = function.kept.bottom if function.kept else FRAME_BYTES
     for block in function.blocks.values():
-        addresses: Dict[int, int] = {}  # the registers with an address in the frame, and its byte
+        addresses: dict[int, int] = {}  # the registers with an address in the frame, and its byte
         for insn in block.insns:
             if isinstance(insn, (Load, Store, Atomic)) and insn.base == FRAME:
                 lowest = min(lowest, FRAME_BYTES + insn.offset)

@@ -9,12 +9,12 @@ elements in front of it are left out, so that these are above 0 too.
 from __future__ import annotations
 
 from collections.abc import Iterator
-from dataclasses import dataclass, field
+from dataclasses import dataclass
 
 from .code import FRAME_BYTES
 from .facts import Facts
-from .memory import ARGUMENT, ELEMENT_BYTES, FLAG, FLAG_WORDS, UNKNOWN, Kind, Memory, Thing
 from .maps import ELEMENTS_LIMIT
+from .memory import ARGUMENT, ELEMENT_BYTES, FLAG, FLAG_WORDS, UNKNOWN, Kind, Memory, Thing
 from .refusal import Refused
 from .variables import Piece, Variable
 
@@ -34,13 +34,9 @@ class Spot:
     scale: int = 0  # the address times 2^scale is the byte in the map
     stride: int = 0  # of a map: bytes from one value to the next
     is_native: bool = False  # a frame that isn't in the map, but for bytes from `low` on
-    cells: dict[int, int] = field(default_factory=dict)  # byte to element, where values at known places are apart
 
     def byte_in_map(self, byte: int, size: int) -> int | None:
         """The byte in the map of one of its bytes, where the access of a size there is taken."""
-        if self.cells:
-            element = self.cells.get(byte)
-            return None if element is None else element * ELEMENT_BYTES
         if self.scale:
             unit = ELEMENT_BYTES >> self.scale
             if size != unit or byte % unit:

@@ -2,7 +2,7 @@
 
 from __future__ import annotations
 
-from typing import Dict, List, NamedTuple, Optional
+from typing import NamedTuple
 
 from .btf import SourceLine
 from .code import Alu
@@ -16,7 +16,7 @@ class Line(NamedTuple):
     """An instruction, or a label where the text ends with a colon."""
 
     text: str
-    line: Optional[SourceLine]
+    line: SourceLine | None
 
     @property
     def is_label(self) -> bool:
@@ -44,9 +44,9 @@ class Writer:
 
     def __init__(self, name: str) -> None:
         self.name = name
-        self.lines: List[Line] = []
-        self.line: Optional[SourceLine] = None
-        self._stubs: Dict[tuple, str] = {}
+        self.lines: list[Line] = []
+        self.line: SourceLine | None = None
+        self._stubs: dict[tuple, str] = {}
 
     def add(self, text: str) -> None:
         """An instruction."""
@@ -67,7 +67,7 @@ class Writer:
         """The label of a block."""
         return f"{self.name}_{label}"
 
-    def trap(self, number: int, register: Optional[int]) -> str:
+    def trap(self, number: int, register: int | None) -> str:
         """The label of the code that takes a trap, with the register that was tested."""
         return self._stubs.setdefault((number, register), f"{self.name}_trap_{len(self._stubs)}")
 

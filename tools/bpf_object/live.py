@@ -5,15 +5,13 @@ The functions here are those that `unroll` makes: no jump of them leads backward
 
 from __future__ import annotations
 
-from typing import Dict, List, Tuple
-
 from .code import Address, Alu, Atomic, Function, Load, Number, Store, order_of, reads, successors, writes
 from .plans import LoopCall, Moved, Touch, Where
 
-Lives = Dict[int, List[int]]  # of a block: the registers that are live behind each instruction, as bits
+Lives = dict[int, list[int]]  # of a block: the registers that are live behind each instruction, as bits
 
 
-def bits(registers: Tuple[int, ...]) -> int:
+def bits(registers: tuple[int, ...]) -> int:
     """Registers as bits."""
     found = 0
     for register in registers:
@@ -61,12 +59,12 @@ def is_pure(insn: object) -> bool:
     return isinstance(insn, (Alu, Number, Address, Moved))
 
 
-def without_dead(function: Function) -> Tuple[Lives, int]:
+def without_dead(function: Function) -> tuple[Lives, int]:
     """Leaves out what nothing reads, and gives what is live behind each instruction that is left, and at the begin.
 
     An atomic operation whose old value nothing reads becomes one that doesn't fetch it.
     """
-    live_in: Dict[int, int] = {}
+    live_in: dict[int, int] = {}
     lives: Lives = {}
     for label in reversed(order_of(function)):
         block = function.blocks[label]

@@ -7,9 +7,7 @@ import struct
 from collections.abc import Iterator
 from contextlib import contextmanager
 from dataclasses import replace
-from typing import Dict, Optional
 
-from .as_is import load_as_is, main_functions
 from .code import Function, line_text
 from .elf import Object
 from .fit import fit
@@ -21,26 +19,27 @@ from .program import Fault, Verify
 from .program import verify as ask
 from .read import Reader
 from .refusal import Refused
-from .unit import types_of
+from .unit import load_as_is, main_functions, types_of
 from .variables import Variable
 
 __all__ = ["Loaded", "Refused", "Trap", "Variable", "load"]
 
 # What no object should lead to, since all is tested before it is used; still no object gets a trace.
-UNFORESEEN = (struct.error, ArithmeticError, LookupError, RecursionError, TypeError, ValueError, AttributeError)
+UNFORESEEN = (struct.error, ArithmeticError, LookupError, MemoryError, RecursionError)
+UNFORESEEN += (TypeError, ValueError, AttributeError)
 SPREAD_SIZES = ({1, 2, 4}, set())  # of values that have an element each: that takes more slots
 
 
 def load(data: bytes, main: str | None = None, as_is: bool = False, verify: Verify | None = None) -> Loaded:
     """The unit of an object, by the main function of a name where there are several."""
-    obj = Object(data)
-    programs = main_functions(obj)
-    if as_is:
-        return load_as_is(obj, programs)
     judge = verify or ask
-    name = _chosen(programs, main)
     try:
         with _without_collector():
+            obj = Object(data)
+            programs = main_functions(obj)
+            if as_is:
+                return load_as_is(obj, programs)
+            name = _chosen(programs, main)
             return _as_it_is(obj, programs, judge) or _rewritten(obj, name, programs, judge)
     except UNFORESEEN as reason:
         raise Refused(f"no object of clang: {type(reason).__name__}: {reason}") from None
@@ -68,7 +67,7 @@ def _chosen(programs: list[str], main: str | None) -> str:
     return main or programs[0]
 
 
-def _as_it_is(obj: Object, programs: list[str], judge: Verify) -> Optional[Loaded]:
+def _as_it_is(obj: Object, programs: list[str], judge: Verify) -> Loaded | None:
     try:
         loaded = load_as_is(obj, programs)
     except Refused:
@@ -84,8 +83,8 @@ def _rewritten(obj: Object, main: str, programs: list[str], judge: Verify) -> Lo
 
 
 def _in_order(
-    obj: Object, memory: Memory, functions: Dict[int, Function], programs: list[str], judge: Verify
-) -> Optional[Loaded]:
+    obj: Object, memory: Memory, functions: dict[int, Function], programs: list[str], judge: Verify
+) -> Loaded | None:
     try:
         loaded = plain(obj, memory, functions, programs)
     except Refused:
@@ -94,7 +93,7 @@ def _in_order(
     return replace(loaded, rewrites=rewrites) if judge(loaded.unit) is None else None
 
 
-def _planned(memory: Memory, functions: Dict[int, Function], programs: list[str], judge: Verify) -> Loaded:
+def _planned(memory: Memory, functions: dict[int, Function], programs: list[str], judge: Verify) -> Loaded:
     loaded = fit(memory, functions, SPREAD_SIZES).loaded(programs)
     fault = judge(loaded.unit)
     if fault is not None:

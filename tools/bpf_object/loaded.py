@@ -7,7 +7,7 @@ from dataclasses import dataclass, field
 
 from .btf import Btf, SourceLine
 from .refusal import Refused
-from .variables import ELEMENT_BYTES, Variable
+from .variables import Variable
 
 SECTION_LIMIT = 1 << 20  # bytes of the values, as docs/FORMATS.md has it
 
@@ -75,8 +75,3 @@ def refuse_long_values(size: int) -> None:
     """Refuses values whose text takes more bytes than a section of an input may have."""
     if size > SECTION_LIMIT:
         raise Refused(f"the variables' values take {size} bytes as decimal numbers, of at most {SECTION_LIMIT}")
-
-
-def bytes_of_words(words: Sequence[int]) -> bytes:
-    """The bytes of elements, in the order of C."""
-    return b"".join(word.to_bytes(ELEMENT_BYTES, "little") for word in words)

@@ -2,13 +2,11 @@
 
 from __future__ import annotations
 
-from typing import Dict, List, Optional, Tuple
-
 from .access_lines import AccessLines, Scratch
 from .code import Address, Alu, Branch, Exit, Goto, Number, Stop, successors
-from .loaded import Trap
 from .lines import Line, Writer, alu_text
 from .live import without_dead, writes_of
+from .loaded import Trap
 from .mend import Rewritten
 from .plans import LoopCall, Moved, Touch
 from .ranges import OPPOSITE
@@ -19,19 +17,19 @@ INVERTED = {op: OPPOSITE[op] for op in OPPOSITE if not op.endswith("set")}
 class Lowering:
     """One function of a rewritten program."""
 
-    def __init__(self, rewritten: Rewritten, number: int, name: str, labels: Dict[int, str]) -> None:
+    def __init__(self, rewritten: Rewritten, number: int, name: str, labels: dict[int, str]) -> None:
         self._rewritten = rewritten
         self._number = number
         self._function = rewritten.functions[number]
         self._lives, self._entry_live = without_dead(self._function)
         self._labels = labels  # of the callbacks
-        self._can_trap: Dict[int, bool] = {}
+        self._can_trap: dict[int, bool] = {}
         self._out = Writer(name)
         impossible = rewritten.traps.number(Trap(None, "a number changed in the frame"))
-        self._kept: Dict[int, List[Optional[Tuple[int, int]]]] = {}
+        self._kept: dict[int, list[tuple[int, int] | None]] = {}
         self._accesses = AccessLines(self._out, Scratch(self._function), impossible)
 
-    def lines(self, can_trap: Dict[int, bool]) -> List[Line]:
+    def lines(self, can_trap: dict[int, bool]) -> list[Line]:
         """The function's lines; which callbacks can take a trap is known."""
         self._can_trap = can_trap
         self._out.label(self._out.name)
@@ -55,7 +53,7 @@ class Lowering:
         can_trap[self._number] = self._out.can_trap
         return self._out.lines
 
-    def _kept_before(self, label: int) -> Optional[Tuple[int, int]]:
+    def _kept_before(self, label: int) -> tuple[int, int] | None:
         """The register with an address, where all blocks that lead to one have left it so."""
         kept = self._kept.get(label, [None])
         return kept[0] if all(one == kept[0] for one in kept) else None
@@ -126,7 +124,7 @@ class Lowering:
             out.add("ldx64 r1, [r1+0]")
             out.add(f"jne64 r1, 0, {out.name}_ended")
 
-    def _end(self, end: object, following: Optional[int]) -> None:
+    def _end(self, end: object, following: int | None) -> None:
         out = self._out
         out.line = getattr(end, "line", None)
         if isinstance(end, Goto):
@@ -140,7 +138,7 @@ class Lowering:
             out.add(f"ja {out.trap(end.trap, end.register)}")
 
 
-def write_branch(out: Writer, end: Branch, following: Optional[int]) -> None:
+def write_branch(out: Writer, end: Branch, following: int | None) -> None:
     """The end of a block that has two successors, of which one may follow."""
     op, taken, other = end.op, end.taken, end.other
     if taken == following and op in INVERTED:
@@ -151,7 +149,7 @@ def write_branch(out: Writer, end: Branch, following: Optional[int]) -> None:
         out.add(f"ja {out.block(other)}")
 
 
-def callback_order(rewritten: Rewritten) -> List[int]:
+def callback_order(rewritten: Rewritten) -> list[int]:
     """The functions with main last, since it has to know which callbacks can take a trap."""
     return [*(number for number in rewritten.functions if number), 0]
 

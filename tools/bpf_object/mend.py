@@ -3,7 +3,6 @@
 from __future__ import annotations
 
 from dataclasses import dataclass
-from typing import Dict, List, Optional, Set, Tuple
 
 from .access import Planner, Traps
 from .analysis import Analysis, Entry, Results
@@ -24,29 +23,29 @@ TRIAL_BUDGET = 1 << 16  # instructions
 class Rewritten:
     """A program whose instructions have plans, and what they were planned by."""
 
-    functions: Dict[int, Function]
-    entries: Dict[int, Entry]
-    frames: Dict[int, Thing]
-    contexts: Dict[int, Thing]
+    functions: dict[int, Function]
+    entries: dict[int, Entry]
+    frames: dict[int, Thing]
+    contexts: dict[int, Thing]
     layout: Layout
     facts: Facts
     traps: Traps
-    cut: Set[Loop]
-    counted: Set[Loop]
-    copied: Dict[Loop, int]
-    spent: Dict[Loop, int]
-    sources: Dict[int, Function]
-    endless: Optional[str] = None
+    cut: set[Loop]
+    counted: set[Loop]
+    copied: dict[Loop, int]
+    spent: dict[Loop, int]
+    sources: dict[int, Function]
+    endless: str | None = None
 
 
 class Mender:
     """Plans a program again and again, with all that was met before."""
 
-    def __init__(self, memory: Memory, functions: Dict[int, Function], sizes: Set[int]) -> None:
+    def __init__(self, memory: Memory, functions: dict[int, Function], sizes: set[int]) -> None:
         self._memory = memory
         self._sizes = sizes  # of values that may have an element each
         self._functions = functions
-        self._known: Dict[Tuple[int, str], Tuple[Thing, Thing]] = {}  # of functions, the frames and words of ctx
+        self._known: dict[tuple[int, str], tuple[Thing, Thing]] = {}  # of functions, the frames and words of ctx
         self._frames, self._contexts = self._things(functions)
         self.facts = Facts()
         for thing in memory.things:
@@ -56,10 +55,10 @@ class Mender:
         self._spread: set[int] = set()
         self.was_spread = False  # whether any value had an element of its own in any round
         self._is_tried = False
-        self._layout: Optional[Layout] = None  # of the round before
-        self._results: Dict[int, Results] = {}  # of the functions, by that layout
+        self._layout: Layout | None = None  # of the round before
+        self._results: dict[int, Results] = {}  # of the functions, by that layout
 
-    def begin_with(self, functions: Dict[int, Function]) -> None:
+    def begin_with(self, functions: dict[int, Function]) -> None:
         """Goes on with other functions, and with what was met of all things that are left."""
         changed = {number for number, function in self._functions.items() if functions.get(number) is not function}
         gone = {self._frames[number].number for number in self._functions.keys() - functions.keys()}
@@ -69,7 +68,7 @@ class Mender:
         self._is_tried = False
         self._layout = None
 
-    def _things(self, functions: Dict[int, Function]) -> Tuple[Dict[int, Thing], Dict[int, Thing]]:
+    def _things(self, functions: dict[int, Function]) -> tuple[dict[int, Thing], dict[int, Thing]]:
         """The frames of functions, and the words in which their ctx is handed on."""
         for number, function in functions.items():
             key = (number, function.name)
@@ -85,14 +84,14 @@ class Mender:
         """Whether any value has an element of its own."""
         return bool(self._spread)
 
-    def run(self, budget: int, rounds: Dict[Loop, int]) -> Rewritten:
+    def run(self, budget: int, rounds: dict[Loop, int]) -> Rewritten:
         """The program with plans that agree with its layout, the first time by few rounds of its loops before."""
         if not self._is_tried:
             self._settle(TRIAL_BUDGET, {}, True)
             self._is_tried = True
         return self._settle(budget, rounds, False)
 
-    def _settle(self, budget: int, rounds: Dict[Loop, int], is_trial: bool) -> Rewritten:
+    def _settle(self, budget: int, rounds: dict[Loop, int], is_trial: bool) -> Rewritten:
         for _ in range(TRIES):
             version, followed = self.facts.version, self.facts.followed()
             layout = Layout(self._memory, self.facts, self._spread)
@@ -117,7 +116,7 @@ class Mender:
         planner = Planner(self._memory, layout, self.facts, traps)
         known = (self._frames, self._contexts, layout, self.facts, traps)
         done = Rewritten({}, {}, *known, set(), set(), {}, {}, self._functions)
-        waiting: List[int] = [0]
+        waiting: list[int] = [0]
         while waiting:
             number = waiting.pop(0)
             function = self._functions[number]
@@ -138,7 +137,7 @@ class Mender:
                 waiting.append(callback)
         return done
 
-    def _entry(self, number: int, layout: Layout, entries: Dict[int, Entry]) -> State:
+    def _entry(self, number: int, layout: Layout, entries: dict[int, Entry]) -> State:
         frame_of = self._functions[number].frame_of
         frame = self._frames[number if frame_of is None else frame_of]
         top_of_frame = Value(exact(layout.spots[frame.number].address + FRAME_BYTES), frozenset((frame.number,)))

@@ -10,39 +10,16 @@ An iteration that isn't run behind the one before, as where a loop is tried by s
 from __future__ import annotations
 
 from dataclasses import replace
-from typing import Dict, List, Optional, Set
 
 from .bounds import Visits
-from .btf import SourceLine
-from .code import (
-    FRAME,
-    LOOP,
-    REGISTERS,
-    RESULT,
-    Alu,
-    Block,
-    Branch,
-    Call,
-    CodeOf,
-    End,
-    Exit,
-    Function,
-    Goto,
-    Kept,
-    Load,
-    Stop,
-    Store,
-    order_of,
-    renamed,
-    successors,
-    writes,
-)
+from .code import FRAME, LOOP, REGISTERS, RESULT, Alu, Block, Branch, Call, CodeOf, End, Exit, Function, Goto, Kept
+from .code import Load, Stop, Store, loop_of, order_of, renamed, successors, writes
 from .inline import inline_callback, live_in_of, lowest_byte
 
 MOST_ROUNDS = 1 << 23  # that a loop call does
 
 
-def outline(functions: Dict[int, Function], header: int, visits: Visits) -> Optional[Dict[int, Function]]:
+def outline(functions: dict[int, Function], header: int, visits: Visits) -> dict[int, Function] | None:
     """The functions with one more, or nothing where the loop can't be made one; its own visits are its rounds."""
     main = functions[0]
     labels = loop_of(main, header)
@@ -66,7 +43,7 @@ def outline(functions: Dict[int, Function], header: int, visits: Visits) -> Opti
     return done
 
 
-def part(functions: Dict[int, Function], number: int, header: int) -> Dict[int, Function]:
+def part(functions: dict[int, Function], number: int, header: int) -> dict[int, Function]:
     """The functions with one of the loops of a callback parted, which was a loop of main itself."""
     more = functions[number].visits.get(header, MOST_ROUNDS)
     blocks = {label: _with_more(block, number, more) for label, block in functions[0].blocks.items()}
@@ -87,15 +64,12 @@ def _parted(function: Function, header: int) -> Function:
     assert kept is not None
     if not function.parts:
         function = _with_all_kept(function, kept)
-    block = function.blocks[header]
-    line = block.insns[0].line if block.insns else block.end.line
+    line = function.blocks[header].line
     live = live_in_of(function)[header]
     registers = [register for register in REGISTERS if live >> register & 1]
     choice, again, leave = (max(function.blocks) + n for n in (1, 2, 3))
     number = function.parts + 1
-    blocks = {
-        label: Block(block.insns, _led(block.end, header, leave)) for label, block in function.blocks.items()
-    }
+    blocks = {label: Block(block.insns, _led(block.end, header, leave)) for label, block in function.blocks.items()}
     step = blocks[function.step]
     chosen = Branch("jeq", 64, 1, None, number, again, successors(step.end)[0])
     blocks[choice] = Block([Load(8, False, 1, FRAME, kept.part, line)], chosen)
@@ -118,38 +92,20 @@ def _with_all_kept(function: Function, kept: Kept) -> Function:
     return replace(function, blocks=blocks)
 
 
-def loop_of(function: Function, header: int) -> Set[int]:
-    """The blocks of the loop that begins at one."""
-    place = {label: at for at, label in enumerate(order_of(function))}
-    leads: Dict[int, List[int]] = {}
-    for label in place:
-        for following in successors(function.blocks[label].end):
-            leads.setdefault(following, []).append(label)
-    labels = {header}
-    waiting = [label for label in leads.get(header, []) if place[label] >= place[header]]
-    while waiting:
-        label = waiting.pop()
-        if label not in labels:
-            labels.add(label)
-            waiting += leads.get(label, [])
-    return labels
-
-
 class _Site:
-    def __init__(self, main: Function, header: int, labels: Set[int], kept: Kept) -> None:
+    def __init__(self, main: Function, header: int, labels: set[int], kept: Kept) -> None:
         self._main = main
         self._header = header
         self._labels = labels
         self._live = live_in_of(main)
         self._next = max(main.blocks) + 1
-        block = main.blocks[header]
-        self._line: Optional[SourceLine] = block.insns[0].line if block.insns else block.end.line
+        self._line = main.blocks[header].line
         edges = [(label, to) for label in sorted(labels) for to in successors(main.blocks[label].end)]
         self._exits = sorted({to for _, to in edges if to not in labels})
         self._written = {r for label in labels for insn in main.blocks[label].insns for r in writes(insn)}
         self.kept = kept  # the same words as those of another loop, which isn't in this one
 
-    def _registers(self, label: int) -> List[int]:
+    def _registers(self, label: int) -> list[int]:
         return [register for register in REGISTERS if self._live[label] >> register & 1]
 
     def _load(self, register: int) -> Load:
@@ -190,14 +146,14 @@ class _Site:
             blocks[label] = Block(block.insns, renamed(block.end, leading))
         return function
 
-    def main(self, number: int, enters: List[int], rounds: int) -> Function:
+    def main(self, number: int, enters: list[int], rounds: int) -> Function:
         """Main with a loop call of so many rounds in place of the loop."""
         main = self._main
         blocks = {label: block for label, block in main.blocks.items() if label not in self._labels}
         call, self._next = self._next, self._next + 1
         for label in enters:
             blocks[label] = Block(blocks[label].insns, _led(blocks[label].end, self._header, call))
-        insns: List = [self._store(register) for register in self._registers(self._header)]
+        insns: list = [self._store(register) for register in self._registers(self._header)]
         begun = (self.kept.way, self.kept.part, self.kept.count)
         insns += [Store(8, FRAME, place, None, 0, self._line) for place in begun]
         insns += [self._number(1, min(rounds, MOST_ROUNDS)), CodeOf(2, number, self._line)]

@@ -6,26 +6,9 @@ Its maps are those of the object, and so are its addresses. The verifier may sti
 from __future__ import annotations
 
 from dataclasses import dataclass
-from typing import Dict, List
 
-from .as_is import variables_of
-from .code import (
-    Address,
-    Alu,
-    Atomic,
-    Branch,
-    Call,
-    CodeOf,
-    Exit,
-    Function,
-    Goto,
-    Load,
-    MapOf,
-    Number,
-    Store,
-    backward,
-    order_of,
-)
+from .code import Address, Alu, Atomic, Branch, Call, CodeOf, Exit, Function, Goto, Load, MapOf, Number, Store, backward
+from .code import order_of
 from .elf import Object
 from .emit import label_names, text_of
 from .lines import Line, Writer, alu_text
@@ -34,38 +17,29 @@ from .lower import write_branch
 from .maps import ArrayMap, maps_of
 from .memory import Kind, Memory
 from .refusal import Refused
-from .unit import map_lines
+from .unit import loaded_of
 
 
-def plain(obj: Object, memory: Memory, functions: Dict[int, Function], programs: List[str]) -> Loaded:
+def plain(obj: Object, memory: Memory, functions: dict[int, Function], programs: list[str]) -> Loaded:
     """The unit, or a refusal where that can't be enough."""
     maps = maps_of(obj, memory.btf)
     names = label_names(functions)
-    lines: List[Line] = []
+    lines: list[Line] = []
     for number in sorted(functions):
         if next(backward(functions[number]), None) is not None:
             raise Refused("a jump leads backwards")
         lines += _Plain(memory, maps, names).lines(functions[number], names[number])
     text, slots = text_of(lines)
-    return Loaded(
-        unit="".join(f"{line}\n" for line in [*map_lines(obj, maps), *text]),
-        sizes=tuple(array.elements for array in maps) or (1,),
-        initial=[array.values for array in maps] or [[0]],
-        variables=variables_of(obj, memory.btf, maps),
-        lines=slots.lines,
-        loops=slots.loops,
-        programs=programs,
-        btf=memory.btf,
-    )
+    return loaded_of(obj, memory.btf, maps, text, lines=slots.lines, loops=slots.loops, programs=programs)
 
 
 @dataclass
 class _Plain:
     memory: Memory
-    maps: List[ArrayMap]
-    names: Dict[int, str]
+    maps: list[ArrayMap]
+    names: dict[int, str]
 
-    def lines(self, function: Function, name: str) -> List[Line]:
+    def lines(self, function: Function, name: str) -> list[Line]:
         """The lines of a function."""
         out = Writer(name)
         out.label(name)

@@ -3,7 +3,7 @@
 from __future__ import annotations
 
 from enum import Enum
-from typing import NamedTuple, Optional, Tuple, Union
+from typing import NamedTuple
 
 from .btf import SourceLine
 from .code import Alu, Atomic, Load, Store
@@ -27,10 +27,10 @@ class Plan(NamedTuple):
     is_alone: bool = False  # an element of its own holds the value
     offset: int = 0  # added to the base
     is_moved: bool = False  # the offset is added to a copy of the base, which is tested
-    low: Optional[int] = None  # the least address in the base
-    high: Optional[int] = None
+    low: int | None = None  # the least address in the base
+    high: int | None = None
     align: int = 0  # what the address in the base is a multiple of
-    byte: Optional[int] = None  # the address's rest by 8, where it is known
+    byte: int | None = None  # the address's rest by 8, where it is known
     is_uneven: bool = False  # the address isn't a multiple of the size
     trap: int = 0
     bound_trap: int = 0
@@ -39,12 +39,12 @@ class Plan(NamedTuple):
 class Touch(NamedTuple):
     """An access with its plan."""
 
-    insn: Union[Load, Store, Atomic]
+    insn: Load | Store | Atomic
     plan: Plan
-    line: Optional[SourceLine] = None
+    line: SourceLine | None = None
     is_cut: bool = False  # what is stored has no bits above its size
     is_native: bool = False  # the base is an address in the map, and no number
-    held: Tuple[Held, ...] = ()  # what is known of the registers behind it
+    held: tuple[Held, ...] = ()  # what is known of the registers behind it
     natives: int = 0  # the registers with addresses in the map that are no numbers, as bits
     was_sum: bool = False  # a load, an operation and a store, done at once
 
@@ -53,8 +53,8 @@ class Moved(NamedTuple):
     """A number added to an address in the map, and the sum where it is known."""
 
     insn: Alu
-    number: Optional[int]
-    line: Optional[SourceLine] = None
+    number: int | None
+    line: SourceLine | None = None
     is_native: bool = False
 
 
@@ -63,4 +63,4 @@ class LoopCall(NamedTuple):
 
     function: int
     is_zero: bool  # ctx is left out, since the callback knows it
-    line: Optional[SourceLine] = None
+    line: SourceLine | None = None

@@ -5,7 +5,8 @@ A range says at most what the program's own verifier finds. What is emitted is v
 
 from __future__ import annotations
 
-from typing import Callable, NamedTuple, Optional
+from collections.abc import Callable
+from typing import NamedTuple, Optional
 
 BITS = 64
 ALL = (1 << 64) - 1
@@ -225,7 +226,7 @@ HOLDS: dict[str, Callable[[int, int, int], bool]] = {
 OPPOSITE = {"jeq": "jne", "jgt": "jle", "jge": "jlt", "jset": "jnset", "jsgt": "jsle", "jsge": "jslt"}
 OPPOSITE.update({opposite: op for op, opposite in OPPOSITE.items()})
 
-Pair = Optional["tuple[Range, Range]"]
+Pair = Optional[tuple[Range, Range]]
 
 
 def refine(op: str, width: int, a: Range, b: Range) -> Pair:

@@ -5,26 +5,8 @@ from __future__ import annotations
 from dataclasses import dataclass
 
 from .btf import SourceLine, source_lines
-from .code import (
-    Address,
-    Alu,
-    Atomic,
-    Block,
-    Branch,
-    Call,
-    CallLocal,
-    CodeOf,
-    End,
-    Exit,
-    Function,
-    Goto,
-    Insn,
-    Load,
-    MapOf,
-    Number,
-    Store,
-    line_text,
-)
+from .code import Address, Alu, Atomic, Block, Branch, Call, CallLocal, CodeOf, End, Exit, Function, Goto, Insn, Load
+from .code import MapOf, Number, Store, line_text
 from .elf import R_BPF_64_32, R_BPF_64_64, STT_FUNC, Object, Relocation, Section, Symbol
 from .insns import ALU, ALU64, ATOMIC, ATOMICS, CALL_HELPER, CALL_LOCAL, CALL_OPCODE, CLASS_MASK, CONDITIONS, END, EXIT
 from .insns import EXCHANGES, FETCH, JA, JMP, JMP32, KIND_NUMBER, LDDW, LDX, MEMSX, NEG, OPERATORS, REGISTER_SOURCE

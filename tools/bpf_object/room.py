@@ -4,7 +4,7 @@ from __future__ import annotations
 
 from collections import Counter
 from collections.abc import Iterable
-from typing import List, Optional
+from typing import Optional
 
 from .btf import SourceLine
 from .code import Function, line_text
@@ -31,7 +31,7 @@ def too_long(slots: SlotsOf, functions: Iterable[Function]) -> str:
     return f"{line_text(found[0])}{told}, {shares}: {_help(found, functions)}"
 
 
-def too_much(functions: List[Function]) -> str:
+def too_much(functions: list[Function]) -> str:
     """What is said of code that is too long to be written, by its instructions."""
     blocks = [block for function in functions for block in function.blocks.values()]
     found = _most(Counter(insn.line for block in blocks for insn in block.insns))
@@ -42,7 +42,7 @@ def too_much(functions: List[Function]) -> str:
     return f"{line_text(found[0])}{told}, most of them for {names}: {_help(found, functions)}"
 
 
-def _most(counts: SlotsOf) -> List[SourceLine]:
+def _most(counts: SlotsOf) -> list[SourceLine]:
     """The lines with the most, the first one first."""
     return [line for line, _ in counts.most_common(TOLD_LINES + 1) if line is not None][:TOLD_LINES]
 
@@ -51,11 +51,11 @@ def _line_name(line: SourceLine, first: SourceLine) -> str:
     return f"line {line.number}" if line.file == first.file else f"{line.file}:{line.number}"
 
 
-def _listed(parts: List[str]) -> str:
+def _listed(parts: list[str]) -> str:
     return " and ".join([", ".join(parts[:-1]), parts[-1]] if parts[1:] else parts)
 
 
-def _help(lines: List[SourceLine], functions: Iterable[Function]) -> str:
+def _help(lines: list[SourceLine], functions: Iterable[Function]) -> str:
     touches = (insn for function in functions for block in function.blocks.values() for insn in block.insns)
     is_vague = any(isinstance(insn, Touch) and insn.line in lines and _leads_anywhere(insn) for insn in touches)
     return BY_NAME if is_vague else ONCE

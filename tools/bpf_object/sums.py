@@ -5,7 +5,7 @@ It is done for words of main's frame that a callback reaches through ctx, where 
 
 from __future__ import annotations
 
-from typing import Dict, List, NamedTuple, Optional, Set, Tuple
+from typing import NamedTuple
 
 from .code import Alu, Atomic, Block, Load, Store
 from .live import Lives, reads_of, without_dead, writes_of
@@ -50,10 +50,10 @@ def summed_bytes(rewritten: Rewritten) -> range:
     return range(spot.element * 8, spot.element * 8 + spot.size - spot.low)
 
 
-def _sums(blocks: Dict[int, Block], lives: Lives, words: range) -> Dict[int, List[Sum]]:
+def _sums(blocks: dict[int, Block], lives: Lives, words: range) -> dict[int, list[Sum]]:
     """The sums of each word with which nothing else is done."""
-    touches: Dict[int, Set[Tuple[int, int]]] = {}
-    sums: Dict[int, List[Sum]] = {}
+    touches: dict[int, set[tuple[int, int]]] = {}
+    sums: dict[int, list[Sum]] = {}
     for label, block in blocks.items():
         for at, insn in enumerate(block.insns):
             word = _word(insn)
@@ -73,12 +73,12 @@ def _word(insn: object) -> int:
     return -1
 
 
-def _is_all(found: List[Sum], touches: Set[Tuple[int, int]]) -> bool:
+def _is_all(found: list[Sum], touches: set[tuple[int, int]]) -> bool:
     parts = {place for one in found for place in ((one.label, one.load), (one.label, one.store))}
     return parts == touches and len({(one.op, one.size) for one in found}) == 1
 
 
-def _sum_at(block: Block, label: int, at: int, live: List[int]) -> Optional[Sum]:
+def _sum_at(block: Block, label: int, at: int, live: list[int]) -> Sum | None:
     """The sum whose load is at a place of a block, where neither the old value nor the new one is used further."""
     touch = block.insns[at]
     if not isinstance(touch.insn, Load) or touch.insn.size < 4 or touch.insn.signed:
@@ -95,7 +95,7 @@ def _sum_at(block: Block, label: int, at: int, live: List[int]) -> Optional[Sum]
     return None
 
 
-def _stored(block: Block, label: int, at: int, operation: int, live: List[int]) -> Optional[Sum]:
+def _stored(block: Block, label: int, at: int, operation: int, live: list[int]) -> Sum | None:
     """The sum whose load and operation are at these places, where the store follows."""
     touch, alu = block.insns[at], block.insns[operation]
     operand = _operand(touch, alu)

@@ -1,4 +1,4 @@
-"""A unit in assembler text from an object: its maps, its code with all addresses put in, and the maps' values."""
+"""A unit with the instructions of the object, one for one: its maps, and its code with all addresses put in."""
 
 from __future__ import annotations
 
@@ -6,13 +6,16 @@ import re
 from collections.abc import Iterator
 from contextlib import contextmanager
 from dataclasses import replace
+from typing import Any
 
 from .btf import Btf, SourceLine, source_lines
 from .elf import R_BPF_64_32, R_BPF_64_64, STT_FUNC, STT_OBJECT, Object, Relocation, Section, Symbol
-from .insns import CALL_LOCAL, CALL_OPCODE, KIND_CODE, KIND_MAP, KIND_MAP_VALUE, KIND_NUMBER, LDDW, SLOT
-from .insns import Insn, line_of, read_insns
-from .maps import ELEMENT_BYTES, ArrayMap, maps_of
+from .insns import CALL_LOCAL, CALL_OPCODE, KIND_CODE, KIND_MAP, KIND_MAP_VALUE, KIND_NUMBER, LDDW, SLOT, Insn, line_of
+from .insns import read_insns
+from .loaded import Loaded
+from .maps import ELEMENT_BYTES, ArrayMap, declared_maps, maps_of
 from .refusal import Refused
+from .variables import Piece, Variable
 
 SLOTS_LIMIT = 4096
 COMMENT_LIMIT = 100  # characters of a source line
@@ -20,14 +23,6 @@ VARIABLES_LIMIT = 64  # that are listed of a map
 LABEL = re.compile(r"(?!at_)[A-Za-z_][A-Za-z0-9_]{0,31}")
 TEXT = ".text"
 LOOP_HELPER = 181
-
-
-def unit_of(obj: Object) -> str:
-    """The unit's text, with its maps' values where any isn't 0."""
-    btf = types_of(obj)
-    maps = maps_of(obj, btf)
-    lines = [*map_lines(obj, maps), *Program(obj, btf, maps).lines(), *_value_lines(maps)]
-    return "".join(f"{line}\n" for line in lines)
 
 
 def types_of(obj: Object) -> Btf | None:
@@ -202,13 +197,61 @@ def _place(byte: int) -> str:
     return f"byte {within} of element {element}" if within else f"element {element}"
 
 
-def _value_lines(maps: list[ArrayMap]) -> Iterator[str]:
-    if any(any(array.values) for array in maps):
-        yield "%%"
-        for number, array in enumerate(maps):
-            yield f"map {number}: {' '.join(map(str, array.values))}"
-
-
 def printable(text: str) -> str:
     """A text in one line: blanks as single spaces, no other character that isn't printed."""
     return "".join(c if c.isprintable() else "?" for c in " ".join(text.split()))[:COMMENT_LIMIT]
+
+
+def load_as_is(obj: Object, programs: list[str]) -> Loaded:
+    """The object as a unit, without a change."""
+    btf = types_of(obj)
+    maps = maps_of(obj, btf)
+    program = Program(obj, btf, maps)
+    code = [*program.lines()]
+    return loaded_of(obj, btf, maps, code, lines=program.sources, loops=program.loops(), programs=programs)
+
+
+def loaded_of(obj: Object, btf: Btf | None, maps: list[ArrayMap], code: list[str], **known: Any) -> Loaded:
+    """A unit with the maps of the object, of the lines of its code and what else is known of it."""
+    return Loaded(
+        unit="".join(f"{line}\n" for line in [*map_lines(obj, maps), *code]),
+        sizes=tuple(array.elements for array in maps) or (1,),
+        initial=[array.values for array in maps] or [[0]],
+        variables=variables_of(obj, btf, maps),
+        btf=btf,
+        **known,
+    )
+
+
+def main_functions(obj: Object) -> list[str]:
+    """The names of the functions that have a section of their own kind, as by `SEC`."""
+    names = []
+    for section in obj.sections:
+        if section.is_code and section.name != ".text":
+            names += [symbol.name for symbol in obj.symbols_in(section, STT_FUNC)]
+    return names
+
+
+def variables_of(obj: Object, btf: Btf | None, maps: list[ArrayMap]) -> list[Variable]:
+    """The global variables and the maps, where each section is a map of its own."""
+    return [*_variables(obj, btf, maps)]
+
+
+def _variables(obj: Object, btf: Btf | None, maps: list[ArrayMap]) -> Iterator[Variable]:
+    first = 0
+    types = {declared.name: declared.type for declared in declared_maps(obj, btf)}
+    for array in maps:
+        if array.is_declared:
+            size = array.elements * ELEMENT_BYTES
+            piece = Piece(0, size, first)
+            name = array.section.name
+            yield Variable(array.name, name, types.get(array.name), size, (piece,), btf, array.elements, ELEMENT_BYTES)
+        else:
+            kinds = dict(btf.variables(array.section.name)) if btf else {}
+            for symbol in obj.symbols_in(array.section, STT_OBJECT):
+                element, skip = divmod(symbol.value, ELEMENT_BYTES)
+                size = max(0, min(symbol.size, array.section.size - symbol.value))
+                piece = Piece(0, size, first + element, skip=skip)
+                kind = kinds.get(symbol.name)
+                yield Variable(symbol.name, array.section.name, kind, size, (piece,), btf)
+        first += array.elements

@@ -6,29 +6,13 @@ Where a round limit is given, what would lead further is a trap. A lookup become
 
 from __future__ import annotations
 
+from collections.abc import Sequence
 from dataclasses import dataclass
-from typing import Dict, FrozenSet, List, Optional, Sequence, Tuple
 
 from .access import Access, Planner
 from .analysis import LOOP_LIMIT, Analysis, constant
-from .code import (
-    FRAME,
-    LOOKUP,
-    RESULT,
-    Alu,
-    Atomic,
-    Block,
-    Branch,
-    Call,
-    End,
-    Exit,
-    Function,
-    Goto,
-    Load,
-    Stop,
-    Store,
-    line_text,
-)
+from .code import FRAME, LOOKUP, RESULT, Alu, Atomic, Block, Branch, Call, End, Exit, Function, Goto, Load, Stop, Store
+from .code import line_text
 from .course import WITHIN, Course, Way
 from .graph import Graph
 from .loaded import Trap
@@ -37,12 +21,12 @@ from .refusal import Refused
 from .values import EXACT_ZERO, Handle, Held, State, Value, join_states
 
 TRIAL_ROUNDS = 2
-Edge = Tuple[int, str]  # a block, and the field of its end that has a label
-Arrival = Tuple[Edge, State]
-Exits = List[Tuple[int, Edge, State]]
+Edge = tuple[int, str]  # a block, and the field of its end that has a label
+Arrival = tuple[Edge, State]
+Exits = list[tuple[int, Edge, State]]
 
 
-Loop = Tuple[int, int]  # a function's number, and the label of a loop's first block
+Loop = tuple[int, int]  # a function's number, and the label of a loop's first block
 
 
 class TooMany(Exception):
@@ -57,12 +41,12 @@ class TooMany(Exception):
 class Limits:
     """How much is copied at most."""
 
-    def __init__(self, budget: int, rounds: Dict[Loop, int], is_trial: bool = False) -> None:
+    def __init__(self, budget: int, rounds: dict[Loop, int], is_trial: bool = False) -> None:
         self.budget = budget  # instructions of the whole program
         self.rounds = rounds  # of a loop; one that isn't here has all of its rounds copied
         self.is_trial = is_trial  # all loops have few rounds, and nothing is refused
 
-    def longest(self, copied: Dict[Loop, int]) -> Loop | None:
+    def longest(self, copied: dict[Loop, int]) -> Loop | None:
         """The loop with the most rounds, of those that have all of theirs copied."""
         found = [(rounds, loop) for loop, rounds in copied.items() if loop not in self.rounds and rounds > TRIAL_ROUNDS]
         return max(found)[1] if found else None
@@ -73,7 +57,7 @@ class _Open:
     """A loop that is being copied."""
 
     loop: Loop
-    labels: FrozenSet[int]
+    labels: frozenset[int]
     rounds: int = 0
     is_counted: bool = False  # in this round it was known that a way out isn't taken
 
@@ -87,14 +71,14 @@ class Unroller:
         self._source = function
         self._graph = Graph(function)
         self._limits = limits
-        self._open: List[_Open] = []
-        self._ways: List[Way] = []  # that the copied rounds go, where a loop is open that has all its rounds copied
+        self._open: list[_Open] = []
+        self._ways: list[Way] = []  # that the copied rounds go, where a loop is open that has all its rounds copied
         self._whole_loops = 0  # that are open
         self.cut: set[Loop] = set()
         self.counted: set[Loop] = set()  # those of them that surely have more rounds, or may by a known count
-        self.endless: Optional[str] = None  # why a loop never comes to its end
-        self.copied: Dict[Loop, int] = {}  # the most rounds of each loop
-        self.spent: Dict[Loop, int] = {}  # the instructions that all its rounds took
+        self.endless: str | None = None  # why a loop never comes to its end
+        self.copied: dict[Loop, int] = {}  # the most rounds of each loop
+        self.spent: dict[Loop, int] = {}  # the instructions that all its rounds took
         self.result = Function(function.name, 0, {}, function.line)
 
     def run(self, entry: State) -> Function:
@@ -105,7 +89,7 @@ class Unroller:
         self._region(labels, {self._source.entry: [((0, "target"), entry)]}, None)
         return self.result
 
-    def _region(self, labels: FrozenSet[int], incoming: Dict[int, List[Arrival]], header: int | None) -> Exits:
+    def _region(self, labels: frozenset[int], incoming: dict[int, list[Arrival]], header: int | None) -> Exits:
         """Copies what the incoming edges lead to, and gives the edges that leave, or lead to the header."""
         exits: Exits = []
         for part in self._graph.parts(labels, header):
@@ -125,7 +109,7 @@ class Unroller:
                     exits.append((target, edge, state))
         return exits
 
-    def _loop(self, labels: FrozenSet[int], incoming: Dict[int, List[Arrival]]) -> Exits:
+    def _loop(self, labels: frozenset[int], incoming: dict[int, list[Arrival]]) -> Exits:
         header = min(incoming)
         loop = (self._analysis.number, header)
         limit = TRIAL_ROUNDS if self._limits.is_trial else self._limits.rounds.get(loop)
@@ -142,7 +126,7 @@ class Unroller:
                 break
             this.is_counted = False
             budget, ways = self._limits.budget, len(self._ways)
-            again: List[Arrival] = []
+            again: list[Arrival] = []
             for target, edge, state in self._region(labels, incoming, header):
                 if target == header:
                     again.append((edge, state))
@@ -164,9 +148,8 @@ class Unroller:
         this.rounds += more
         self._limits.budget -= more * course.size
 
-    def _cut(self, header: int, incoming: Dict[int, List[Arrival]], rounds: int, is_always: bool) -> None:
-        insns = self._source.blocks[header].insns
-        line = insns[0].line if insns else self._source.blocks[header].end.line
+    def _cut(self, header: int, incoming: dict[int, list[Arrival]], rounds: int, is_always: bool) -> None:
+        line = self._source.blocks[header].line
         if is_always:
             text = "a loop takes more rounds than 4096 slots have room for: make it a function that bpf_loop calls"
             self.endless = f"{line_text(line)}{text}"
@@ -191,7 +174,7 @@ class Unroller:
             taken, other = (label, end.other) if edge[1] == "taken" else (end.taken, label)
             block.end = Branch(end.op, end.width, end.dst, end.src, end.imm, taken, other, end.line)
 
-    def _copy(self, label: int, arrivals: List[Arrival]) -> Exits:
+    def _copy(self, label: int, arrivals: list[Arrival]) -> Exits:
         """Copies one block; each lookup in it parts the rest of the block into two copies."""
         first = self._new(Exit())
         for edge, _ in arrivals:
@@ -205,7 +188,7 @@ class Unroller:
             work += self._copy_rest(label, target, index, state, exits)
         return exits
 
-    def _take_differences(self, states: List[State]) -> None:
+    def _take_differences(self, states: list[State]) -> None:
         """Addresses in frames that aren't the same on all paths aren't followed further."""
         if len(states) < 2:
             return
@@ -226,7 +209,7 @@ class Unroller:
 
     def _copy_rest(
         self, label: int, target: int, index: int, state: State, exits: Exits
-    ) -> List[Tuple[int, int, State]]:
+    ) -> list[tuple[int, int, State]]:
         source = self._source.blocks[label]
         block = self.result.blocks[target]
         for at in range(index, len(source.insns)):
@@ -314,7 +297,7 @@ class Unroller:
             self.result.blocks[stopped].insns.append(constant(RESULT, 1, end.line))
             block.end = Branch("jeq", 64, RESULT, None, 0, done, stopped, end.line)
 
-    def _lookup(self, insn: Call, target: int, index: int, state: State) -> List[Tuple[int, int, State]]:
+    def _lookup(self, insn: Call, target: int, index: int, state: State) -> list[tuple[int, int, State]]:
         held = state.regs[1]
         if not isinstance(held, Handle) or not held.is_map:
             raise Refused(f"{line_text(insn.line)}a lookup of a map that isn't one alone")
@@ -349,7 +332,7 @@ class Unroller:
 
     def _found(
         self, insn: Call, target: int, index: int, state: State, stride: int, address: int, thing: int
-    ) -> Tuple[int, int, State]:
+    ) -> tuple[int, int, State]:
         """The address of a value, from the key that r0 has."""
         log = stride.bit_length() - 1
         times = Alu("lsh", 64, RESULT, None, log, insn.line) if stride == 1 << log else None

@@ -3,13 +3,12 @@
 from __future__ import annotations
 
 from functools import reduce
-from typing import Dict, FrozenSet, List, NamedTuple, Optional, Tuple, Union
+from typing import NamedTuple, Optional, Union
 
-from .code import FRAME_BYTES, Alu
 from .memory import ARGUMENT, UNKNOWN
 from .ranges import TOP, Range, alu, exact, join, top
 
-Things = FrozenSet[int]
+Things = frozenset[int]
 NOTHING: Things = frozenset()
 VAGUE: Things = frozenset({UNKNOWN, ARGUMENT})  # that a number may be an address of, or not
 
@@ -38,7 +37,7 @@ class Handle(NamedTuple):
 
 
 Held = Optional[Union[Value, Handle]]
-Slot = Tuple[int, Value]  # bytes, and what they hold
+Slot = tuple[int, Value]  # bytes, and what they hold
 
 ANY = Value(TOP)
 LOADED: Things = frozenset({UNKNOWN})
@@ -49,7 +48,7 @@ class State:
 
     __slots__ = ("regs", "slots", "written")
 
-    def __init__(self, regs: List[Held], slots: Dict[int, Slot], written: int) -> None:
+    def __init__(self, regs: list[Held], slots: dict[int, Slot], written: int) -> None:
         self.regs = regs
         self.slots = slots  # by their first byte in the frame
         self.written = written  # a bit for each byte of the frame
@@ -81,7 +80,7 @@ class State:
 
 def entry_state(argument: Value, context: Value | None, written: int, frame_top: Value) -> State:
     """What is known where a function begins."""
-    regs: List[Held] = [None] * 11
+    regs: list[Held] = [None] * 11
     regs[1], regs[2], regs[10] = argument, context, frame_top
     return State(regs, {}, written)
 
@@ -102,11 +101,6 @@ def join_held(a: Held, b: Held) -> Held:
     if isinstance(a, Value) and isinstance(b, Value):
         return Value(join(a.range, b.range), a.things | b.things)
     return None
-
-
-def operand(insn: Alu, regs: List[Held]) -> Held:
-    """The second operand of an arithmetic instruction."""
-    return Value(exact(insn.imm)) if insn.src is None else regs[insn.src]
 
 
 def result(op: str, width: int, a: Value, b: Value) -> Value:
@@ -131,7 +125,7 @@ def things_of(op: str, a: Value, b: Value) -> Things:
     return a.things if op in ("lsh", "rsh", "arsh") else NOTHING
 
 
-def join_states(states: List[State]) -> State:
+def join_states(states: list[State]) -> State:
     """What is known where paths meet; a state that is alone is changed further on."""
     if len(states) == 1:
         return states[0]
@@ -148,7 +142,7 @@ def join_states(states: List[State]) -> State:
     return State(regs, slots, written)
 
 
-def _join_slots(byte: int, states: List[State]) -> Slot | None:
+def _join_slots(byte: int, states: list[State]) -> Slot | None:
     """What 8 or fewer bytes of the frame hold; an address that is there on some paths isn't forgotten."""
     found = [state.slots.get(byte) for state in states]
     first = found[0]
@@ -164,5 +158,4 @@ def _join_slots(byte: int, states: List[State]) -> Slot | None:
     return (real[0][0], Value(top(8 * real[0][0]), things | LOADED)) if real else None
 
 
-ALL_WRITTEN = (1 << FRAME_BYTES) - 1
 EXACT_ZERO = Value(exact(0))

@@ -7,13 +7,11 @@ use an access that needs no test.
 
 from __future__ import annotations
 
-from typing import Dict, FrozenSet, List, Tuple
-
 from .code import Address, Alu, Branch, Exit, Function, order_of, reads, successors
 from .live import bits, reads_of, writes_of
 from .plans import Moved, Touch, Where
 
-Defs = FrozenSet[int]
+Defs = frozenset[int]
 ENTRY = 0  # stands for what a register has where the function begins
 REGISTERS = 11
 
@@ -23,12 +21,12 @@ class Webs:
 
     def __init__(self, function: Function) -> None:
         self._function = function
-        self._parent: List[int] = [ENTRY]
-        self._bad: List[bool] = [True]
-        self._defs: Dict[Tuple[int, int], int] = {}  # of a block and a place in it
-        self._bases: Dict[Tuple[int, int], int] = {}
-        self._held: Dict[Tuple[int, int], List[Defs]] = {}
-        self._natives_of: Dict[Defs, bool] = {}
+        self._parent: list[int] = [ENTRY]
+        self._bad: list[bool] = [True]
+        self._defs: dict[tuple[int, int], int] = {}  # of a block and a place in it
+        self._bases: dict[tuple[int, int], int] = {}
+        self._held: dict[tuple[int, int], list[Defs]] = {}
+        self._natives_of: dict[Defs, bool] = {}
         self._follow()
 
     def apply(self) -> None:
@@ -79,8 +77,8 @@ class Webs:
         return len(self._parent) - 1
 
     def _follow(self) -> None:
-        arriving: Dict[int, List[List[Defs]]] = {}
-        start: List[Defs] = [frozenset((ENTRY,))] * REGISTERS
+        arriving: dict[int, list[list[Defs]]] = {}
+        start: list[Defs] = [frozenset((ENTRY,))] * REGISTERS
         for label in order_of(self._function):
             block = self._function.blocks[label]
             states = arriving.pop(label, [start])
@@ -94,7 +92,7 @@ class Webs:
             for following in successors(end):
                 arriving.setdefault(following, []).append(regs)
 
-    def _insn(self, label: int, at: int, insn: object, regs: List[Defs]) -> None:
+    def _insn(self, label: int, at: int, insn: object, regs: list[Defs]) -> None:
         if isinstance(insn, Touch):
             self._touch(label, at, insn, regs)
         elif isinstance(insn, Address):
@@ -121,12 +119,12 @@ class Webs:
         self._defs[label, at] = web
         return web
 
-    def _overwrite(self, label: int, at: int, written: int, regs: List[Defs]) -> None:
+    def _overwrite(self, label: int, at: int, written: int, regs: list[Defs]) -> None:
         for register in range(REGISTERS):
             if written >> register & 1:
                 regs[register] = frozenset((self._define(label, at, True),))
 
-    def _touch(self, label: int, at: int, touch: Touch, regs: List[Defs]) -> None:
+    def _touch(self, label: int, at: int, touch: Touch, regs: list[Defs]) -> None:
         self._held[label, at] = regs[:]
         base = touch.insn.base
         others = reads_of(touch._replace(is_native=True)) & ~(1 << base)

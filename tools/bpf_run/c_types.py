@@ -74,7 +74,6 @@ class Structure:
 
     size: int
     members: tuple[Member, ...]
-    is_union: bool = False
 
 
 CType = Union[Number, Array, Structure]
@@ -86,20 +85,6 @@ def words_of(size: int) -> CType:
         return Number(size, Form.UNSIGNED)
     number = Number(POINTER_SIZE if size % POINTER_SIZE == 0 else 1, Form.UNSIGNED)
     return Array(number, size // number.size)
-
-
-def _type_of(btf: Btf, plain: Type, depth: int = 0) -> CType:
-    if depth > DEPTH_LIMIT:
-        raise Refused("a type lies deeper in others than is taken")
-    if plain.kind == Kind.ARRAY:
-        element, count = btf.element(plain)
-        return _sized(Array(_type_of(btf, element, depth + 1), count))
-    if plain.kind in (Kind.STRUCT, Kind.UNION):
-        members = tuple(_members(btf, plain, depth))
-        return _sized(Structure(plain.size_or_type, members, plain.kind == Kind.UNION))
-    if plain.kind == Kind.PTR:
-        return Number(POINTER_SIZE, Form.POINTER)
-    return _number(btf, plain)
 
 
 def type_of(btf: Btf | None, plain: Type | None, size: int = 0) -> CType | None:
@@ -174,7 +159,7 @@ class _Trees:
                 Member(field.name, field.bit, field.bits or inner.type.size * BYTE_BITS, inner.type)
                 for field, inner in fields
             )
-            whole = Structure(plain.size_or_type, members, plain.kind == Kind.UNION)
+            whole = Structure(plain.size_or_type, members)
             return _Made(whole, sum(max(inner.values, 1) for _, inner in fields))
         return _Made(_number(self._btf, plain), 1)
 

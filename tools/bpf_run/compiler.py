@@ -1,4 +1,4 @@
-"""Has a program in C compiled: at once where clang's back end takes it, else by its IR."""
+"""Has a program in C compiled, at once where clang's back end takes it, else by its IR; and loads it."""
 
 from __future__ import annotations
 
@@ -10,10 +10,14 @@ from dataclasses import dataclass
 
 from bpf_ir.lower import STEPS
 from bpf_ir.text import NotRead
-from bpf_object.elf import OBJECT_LIMIT
-from bpf_object.refusal import Refused
+from bpf_object.elf import OBJECT_LIMIT, Object
+from bpf_object.load import load
+from bpf_object.loaded import Loaded
+from bpf_object.program import Verify
+from bpf_object.refusal import NoRoom, Refused
 
 from .clang import LOWER, MEMORY, TOO_LONG, Files, Said, Step, Way, look_step, say
+from .options import Options
 from .programs import Clock
 
 ATOMICS = ("-mcpu=v3",)  # it has atomics of 4 bytes, and such as give the old value
@@ -171,3 +175,26 @@ def _reason(said: str) -> str:
     if not dump or "error" in reason.lower():
         return reason
     return f"{reason}clang crashes{where}: no line tells why, and less code may help to find it\n"
+
+
+def load_file(options: Options, clock: Clock, judge: Verify | None = None) -> tuple[Loaded, Way | None]:
+    """The program, and the way that a source was compiled by: one to less code where there is no room for it."""
+    data = read_file(options.file)
+    if is_object(data):
+        return load(data, options.main, options.as_is, judge), None
+    test_source(options.file, data)
+    made = compiled(options.file, clock)
+    try:
+        return load(made.data, options.main, options.as_is, judge), made.way
+    except NoRoom as reason:
+        tried = [Object(made.data).parts()]
+        for other in shorter(options.file, made.way, clock):
+            try:
+                parts = Object(other.data).parts()
+                if parts in tried:
+                    continue
+                tried.append(parts)
+                return load(other.data, options.main, options.as_is, judge), other.way
+            except Refused:
+                continue
+        raise reason

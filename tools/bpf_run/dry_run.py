@@ -7,28 +7,29 @@ import shlex
 import shutil
 from collections.abc import Iterable, Iterator
 
-from . import programs
+from bpf_object.program import find_program
+
 from .clang import Files, Step
-from .loading import load_file
+from .compiler import load_file
 from .options import Options
-from .programs import TOOLS, Clock
+from .programs import EXPLAIN, TOOLS, Clock
 
 FOLDER, UNIT = "$d", "$d/unit"
 
 
 def lines_of(options: Options, clock: Clock) -> Iterator[str]:
     """The lines of a shell script."""
-    found = programs.find_programs()
+    bpfspec = find_program()
     way = load_file(options, clock)[1]
     yield "d=$(mktemp -d)"
     files = Files(options.file, FOLDER)
     yield from map(_step, way.steps(files) if way else ())
     yield f"{_line(_unit_words(options, files.target if way else options.file))} > {UNIT}"
-    yield f"{_line((*found.bpfspec, 'verify'))} < {UNIT}"
+    yield f"{_line((*bpfspec, 'verify'))} < {UNIT}"
     if options.command == "explain":
-        yield f"{_line((*found.explain, *options.facts_words(options.arguments[0])))} < {UNIT}"
+        yield f"{_line((*EXPLAIN, *options.facts_words(options.arguments[0])))} < {UNIT}"
     if options.command == "run":
-        yield from _runs(options, found.bpfspec)
+        yield from _runs(options, bpfspec)
     yield f"rm -r {FOLDER}"
 
 

@@ -3,7 +3,7 @@
 from __future__ import annotations
 
 import json
-from typing import Any, Dict
+from typing import Any
 
 from bpf_object.btf import SourceLine
 
@@ -12,7 +12,7 @@ from .reports import Refusal
 from .text_output import HELP
 
 WIDTH = 100  # of a value that stands in one line
-Json = Dict[str, Any]
+Json = dict[str, Any]
 
 
 def json_text(value: object, indent: str = "") -> str:

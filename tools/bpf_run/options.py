@@ -5,7 +5,8 @@ from __future__ import annotations
 import argparse
 from collections.abc import Callable, Iterator
 from dataclasses import dataclass
-from typing import NoReturn, Optional
+from math import inf
+from typing import NoReturn
 
 ABOUT = """Compiles and loads a program in C, has bpfspec verify and run it, and prints the results by their C names.
 See docs/FROM_C.md."""
@@ -26,17 +27,17 @@ class Options:
 
     command: str
     file: str
-    main: Optional[str]
+    main: str | None
     as_is: bool
     arguments: tuple[int, ...]
     only: tuple[str, ...]
-    load: Optional[str]
-    save: Optional[str]
-    workers: Optional[int]
-    blocks: Optional[int]
-    test: Optional[str]
-    limit: Optional[int]
-    page: Optional[str]
+    load: str | None
+    save: str | None
+    workers: int | None
+    blocks: int | None
+    test: str | None
+    limit: int | None
+    page: str | None
     json: bool
     dry_run: bool
     states: bool
@@ -101,17 +102,19 @@ def _add_options(command: argparse.ArgumentParser, name: str) -> None:
     if name in ("run", "explain"):
         repeated = {"run": " (repeatable; variables carry over)"}.get(name, "")
         action = "append" if name == "run" else _Last
-        command.add_argument(
-            "--arg", metavar="N", type=_argument, action=action, help=f"main's argument, as 7, -1 or 0x10{repeated}"
-        )
+        argument = _number(ARGUMENT_LEAST, ARGUMENT_END - 1, "doesn't fit 64 bits")
+        about = f"main's argument, as 7, -1 or 0x10{repeated}"
+        command.add_argument("--arg", metavar="N", type=argument, action=action, help=about)
         command.add_argument("--test", choices=("flow", "lrpd"), help="the test that decides whether a loop conflicts")
     if name == "run":
         command.add_argument("--save", metavar="FILE", help="writes the values of variables as JSON")
         command.add_argument("--only", metavar="NAME", action="append", help="prints only this variable (repeatable)")
-        command.add_argument("--workers", metavar="N", type=_range(1, WORKERS), help="at most N workers, 1 to 16")
-        command.add_argument("--blocks", metavar="N", type=_range(1, BLOCKS), help="at most N blocks a loop, 1 to 64")
+        for option, most, what in ("--workers", WORKERS, "workers"), ("--blocks", BLOCKS, "blocks a loop"):
+            number = _number(1, most, f"isn't 1 to {most}")
+            command.add_argument(option, metavar="N", type=number, help=f"at most N {what}, 1 to {most}")
     if name in ("run", "verify"):
-        command.add_argument("--limit", metavar="N", type=_limit, help="refuses a run that may exceed N instructions")
+        limit = _number(0, inf, "is below 0")
+        command.add_argument("--limit", metavar="N", type=limit, help="refuses a run that may exceed N instructions")
     if name in ("run", "verify", "explain"):
         command.add_argument("--json", action="store_true", help="prints one JSON object")
         command.add_argument("--page", metavar="FILE", help="writes a self-contained HTML page")
@@ -126,32 +129,16 @@ class _Last(argparse.Action):
         setattr(space, self.dest, [value])
 
 
-def _argument(word: str) -> int:
-    number = _number(word)
-    if not ARGUMENT_LEAST <= number < ARGUMENT_END:
-        raise argparse.ArgumentTypeError(f"{word} doesn't fit 64 bits")
-    return number
+def _number(least: int, most: float, wrong: str) -> Callable[[str], int]:
+    """What reads a number from one to another; of another number it says what is wrong."""
 
-
-def _number(word: str) -> int:
-    try:
-        return int(word, 0)
-    except ValueError:
-        raise argparse.ArgumentTypeError(f"{word!r} isn't a number") from None
-
-
-def _limit(word: str) -> int:
-    number = _number(word)
-    if number < 0:
-        raise argparse.ArgumentTypeError(f"{word} is below 0")
-    return number
-
-
-def _range(least: int, most: int) -> Callable[[str], int]:
     def read(word: str) -> int:
-        number = _number(word)
+        try:
+            number = int(word, 0)
+        except ValueError:
+            raise argparse.ArgumentTypeError(f"{word!r} isn't a number") from None
         if not least <= number <= most:
-            raise argparse.ArgumentTypeError(f"{word} isn't {least} to {most}")
+            raise argparse.ArgumentTypeError(f"{word} {wrong}")
         return number
 
     return read

@@ -10,11 +10,11 @@ from pathlib import Path
 
 from .c_values import lines_of
 from .explained import loop_line
-from .page_parts import SCRIPT, STYLE
 from .report import LoopReport, Program, Report, RunReport, place
 from .session import Session
 from .text_output import most_line, refusal_line
 
+STYLE, SCRIPT = (Path(__file__).with_name(name) for name in ("page.css", "page.js"))
 SOURCE_LIMIT = 1 << 20  # bytes
 PICTURES = 4  # runs whose first conflict is drawn
 
@@ -43,7 +43,7 @@ def _page(report: Report, pictures: dict[int, str]) -> Iterator[str]:
     name = escape(f"{report.program.name} in {Path(report.program.file).name}")
     yield '<!doctype html>\n<html lang="en">\n<head>\n<meta charset="utf-8">'
     yield '<meta name="viewport" content="width=device-width, initial-scale=1">'
-    yield f"<title>{name}</title>\n<style>{STYLE}</style>\n</head>\n<body>\n<main>\n<h1>{name}</h1>"
+    yield f"<title>{name}</title>\n<style>\n{STYLE.read_text()}</style>\n</head>\n<body>\n<main>\n<h1>{name}</h1>"
     yield from _verdict(report)
     for run in report.runs:
         yield from _run(report, run)
@@ -53,7 +53,7 @@ def _page(report: Report, pictures: dict[int, str]) -> Iterator[str]:
     yield from _drawn(report, pictures)
     if report.runs:
         yield from _variables(report.program, report.runs[0].before, report.runs[-1])
-    yield f"</main>\n<script>{SCRIPT}</script>\n</body>\n</html>"
+    yield f"</main>\n<script>\n{SCRIPT.read_text()}</script>\n</body>\n</html>"
 
 
 def _verdict(report: Report) -> Iterator[str]:

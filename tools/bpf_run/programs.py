@@ -1,10 +1,8 @@
-"""The programs that do the work: where they are, and how one is run so that it tells of the time and ends with us."""
+"""The programs that do the work: how one is run so that it tells of the time and ends with us."""
 
 from __future__ import annotations
 
 import os
-import shlex
-import shutil
 import signal
 import subprocess
 import sys
@@ -19,6 +17,7 @@ from typing import IO
 from bpf_object.refusal import Refused
 
 TOOLS = Path(__file__).resolve().parent.parent
+EXPLAIN = (sys.executable, str(TOOLS / "explain"))
 TICK = 0.2  # seconds from one look at the clock to the next
 GRACE = 2.0  # seconds that a program has to end
 STREAMS = 3  # standard input, output and errors
@@ -38,36 +37,6 @@ class Answer:
 
     output: str
     status: int
-
-
-@dataclass(frozen=True)
-class Programs:
-    """The words that run the program, and the one that explains."""
-
-    bpfspec: tuple[str, ...]
-    explain: tuple[str, ...]
-
-
-def find_programs() -> Programs:
-    """The program of $BPFSPEC, else of this repository or installation, else `bpfspec` on the path; and tools/explain."""
-    bpfspec = _named("BPFSPEC") or _launcher()
-    if not bpfspec:
-        raise Refused("there is no program bpfspec: $BPFSPEC names it")
-    return Programs(bpfspec, (sys.executable, str(TOOLS / "explain")))
-
-
-def _named(variable: str) -> tuple[str, ...]:
-    """The program that a variable of the environment names: a file, or words."""
-    value = os.environ.get(variable, "")
-    return (value,) if os.path.isfile(value) else tuple(shlex.split(value))
-
-
-def _launcher() -> tuple[str, ...]:
-    for place in (TOOLS.parent / "bpfspec", TOOLS.parent.parent / "bin" / "bpfspec"):
-        if place.is_file() and os.access(place, os.X_OK):
-            return (str(place),)
-    found = shutil.which("bpfspec")
-    return (found,) if found else ()
 
 
 def fill_streams() -> None:

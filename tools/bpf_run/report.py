@@ -6,7 +6,6 @@ from bisect import bisect_right
 from collections.abc import Sequence
 from dataclasses import dataclass, field
 from functools import cached_property
-from typing import Optional
 
 from bpf_object.btf import SourceLine
 from bpf_object.load import Loaded, Variable
@@ -72,9 +71,7 @@ class Program:
 
     def values(self, words: Sequence[int]) -> dict[str, Value]:
         """The variables' values."""
-        return {
-            name: decoded(variable.bytes_in(words), self.types[name]) for name, variable in self.variables.items()
-        }
+        return {name: decoded(variable.bytes_in(words), self.types[name]) for name, variable in self.variables.items()}
 
     @cached_property
     def _result(self) -> Number:
@@ -97,7 +94,7 @@ class FunctionReport:
     """A function, and the most instructions that it takes."""
 
     name: str
-    line: Optional[SourceLine]
+    line: SourceLine | None
     slot: int
     count: int
 
@@ -149,7 +146,7 @@ class RunReport:
     loops: list[LoopReport]
     before: list[int]
     after: list[int]
-    trap: Optional[str] = None
+    trap: str | None = None
 
 
 @dataclass
@@ -158,10 +155,10 @@ class Report:
 
     program: Program
     functions: list[FunctionReport] = field(default_factory=list)
-    most: Optional[Most] = None
-    refusal: Optional[Refusal] = None
+    most: Most | None = None
+    refusal: Refusal | None = None
     reasons: list[str] = field(default_factory=list)  # why it is refused, or what its loops do, in words
-    above_limit: Optional[int] = None
+    above_limit: int | None = None
     runs: list[RunReport] = field(default_factory=list)
     loops: list[LoopReport] = field(default_factory=list)
     states: dict[int, str] = field(default_factory=dict)

@@ -4,7 +4,6 @@ from __future__ import annotations
 
 import re
 from dataclasses import dataclass
-from typing import Optional
 
 from bpf_object.refusal import Refused
 
@@ -26,7 +25,7 @@ class Loop:
     answer: int
     verdict: str
     conflicts: int = 0
-    least: Optional[int] = None
+    least: int | None = None
 
 
 @dataclass(frozen=True)
@@ -51,7 +50,7 @@ class Refusal:
     """A rule that a unit breaks, and where."""
 
     rule: str
-    slot: Optional[int]
+    slot: int | None
     text: str
 
 

@@ -2,21 +2,20 @@
 
 from __future__ import annotations
 
-import struct
 import sys
 from collections.abc import Iterator
 
-from bpf_object.loaded import Loaded, refuse_long_values
-from bpf_object.program import Fault
+from bpf_object.loaded import refuse_long_values
+from bpf_object.program import Fault, find_program
 from bpf_object.refusal import Refused
 
 from explain.records import Facts, RecordsError
 from explain.records import read as read_facts
 
 from . import programs, state
+from .compiler import load_file
 from .explained import loop_lines, loop_reports, reason_lines, states_of
 from .library import Machine, find_library
-from .loading import load_file
 from .most import NO_VALUES, most_of
 from .options import Options
 from .programs import Answer, Clock
@@ -25,8 +24,6 @@ from .reports import Function, Loop, Refusal, Run, read_run, read_verify
 from .unit_text import SHORT, VALUES, split, with_values
 
 EXPLAIN_SECONDS = 60.0  # that a run's conflicts may take to be explained
-# What no object should lead to, since all is tested before it is used; still no object gets a trace.
-UNFORESEEN = (struct.error, ArithmeticError, LookupError, MemoryError, RecursionError, TypeError, ValueError)
 
 
 class Failed(Exception):
@@ -43,10 +40,10 @@ class Session:
     def __init__(self, options: Options, clock: Clock) -> None:
         self.options = options
         self._clock = clock
-        self._programs = programs.find_programs()
+        self._bpfspec = find_program()
         self._library = find_library()
         self._verdicts: dict[str, list[Function] | Refusal] = {}
-        self.program = make_program(options.file, options.main, self._load())
+        self.program = make_program(options.file, options.main, load_file(options, clock, self._judge)[0])
         self.report = Report(self.program)
         self.words = state.loaded_words(self.program, options.load)
 
@@ -119,15 +116,9 @@ class Session:
     def picture(self, argument: int, words: list[int]) -> str | None:
         """The picture of the first loop that conflicts."""
         text = with_values(self.program.unit.text, split(words, self.program.loaded.sizes))
-        asked = (*self._programs.explain, *self.options.facts_words(argument), "--picture")
+        asked = (*programs.EXPLAIN, *self.options.facts_words(argument), "--picture")
         answer = programs.run(asked, text, self._clock, EXPLAIN_SECONDS)
         return answer.output if answer and answer.output.startswith("<svg") else None
-
-    def _load(self) -> Loaded:
-        try:
-            return load_file(self.options, self._clock, self._judge)[0]
-        except UNFORESEEN as reason:
-            raise Refused(f"no object of clang: {type(reason).__name__}: {reason}") from None
 
     def _judge(self, unit: str) -> Fault | None:
         """What `bpfspec verify` says of a unit, for the loader."""
@@ -142,7 +133,7 @@ class Session:
         if unit not in self._verdicts:
             found = self._library.verdict(unit) if self._library is not None else None
             if found is None:
-                found = read_verify(self._ask(self._programs.bpfspec, "verify", [], unit).output)
+                found = read_verify(self._ask(self._bpfspec, "verify", [], unit).output)
             self._verdicts[unit] = found
         return self._verdicts[unit]
 
@@ -154,7 +145,7 @@ class Session:
 
     def _run(self, argument: int, values: str) -> Run:
         """A run by the program."""
-        answer = self._ask(self._programs.bpfspec, "run", self.options.words(argument), values)
+        answer = self._ask(self._bpfspec, "run", self.options.words(argument), values)
         found = read_run(answer.output)
         if isinstance(found, Refusal):
             raise Failed(answer.status, found.text)
@@ -170,7 +161,7 @@ class Session:
         return answer
 
     def _facts(self, words: list[str], text: str) -> Facts:
-        answer = self._ask(self._programs.bpfspec, "facts", words, text)
+        answer = self._ask(self._bpfspec, "facts", words, text)
         try:
             return read_facts(answer.output)
         except RecordsError as reason:
@@ -196,7 +187,7 @@ class Session:
         """The loops of a run, with the accesses that show why they conflict, unless it takes too long to find them."""
         facts = None
         if any(loop.conflicts or loop.answer < 0 for loop in loops):
-            words = (*self._programs.bpfspec, "facts", *self.options.facts_words(argument))
+            words = (*self._bpfspec, "facts", *self.options.facts_words(argument))
             answer = programs.run(words, values, self._clock, EXPLAIN_SECONDS)
             if answer is None:
                 told = f"bpfrun: a loop takes more than {EXPLAIN_SECONDS:.0f} s to explain: see bpfrun explain"

@@ -3,17 +3,21 @@
 from __future__ import annotations
 
 import os
+import shlex
+import subprocess
 import tempfile
+from collections.abc import Iterator
 from concurrent.futures import ThreadPoolExecutor
 from pathlib import Path
+
+from pages.stored import stored
 
 from . import library
 from .crates import Repository
 from .inlining import hinted
-from .kit import TARGET, Kit, run
+from .kit import TARGET, Failed, Kit, run
 from .module import Source, for_any_processor, module_of, source_of, without_checks
 from .parts import parted
-from .trial import try_program
 
 LEVELS = "x86-64-v2", "x86-64-v3"
 NAMES = "bpfspec", "bpfspec_c"
@@ -24,6 +28,8 @@ HOW = (
     *("-mllvm", "-no-trap-after-noreturn", "-mllvm", "-inline-max-stacksize=32768"),
 )
 WITHOUT_PROOF, WITH_CHECKS = "built without proof", "built without proof, with checks"
+LACKING = 127  # the status of a program for a processor that has more than this one
+LIMIT = 120  # seconds of a run
 
 
 def build(top: Path, name: str, folder: Path, levels: tuple[str, ...], keeps_checks: bool) -> str:
@@ -84,3 +90,26 @@ def _put(made: Path, place: Path) -> None:
     copy.write_bytes(made.read_bytes())
     copy.chmod(0o755)
     os.replace(copy, place)
+
+
+def try_program(program: Path, top: Path, name: str) -> None:
+    """Runs a program on its examples; says which it gets wrong. One for a better processor than this is taken as it is."""
+    for words, given, wanted in _examples(top, name):
+        done = subprocess.run([program, *words], input=given, capture_output=True, timeout=LIMIT, check=False)
+        if done.returncode == LACKING:
+            return
+        if done.stdout != wanted:
+            what = f"ends by signal {-done.returncode}" if done.returncode < 0 else "doesn't print what it should"
+            raise Failed(f"{name} {what} for the words '{' '.join(words)}'")
+
+
+def _examples(top: Path, name: str) -> Iterator[tuple[list[str], bytes, bytes]]:
+    """The words of a run, its input, and what it has to print."""
+    crate = top / "crates" / name
+    words = crate / "args"
+    yield words.read_text().splitlines() if words.is_file() else [], (crate / "stdin").read_bytes(), (crate / "stdout").read_bytes()
+    for command in stored(top):
+        given, _, path = command.text.partition(" < ")
+        program, *run = shlex.split(given)
+        if program == "./bpfspec" and run[0] != "explain":
+            yield run, (top / path).read_bytes(), command.output.encode()

@@ -3,20 +3,20 @@
 from __future__ import annotations
 
 import os
-import shlex
 import signal
 import subprocess
 from collections.abc import Sequence
 from types import FrameType
 from typing import NoReturn
 
+from bpf_object.program import find_program
+from bpf_object.refusal import Refused
+
 from .command_line import NAME, Ask, HelpAsked, UsageError, read_words
 from .explaining import Explanation
 from .inputs import LONGEST
 from .records import MemoryRanOut, RecordsError, read
 
-TOP = os.path.dirname(os.path.dirname(os.path.dirname(os.path.realpath(__file__))))  # of the repository or installation
-PLACES = os.path.join(TOP, "programs", "bpfspec"), os.path.join(TOP, "bpfspec")  # of the program that makes the facts
 ENDING = signal.SIGINT, signal.SIGTERM, signal.SIGHUP
 BY_SIGNAL = 128  # and its number: the status of a program that a signal ended, as shells give it
 DONE, USAGE, NO_MEMORY, NO_STREAM, CRASHED = 0, 3, 4, 5, 70
@@ -39,7 +39,7 @@ def main(words: Sequence[str]) -> int:
         return _write(MESSAGES, str(error), USAGE)
     except MemoryError:
         return _write(OUTPUT, MEMORY_LINE, NO_MEMORY)
-    except RecordsError as error:
+    except (RecordsError, Refused) as error:
         return _write(MESSAGES, f"{NAME}: {error}\n", CRASHED)
 
 
@@ -72,7 +72,7 @@ def _explain(ask: Ask) -> int:
 def _facts_of(ask: Ask, data: bytes) -> bytes:
     """The records that `bpfspec facts` prints of an input. If it can't be run, `RecordsError` is raised."""
     try:
-        words = [*_program(), "facts", *words_of(ask)]
+        words = [*find_program(), "facts", *words_of(ask)]
         return subprocess.run(words, input=data, stdout=subprocess.PIPE, check=False).stdout
     except (OSError, ValueError) as error:
         raise RecordsError(f"bpfspec can't be started: {getattr(error, 'strerror', None) or error}") from None
@@ -84,17 +84,6 @@ def words_of(ask: Ask) -> list[str]:
     is_drawn, has_states = (is_asked and not ask.sarif for is_asked in (ask.picture, ask.states))
     flags = {"--hex": ask.hex, "--states": has_states, "--all": ask.all or is_drawn, "--grid": is_drawn}
     return ["--arg", str(ask.argument), "--test", ask.test, *(word for word, is_asked in flags.items() if is_asked)]
-
-
-def _program() -> list[str]:
-    """The program of $BPFSPEC, a file or words; else that of this repository or installation."""
-    named = os.environ.get("BPFSPEC", "")
-    if named.strip():
-        return [named] if os.path.isfile(named) else shlex.split(named)
-    for place in PLACES:
-        if os.path.isfile(place) and os.access(place, os.X_OK):
-            return [place]
-    raise RecordsError("there is no program bpfspec: $BPFSPEC names it")
 
 
 def _read() -> bytes:

@@ -8,8 +8,7 @@ from collections.abc import Iterator
 from dataclasses import dataclass
 from pathlib import Path
 
-from .kinds import NO_END, NO_MEMORY_TEXT, REFUSED, TOLD, Fault, Ran
-from .program import Program
+from .kinds import NO_END, NO_MEMORY_TEXT, REFUSED, TOLD, Fault, Program, Ran
 
 PAST_LAST = 3  # runs in a row in which nothing failed end a sweep: threads come to their calls in another order each time
 MOST_WRONG = 5  # wrong runs end it too

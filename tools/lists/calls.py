@@ -6,19 +6,21 @@ import re
 from collections.abc import Iterator
 from dataclasses import dataclass
 from itertools import takewhile
-from pathlib import PurePath
+from pathlib import Path, PurePath
 
+from base.items import Item, joined
 from base.reach import Crates
 from base.types import SourceFile
-
-from .cited import Name, cited
-from .comments import joined
 
 CALL = re.compile(r"( *)(pub )?(?:extern \"C\" )?fn (\w+)")
 OWNER = re.compile(r"(?:impl(?:<[^>]*>)?|(pub trait)) (\w+)[^{]*\{$")
 CLAUSE = re.compile(r"^ +(requires|ensures) (\w* ?)\{", re.MULTILINE)
 MODEL = re.compile(r"^impl[^\n]* Model for (\w+).*?^}", re.MULTILINE | re.DOTALL)
 MARK = "///"
+# The calls that these pages name in code spans are listed.
+PAGES = "PROOF.md", "LIBRARY.md", "C_LIBRARY.md"
+CODE = re.compile(r"`([^`\n]+)`")
+WORD = re.compile(r"[A-Za-z_]\w*(?:::\w+)*")
 
 
 @dataclass(frozen=True)
@@ -28,7 +30,7 @@ class Clause:
     keyword: str  # requires or ensures
     name: str  # empty where it has none
     text: str
-    cites: tuple[Name, ...]
+    cites: tuple[Item, ...]
 
 
 @dataclass(frozen=True)
@@ -39,9 +41,13 @@ class Call:
     about: str  # the first paragraph of its comment
     clauses: tuple[Clause, ...]
 
-    def cites(self) -> Iterator[Name]:
+    def cites(self) -> Iterator[Item]:
         """All definitions that its contract cites."""
         return (name for clause in self.clauses for name in clause.cites)
+
+    def is_named(self, words: set[str]) -> bool:
+        """Whether it is among the words, with its type's name or without."""
+        return self.name in words or self.name.rpartition("::")[2] in words
 
 
 def sources(crates: Crates, crate: str) -> list[str]:
@@ -106,14 +112,20 @@ def _clauses(crates: Crates, source: SourceFile, head: str) -> Iterator[Clause]:
     ends = [clause.start() for clause in found[1:]] + [len(head)]
     for clause, end in zip(found, ends):
         text = " ".join(head[clause.end() : end].split()).removesuffix(";").removesuffix("}").strip()
-        yield Clause(clause.group(1), clause.group(2).strip(), text, cited(crates, source.imports, text))
+        yield Clause(clause.group(1), clause.group(2).strip(), text, crates.cited(source.imports, text))
 
 
-def cited_by_types(crates: Crates, crate: str) -> Iterator[Name]:
+def cited_by_types(crates: Crates, crate: str) -> Iterator[Item]:
     """The definitions that say what the values of a crate's public types are, and what holds of each."""
     for file in sources(crates, crate):
         source = crates.source(crate, file)
         models = MODEL.finditer((crates.folder / crate / file).read_text(encoding="utf-8"))
         texts = [item.text for item in source.items.values()]
         texts += [model.group() for model in models if model.group(1) in source.items]
-        yield from (name for text in texts for name in cited(crates, source.imports, text))
+        yield from (name for text in texts for name in crates.cited(source.imports, text))
+
+
+def read_named(docs: Path) -> set[str]:
+    """The words in code spans of the pages of guarantees and of both libraries, with their `::`."""
+    texts = [(docs / name).read_text(encoding="utf-8") for name in PAGES if (docs / name).is_file()]
+    return {word for text in texts for code in CODE.findall(text) for word in WORD.findall(code)}

@@ -8,11 +8,9 @@ from dataclasses import dataclass, field
 from itertools import takewhile
 from pathlib import PurePath
 
+from base.items import Item, comment_above, joined
 from base.reach import Crates
 from base.specs import Imports
-
-from .cited import Name, imported
-from .comments import comment_above, joined
 
 DEFINES = re.compile(r"(?:(?:abbrev|unfoldable) pub|pub (?:record|data)) (\S+)")
 MARK = "--"
@@ -37,16 +35,16 @@ class Definitions:
         """Whether it has worked values, which nothing else stands on."""
         return self.file.endswith("Rows")
 
-    def cites(self, crates: Crates) -> Iterator[Name]:
+    def cites(self, crates: Crates) -> Iterator[Item]:
         """The definitions of other files that it imports."""
-        return imported(crates, self.imports)
+        return crates.imported(self.imports)
 
-    def only(self, names: set[Name]) -> dict[str, str]:
+    def only(self, names: set[Item]) -> dict[str, str]:
         """The comments of those of its definitions that are among the names, or that a comment below speaks of."""
         taken: dict[str, str] = {}
         is_meant = False
         for name, comment in reversed(self.comments.items()):
-            if is_meant or Name(self.crate, self.file, name) in names:
+            if is_meant or Item(self.crate, f"specs/{self.file}.antt", name, "") in names:
                 taken[name] = comment
                 is_meant = bool(SPEAKS_OF_ABOVE.match(comment))
         return dict(reversed(taken.items()))

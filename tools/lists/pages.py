@@ -3,24 +3,21 @@
 from __future__ import annotations
 
 import os
-from functools import cached_property
+from functools import cached_property, partial
 from pathlib import Path
 
+from base.items import Item
 from base.reach import Crates
 
-from .calls import Call, cited_by_types, read_calls
-from .cited import Name
-from .crate_table import crate_table
-from .crates import Group, read_groups
+from .calls import Call, cited_by_types, read_calls, read_named
+from .crates import Group, crate_table, read_groups
 from .definitions import Definitions, read_definitions
-from .edits import read_edits
-from .heads import HEADS
-from .named import is_named, read_named
-from .promises import assign, read_promises, read_untried
+from .promises import assign, read_edits, read_promises, read_untried
 from .shown import by_crate, shown_calls, shown_definitions, shown_promises
 
 KEPT = "crates/README.md"  # the page that is kept in the repository
 HEADLINE = ("spec_run", "run")
+HEADS = Path(__file__).with_name("heads")  # how each page begins; `{root}` is the path from it to the repository
 
 
 class Lists:
@@ -57,14 +54,13 @@ class Lists:
         """The definitions of each crate."""
         return {crate: read_definitions(self.crates, crate) for group in self.groups for crate in group.crates}
 
-    def cited(self) -> set[Name]:
+    def cited(self) -> set[Item]:
         """The definitions that are cited from outside of their file, and those that the main theorem uses."""
         names = {name for calls in self.calls.values() for call in calls for name in call.cites()}
         for crate, files in self.definitions.items():
             names.update(cited_by_types(self.crates, crate))
             names.update(name for file in files if not file.has_rows for name in file.cites(self.crates))
-        under = self.crates.reached(*HEADLINE)
-        return names | {Name(item.crate, _bare(item.file), item.name) for item in under if not item.is_type}
+        return names.union(item for item in self.crates.reached(*HEADLINE) if not item.is_type)
 
     def definitions_page(self, root: str) -> list[str]:
         """The definitions by crate and file. Links go by the path from the page to the repository."""
@@ -78,8 +74,8 @@ class Lists:
 
     def contracts_page(self) -> list[str]:
         """The public calls by crate: those that a page for users, or that of the guarantees, names."""
-        named = read_named(self.docs)
-        return by_crate(self.groups, lambda crate: shown_calls([c for c in self.calls[crate] if is_named(c, named)]))
+        is_named = partial(Call.is_named, words=read_named(self.docs))
+        return by_crate(self.groups, lambda crate: shown_calls(filter(is_named, self.calls[crate])))
 
     def mutants_page(self) -> list[str]:
         """The edits by guarantee, once each edit has its guarantee and each guarantee an edit or its row."""
@@ -90,11 +86,7 @@ class Lists:
         return shown_promises(promises)
 
 
-def _bare(file: str) -> str:
-    """A file below a crate's folder, as a file below its specs/ without an ending."""
-    return file.removeprefix("specs/").removesuffix(".antt")
-
-
 def _page(name: str, root: str, lines: list[str]) -> str:
     """The text of a page: its head, and then the lines. Links go by the path from the page to the repository."""
-    return "\n".join([HEADS[name].replace("{root}", root), *lines]).rstrip("\n") + "\n"
+    head = (HEADS / Path(name).name).read_text(encoding="utf-8")
+    return "\n".join([head.replace("{root}", root), *lines]).rstrip("\n") + "\n"

@@ -6,12 +6,12 @@ import re
 from collections.abc import Callable, Iterable, Iterator
 from itertools import groupby
 
+from base.items import Item
+
 from .calls import Call, Clause
-from .cited import Name
 from .crates import Group
 from .definitions import Definitions
-from .edits import Edit
-from .promises import Promise
+from .promises import Edit, Promise
 
 
 def by_crate(groups: Iterable[Group], lines_of: Callable[[str], list[str]]) -> list[str]:
@@ -47,7 +47,7 @@ def _under_each(comments: dict[str, str]) -> Iterator[str]:
         yield f"- {under}: {comment}" if comment else f"- {under}"
 
 
-def shown_calls(calls: list[Call]) -> list[str]:
+def shown_calls(calls: Iterable[Call]) -> list[str]:
     """Calls in one list, each with its clauses."""
     lines = [line for call in calls for line in _call(call)]
     return [*lines, ""] if lines else []
@@ -56,19 +56,19 @@ def shown_calls(calls: list[Call]) -> list[str]:
 def _call(call: Call) -> Iterator[str]:
     """A call, and then its clauses, in which each definition is named once."""
     yield f"- `{call.name}`: {call.about}"
-    named: set[Name] = set()
+    named: set[Item] = set()
     clauses = [_clauses(call, keyword, named) for keyword in ("requires", "ensures")]
     said = "; ".join(clause for clause in clauses if clause)
     yield f"  {said[:1].upper()}{said[1:]}." if said else "  No clause."
 
 
-def _clauses(call: Call, keyword: str, named: set[Name]) -> str:
+def _clauses(call: Call, keyword: str, named: set[Item]) -> str:
     """The clauses of a keyword."""
     clauses = [_clause(clause, named) for clause in call.clauses if clause.keyword == keyword]
     return f"{keyword} {', '.join(clauses)}" if clauses else ""
 
 
-def _clause(clause: Clause, named: set[Name]) -> str:
+def _clause(clause: Clause, named: set[Item]) -> str:
     """A clause's name with the definitions that it cites and none before it did; or else the clause itself."""
     cites = [f"`{name.name}`" for name in clause.cites if name not in named]
     named.update(clause.cites)

@@ -40,7 +40,7 @@ from bpf_object.mend import Mender  # noqa: E402
 from bpf_object.outline import outline  # noqa: E402
 from bpf_object.ranges import ALL, HOLDS, NUMBERS, Range, alu, compute, exact, norm, refine  # noqa: E402
 from bpf_object.refusal import NoRoom  # noqa: E402
-from bpf_object.trips import FALLING, RISING  # noqa: E402
+from bpf_object.counted import FALLING, RISING  # noqa: E402
 from loader.forms import After, Before  # noqa: E402
 
 SEED = 7
