@@ -13,7 +13,7 @@ from pathlib import Path
 TOP = Path(__file__).resolve().parents[2]
 sys.path.insert(0, str(TOP / "tools"))
 
-from explain.command_line import Ask, HelpAsked, UsageError, read_words  # noqa: E402
+from explain.command_line import Ask, HelpAsked, UsageError, jaro, most_similar, read_words  # noqa: E402
 from explain.loops import Access, Names, access_of  # noqa: E402
 from explain.pictures import draw_events  # noqa: E402
 
@@ -30,25 +30,24 @@ class CommandLine(unittest.TestCase):
         self.assertEqual(asked, Ask(hex=True, argument=7, test="lrpd", states=True, all=True, picture=True))
 
     def test_help(self) -> None:
-        for words, begin in ((["--help"], "Explains why"), (["-V"], "bpfspec explain 0.1.0\n"), (["-h", "x"], "Explains")):
+        for words, begin in ((["--help"], "Explains why"), (["-V"], "bpfspec explain 0.1.0\n"), (["-hx"], "Explains")):
             with self.assertRaises(HelpAsked) as asked:
                 read_words(words)
             self.assertTrue(str(asked.exception).startswith(begin))
 
     def test_errors(self) -> None:
         plain, end = "\n\nUsage: bpfspec explain [OPTIONS]", "\n\nFor more information, try '--help'.\n"
-        similar = f"\n\n  tip: a similar argument exists: '--states'{plain}"
+        similar = "\n\n  tip: a similar argument exists: '--states'\n\nUsage: bpfspec explain --hex --states"
         wanted = "--arg wants a number from 0 to 18446744073709551615, and --test wants flow or lrpd" + plain
         for words, error in (
             (["x"], f"unexpected argument 'x' found{plain}"),
             (["--", "--hex"], f"unexpected argument '--hex' found{plain}"),
-            (["-x"], f"unexpected argument '-x' found{plain}"),
-            (["--arg", "-5"], wanted),
+            (["--arg", "-5"], f"unexpected argument '-5' found{plain}"),
             (["--hex", "--state"], f"unexpected argument '--state' found{similar}"),
             (["--hex", "--hex"], f"the argument '--hex' cannot be used multiple times{plain}"),
-            (["--arg=1", "--arg", "2"], f"the argument '--arg' cannot be used multiple times{plain}"),
-            (["--arg", "--hex"], wanted),
-            (["--hex=1"], f"argument --hex: ignored explicit argument '1'{plain}"),
+            (["--arg=1", "--arg", "2"], f"the argument '--arg <N>' cannot be used multiple times{plain}"),
+            (["--arg", "--hex"], "a value is required for '--arg <N>' but none was supplied"),
+            (["--hex=1"], f"unexpected value '1' for '--hex' found; no more were expected{plain[:-9]}--hex"),
             (["--arg="], wanted),
             (["--arg", "18446744073709551616"], wanted),
             (["--test", "Flow"], wanted),
@@ -57,6 +56,12 @@ class CommandLine(unittest.TestCase):
             with self.subTest(words=words), self.assertRaises(UsageError) as raised:
                 read_words(words)
             self.assertEqual(str(raised.exception), f"error: {error}{end}")
+
+    def test_similar(self) -> None:
+        self.assertAlmostEqual(jaro("martha", "marhta"), 0.944, 3)
+        self.assertAlmostEqual(jaro("dixon", "dicksonx"), 0.767, 3)
+        self.assertEqual((jaro("", "a"), jaro("", ""), jaro("a", "b")), (0.0, 1.0, 0.0))
+        self.assertIsNone(most_similar("zzz", ["hex", "all"]))
 
 
 class Words(unittest.TestCase):
