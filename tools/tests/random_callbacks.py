@@ -7,8 +7,8 @@ PROGRAM stands for `./bpfspec`. A callback has arithmetic, branches, early ends,
 and of halves of all kinds, loads of what an iteration at a distance left, its own frame, main's, and lookups. Each unit
 has eight. By `order`, a loop call of 2,048 iterations or more takes many of them together where it may, and calls of at
 most 1,024 take none: what these leave has to come out of the one call too, the same answer of each loop, and the same
-maps. One unit in twenty goes by `run` too: with one worker, in blocks with two, and by the test `lrpd`. The first two
-have to say the same of each loop.
+maps. Each unit goes by `run` too: with one, two and four workers, in blocks, and by the test `lrpd`. But for the last
+they have to say the same of each loop.
 
 COUNT is of callbacks, 10,000 if it isn't given. Each difference is on standard error, and so is each unit that is
 refused, since all have to be accepted. One line on standard output has the counts. The status is 0 where nothing was
@@ -31,7 +31,6 @@ from oracle.random_callback import CTX, DATA, FRAME_WORDS, INDEX, SIZES, RandomC
 
 LIMIT = 60  # seconds of a run
 LOOPS = 8  # of a unit
-RUN_EVERY = 20  # one unit of so many goes by `run` too
 FEWEST, MOST, LONGEST = 2_048, 6_000, 20_000  # iterations of a loop call that go together, of most here, and of any
 MANY, MANY_EVERY = 15_900, 16  # more elements of the first map in one unit of so many: halves then share stamps
 PRIME = 20_011  # that all answers so far are multiplied by
@@ -39,10 +38,12 @@ CALLS = 1_024, 1_000, 997, 991  # iterations of each call of a loop that is to g
 DONE, REFUSED = 0, 1  # statuses
 TOGETHER, ONE_BY_ONE = "order", "order, one by one"
 ORDER = ("order",)
-SAME_REPORT = "one worker", "blocks"  # these say the same of each loop
+SAME_REPORT = "blocks", "one worker", "two workers", "four workers"  # these say the same of each loop
 RUNS = {
-    "one worker": ("run", "--workers", "1"),
     "blocks": ("run", "--workers", "2", "--way", "blocks"),
+    "one worker": ("run", "--workers", "1"),
+    "two workers": ("run", "--workers", "2"),
+    "four workers": ("run", "--workers", "4"),
     "lrpd": ("run", "--test", "lrpd"),
 }
 LOOP = re.compile(r"loop \d+ at (\d+): answer (\d+), (.*)")
@@ -147,13 +148,13 @@ def faults(program: str, seed: int) -> list[str]:
     if together.status == alone.status == REFUSED:
         return [together.returned]
     wrong = [f"{ONE_BY_ONE}: status {alone.status}"] if alone.status != DONE else []
-    found = {TOGETHER: together}
-    if seed % RUN_EVERY == 0:
-        found |= {name: answer(program, words, text) for name, words in RUNS.items()}
-        first, second = (found[name].loops for name in SAME_REPORT)
-        wrong += [f"{' and '.join(SAME_REPORT)}: {one}, {other}" for one, other in zip(first, second) if one != other]
-        wrong += [f"{name}: answers {found[name].answers()}, not {together.answers()}" for name in RUNS
-                  if found[name].answers() != together.answers()]
+    runs = {name: answer(program, words, text) for name, words in RUNS.items()}
+    blocks = runs[SAME_REPORT[0]].loops
+    wrong += [f"{name}: {one}, not {other}" for name in SAME_REPORT for one, other in zip(runs[name].loops, blocks)
+              if one != other]
+    wrong += [f"{name}: answers {one.answers()}, not {together.answers()}" for name, one in runs.items()
+              if one.answers() != together.answers()]
+    found = {TOGETHER: together, **runs}
     return wrong + [f"{name}: {difference}" for name, one in found.items() if (difference := one.difference(alone))]
 
 

@@ -12,4 +12,3 @@ pub mod WatchedLanes
 pub mod NotingLaws
 pub mod WatchedSteps
 pub mod WatchedEnds
-pub mod MarkedLaws

@@ -7,4 +7,3 @@ pub mod Watched
 pub mod Noting
 pub mod Dependences
 pub mod WatchedRuns
-pub mod Marked

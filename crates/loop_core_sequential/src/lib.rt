@@ -1,18 +1,15 @@
 //! Loops in order: all iterations of a loop call on one thread, each on the maps that the one before left.
 //! Iterations that may go together do, up to 256 at a time. A loop may be watched while it runs so: where no iteration
-//! reads what an earlier one wrote, it is known to pass by the flow test; else it can go on from there. Its iterations may
-//! be marked, so that the verdict on it is known.
+//! reads what an earlier one wrote, it is known to pass by the flow test; else it can go on from there.
 #![tactic(auto)]
 
 mod applying;
 mod batch_run;
 mod batches;
 mod loop_run;
-mod marked_loop;
 mod noting;
 mod one_by_one;
 mod ordering;
-mod own;
 mod progress;
 mod watched_loop;
 mod watching;
@@ -20,7 +17,6 @@ mod watching;
 ghost use Rattle.loop_core_sequential.specs.FilledCalls.{FilledCallsAreOneLoop};
 
 use bpf_verify_sound::{law_of_accepted_programs, law_of_accepted_runs};
-pub use marked_loop::mark_iterations;
 pub use ordering::{in_order, range_in_order};
 pub use progress::{Progress, resume_in_order};
 pub use watched_loop::{WatchedLoop, in_order_watched};

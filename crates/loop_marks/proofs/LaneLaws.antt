@@ -1,16 +1,13 @@
 -- What lanes touch, as flags, and what planes keep.
 use Rattle.std.proofs.Common.{◌≡◌, ℕ, ◌==◌, if◌then◌else◌, Bool, true, false, List, [], ◌∷◌, ◌++◌, refl, sym, ◌∙◌, ap}
-use Rattle.std.{proofs.{Common.{append_assoc}, lemmas.List.{append-nil}}, specs.List.{filter, range_with_len}}
-use Rattle.array_maps.specs.{declared.access.Half.{Half}, Accesses.{Action, Access, actions_at}, MapList.{AreWords}}
-use Rattle.loop_core_model.specs.{declared.verdict.Verdict.{Verdict}, Flags.{Flags, flags_of, flagged, kind_of}}
-use Rattle.loop_core_model.specs.{Marks.{Visit, marked_conflict, marks_of}, Report.{judged}, Effects.{kind_of_deed}}
-use Rattle.loop_core_model.specs.Planes.{PlaneJudges, elements_in_plane, plane_verdict}
+use Rattle.std.proofs.{Common.{append_assoc}, lemmas.List.{append-nil}}
+use Rattle.array_maps.specs.{declared.access.Half.{Half}, Accesses.{Action, Access, actions_at}}
+use Rattle.loop_core_model.specs.{Flags.{Flags, flags_of, flagged, kind_of}, Effects.{kind_of_deed}}
 use Rattle.loop_core_model.proofs.FlagLaws.{flags_follow_kinds}
 use Rattle.lane_stamps.specs.{declared.kind.Kind.{Kind, TheVariants.{Apply}}, Sites.{deed_by}}
 use Rattle.lane_stamps.specs.declared.kind.Kind.TheVariants.{Load, LoadHalf, Store, Fetch, Replace, FetchHalf, AddHalf}
-use Rattle.shadow_marks.specs.{declared.planes.Planes.{Planes}, Ending.{KeepsShape}, Standing.{StandFor, test_of}}
-use Rattle.loop_marks.specs.{Touches.{flags_after, touches_of}, MarkedVerdicts.{visits_below}}
-use Rattle.loop_marks.specs.LaneMarks.{IsMarkedVerdict, access_kind}
+use Rattle.shadow_marks.specs.{declared.planes.Planes.{Planes}, Ending.{KeepsShape}}
+use Rattle.loop_marks.specs.{Touches.{flags_after, touches_of}, LaneMarks.{access_kind}}
 
 -- the flags of actions at an element, by what is touched
 pub flags_more : (done : List Action) (e : ℕ) (accesses : List Access)
@@ -49,12 +46,3 @@ shape_both a b c first second = record {
   elements = second.elements ∙ first.elements;
   test = second.test ∙ first.test;
 }
-
--- what a plane of conflicts judges is the verdict of the marks
-pub judged_by_plane : PlaneJudges → (plane : List ℕ) → AreWords plane → (planes : Planes) (found : Verdict)
-    → found ≡ plane_verdict plane
-    → ((visits : ℕ → List Visit) → StandFor planes visits → elements_in_plane plane
-    ≡ filter (λ e. marked_conflict (test_of planes.tested) (marks_of (visits e))) (range_with_len 0 planes.elements))
-    → IsMarkedVerdict planes found
-judged_by_plane law plane fit planes found is elements made n stand =
-    is ∙ law.verdict plane fit ∙ ap judged (elements (visits_below made n) stand)

@@ -1,4 +1,4 @@
-pub mod VerdictLaws
+pub mod VisitLaws
 pub mod LaneLaws
 pub mod SiteLaws
 pub mod UnseenLaws

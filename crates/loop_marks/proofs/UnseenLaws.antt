@@ -12,7 +12,7 @@ use Rattle.lane_stamps.specs.declared.site.Site.{Site}
 use Rattle.lane_stamps.specs.Sites.{LaneRows, done_by, has, half_named, log_of, place_of, value_of}
 use Rattle.shadow_marks.specs.{declared.planes.{Planes.{Planes}, Tested.{Tested}}, Standing.{StandAt, TestedStandAt}}
 use Rattle.shadow_marks.specs.declared.planes.Tested.TheVariants.{Lrpd as ByLrpd, Flow as ByFlow}
-use Rattle.loop_marks.specs.{Touches.{Touch, flags_after, touch_by}, MarkedVerdicts.{visits_below}}
+use Rattle.loop_marks.specs.{Touches.{Touch, flags_after, touch_by}, Visits.{visits_below}}
 use Rattle.loop_marks.specs.LaneMarks.{LanesMarked, LanesTouch, access_kind, lane_touches}
 use Rattle.loop_marks.specs.SiteMarks.{AreUnseen, IsApart, IsUnseen, SitesMarked, TestedMarked, is_touched_by, kept}
 use Rattle.loop_marks.specs.SiteMarks.{kind_is_plain, kind_looks, kind_reduces_by, kind_writes, over_lanes, set_by_lane}

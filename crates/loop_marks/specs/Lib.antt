@@ -1,4 +1,4 @@
 pub mod Touches
-pub mod MarkedVerdicts
+pub mod Visits
 pub mod LaneMarks
 pub mod SiteMarks

@@ -198,7 +198,7 @@ fn set_each(words: &mut [u64], halves: bool, mask: &Mask, places: &Places, lanes
 }
 
 /// The same of elements that run on one after another, a word at a time.
-fn set_run(words: &mut [u64], start: usize, lanes: u32)
+pub fn set_run(words: &mut [u64], start: usize, lanes: u32)
     requires within { start + lanes ≤ 64 * length words.old }
     requires small { start + lanes < 4294967296 }
     ensures { SetsBits (runs_to start) lanes words.old words.new }

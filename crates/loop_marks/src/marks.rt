@@ -1,14 +1,14 @@
 //! Marks of a loop's iterations.
 
-ghost use Rattle.std.specs.{Prelude.{◌≡◌, ◌+◌, ◌≤◌, true, false, IfOk}, List.{All}};
+ghost use Rattle.std.specs.{Prelude.{◌≡◌, ◌+◌, ◌≤◌, true, false, length, IfOk}, List.{All}};
 ghost use Rattle.lane_stamps.specs.Sites.{HasRows, IsWithin, log_of, shown};
 ghost use Rattle.shadow_marks.specs.{Ending.{KeepsShape}, Standing.{ArePlanes, StandFor, no_visits, test_of}};
 
 use crate::by_site::mark_sites;
 use crate::unseen::go_by_site;
-use lane_planes::{conflict_plane, verdict_of};
+use lane_planes::conflict_plane;
 use lane_stamps::{Lanes, Site};
-use loop_core_model::{Test, Verdict, law_of_planes};
+use loop_core_model::Test;
 use shadow_marks::Planes;
 use std::alloc::{AllocError, Global};
 
@@ -21,7 +21,8 @@ pub struct LoopMarks {
 
 impl LoopMarks {
     ghost use Rattle.lane_planes.specs.Merged.{StandForSome};
-    ghost use Rattle.loop_marks.specs.LaneMarks.{IsMarkedVerdict, LanesMarked};
+    ghost use Rattle.array_maps.specs.MapList.{AreWords};
+    ghost use Rattle.loop_marks.specs.LaneMarks.{AreConflicts, LanesMarked};
 
     /// Marks of no iteration, for n elements and a test. It fails only for want of memory.
     pub fn try_new(alloc: Global, elements: u32, test: Test) -> Result<LoopMarks, AllocError>
@@ -34,16 +35,15 @@ impl LoopMarks {
         })
     }
 
-    /// The verdict on a loop of which these are the marks, of at most 65,536 elements: how many of them conflict, and
-    /// which is the least. It fails only for want of memory.
-    pub fn verdict(&self, alloc: Global) -> Result<Verdict, AllocError>
+    /// The elements that conflict by these marks, of at most 65,536, a bit each. It fails only for want of memory.
+    pub fn conflicts(&self, alloc: Global) -> Result<Vec<u64>, AllocError>
         requires stand { StandForSome self.now.planes }
         requires few { self.now.planes.elements ≤ 65536 }
-        ensures { IfOk result (IsMarkedVerdict self.now.planes) }
+        ensures few { IfOk result (λ plane. length plane.items ≤ 1024) }
+        ensures words { IfOk result (λ plane. AreWords plane.items) }
+        ensures elements { IfOk result (λ plane. AreConflicts self.now.planes plane.items) }
     {
-        law_of_planes();
-        let plane = conflict_plane(alloc, &self.planes)?;
-        Ok(verdict_of(&plane))
+        conflict_plane(alloc, &self.planes)
     }
 
     /// Marks what the first lanes of a batch did: they are the iterations from an index on, up to which marks were made.

@@ -1,9 +1,3 @@
-pub mod Deeds
-pub mod FrameNumbers
-pub mod Values
-pub mod Longer
-pub mod Conflicts
-pub mod Passing
 pub mod SumSteps
 pub mod SumRuns
 pub mod Searching
@@ -23,4 +17,3 @@ pub mod EvenLaws
 pub mod PassLaws
 pub mod CostLaws
 pub mod SumLaws
-pub mod MarkedLaws

@@ -6,7 +6,8 @@ use Rattle.bpf_step_model.specs.{State.{LoopCall}, Run.{BoundedResult, followed}
 use Rattle.loop_core_model.specs.declared.{loop_test.Test.TheVariants.{Flow}, verdict.Verdict.{Verdict}}
 use Rattle.loop_core_model.specs.{declared.verdict.Verdict.TheVariants.{Parallel}, Report.{verdict}}
 use Rattle.loop_core_model.specs.Outcome.{judged_as}
-use Rattle.spec_run_loop.specs.{Independent.{AlwaysPasses}, declared.decision.LoopAnswer.{LoopAnswer}}
+use Rattle.loop_inspector.specs.Independent.{AlwaysPasses}
+use Rattle.spec_run_loop.specs.declared.decision.LoopAnswer.{LoopAnswer}
 use Rattle.loop_core_sequential.specs.{Loops.{RanLoopInOrder}, Watched.{RanAndPasses}}
 use Rattle.loop_core_gather.specs.Gathered.{IsOutcome}
 use Rattle.loop_core_split.specs.declared.strategy.Strategy.{Strategy}

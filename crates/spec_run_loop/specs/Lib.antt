@@ -1,4 +1,3 @@
-pub mod Independent
 pub mod SumOps
 pub mod SumLaw
 pub mod SumLoops

@@ -1,22 +1,25 @@
 //! Loops that are run in order, watched.
 
-ghost use Rattle.std.specs.Prelude.{◌≡◌, true, IfOk, OnErr};
+ghost use Rattle.std.specs.Prelude.{◌≡◌, true, IfOk, IfSome, OnErr};
+ghost use Rattle.bpf_step_model.specs.Run.{Ended};
 ghost use Rattle.loop_core_model.specs.declared.loop_test.Test.TheVariants as tests;
+ghost use Rattle.loop_core_model.specs.Report.{verdict};
 ghost use Rattle.loop_core_gather.specs.Gathered.{IsOutcome};
-ghost use Rattle.spec_run_loop.specs.{Independent.{AlwaysPasses}, declared.strategy.BlockPlan.{BlockPlan}};
+ghost use Rattle.loop_inspector.specs.Independent.{AlwaysPasses};
+ghost use Rattle.spec_run_loop.specs.{declared.strategy.BlockPlan.{BlockPlan}};
 ghost use Rattle.spec_run_loop.specs.{Strategies.{IsWatchedStrategy}, StrategyPlans.{IsBlockPlan}};
 
 use crate::by_blocks::decision_on;
 use crate::cost_model::elements_of;
 use crate::decision::{LoopAnswer, carry_out_from};
-use crate::independent::is_independent;
 use crate::job::LoopJob;
-use crate::marking::verdict_by_marks;
 use crate::strategy::BlockPlan;
 use array_maps::Maps;
 use loop_core_gather::{Decision, LoopResult};
+use loop_core_model::Verdict;
 use loop_core_sequential::{WatchedLoop, in_order, in_order_watched};
 use loop_core_split::{Gate, Strategy};
+use loop_inspector::{inspect, is_independent};
 use spec_run_workers::Workspace;
 use std::alloc::AllocError;
 use std::thread::Threads;
@@ -24,6 +27,9 @@ use std::thread::Threads;
 /// The fewest iterations of a loop of which it is asked whether they never conflict: to ask takes as long as some hundred
 /// of them.
 const FEWEST_ASKED: u32 = 2048;
+
+/// The fewest iterations of a loop that is inspected: room for marks takes as long to clear as blocks take for fewer.
+const FEWEST_INSPECTED: u32 = 2048;
 
 /// Whether it is known that the iterations of a loop call never conflict, so that it passes by the flow test.
 pub(crate) fn never_conflicts(job: &LoopJob) -> Result<bool, AllocError>
@@ -33,6 +39,18 @@ pub(crate) fn never_conflicts(job: &LoopJob) -> Result<bool, AllocError>
         return Ok(false);
     }
     is_independent(job.alloc, job.program, job.call)
+}
+
+/// The verdict on a loop call from these maps by its inspected iterations, if it is known so.
+fn inspected(job: &LoopJob, maps: &Maps) -> Result<Option<Verdict>, AllocError>
+    requires sizes { maps.now.sizes ≡ job.now.program.sizes }
+    ensures { IfOk result (λ found. IfSome found (λ v. verdict tests.Flow job.now.program 4096 job.now.call
+        maps.now.words ≡ Ended v)) }
+{
+    if job.call.n() < FEWEST_INSPECTED {
+        return Ok(None);
+    }
+    inspect(job.alloc, job.program, job.call, maps)
 }
 
 /// Runs a loop call in order on these maps, which are of the program's sizes. It is watched, unless its iterations never
@@ -76,8 +94,8 @@ pub(crate) fn run_independent(job: &LoopJob, maps: &mut Maps) -> LoopAnswer
 }
 
 /// Runs a loop call in order on these maps, which are of the program's sizes, and watches it: where no iteration reads
-/// what an earlier one wrote, it passes by the flow test, and is done. Else its verdict is that of the marks of its
-/// iterations on the maps as they were, in batches or in blocks, and it continues in order from the iteration that did.
+/// what an earlier one wrote, it passes by the flow test, and is done. Else its verdict is that of its inspected
+/// iterations, or of blocks, on the maps as they were, and it continues in order from the iteration that did.
 fn watch<R: Threads + Sync, G: Gate>(
     rt: &R,
     job: &LoopJob,
@@ -105,7 +123,7 @@ fn watch<R: Threads + Sync, G: Gate>(
         }
         WatchedLoop::Dependent(progress) => progress,
     };
-    let decision = match verdict_by_marks(job, maps)? {
+    let decision = match inspected(job, maps)? {
         Some(verdict) => Decision::Discard { verdict },
         None => decision_on(rt, job, otherwise, maps, workspace, gate)?,
     };

@@ -1,5 +1,6 @@
 use Rattle.std.proofs.Common.{◌≡◌, true, IfOk, subst}
-use Rattle.spec_run_loop.specs.{Independent.{AlwaysPasses}, Jobs.{JobOf}}
+use Rattle.loop_inspector.specs.Independent.{AlwaysPasses}
+use Rattle.spec_run_loop.specs.Jobs.{JobOf}
 use Rattle.spec_run_loop.proofs.watching.never_conflicts.Goals as goal
 
 pub returns : goal.returns

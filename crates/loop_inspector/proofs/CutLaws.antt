@@ -1,0 +1,75 @@
+-- Lists whose operations are cut one after another.
+use Rattle.std.proofs.Common.{◌≡◌, ◌∙◌, ℕ, zero, suc, ◌+◌, ◌⊎◌, Bool, true, false, List, [], ◌∷◌, ◌++◌}
+use Rattle.std.proofs.Common.{length, map, take, sym, ap, subst, inl, inr, arith}
+use Rattle.std.specs.Prelude.{slice_get, Some}
+use Rattle.std.proofs.lemmas.{Grind.{common_steps}, List.{length_push}, Option.{slice_get-map, slice_get_within}}
+use Rattle.std.{specs.Option.{option_map}, proofs.lemmas.List.Elements.{filter-append}}
+use Rattle.row_list.specs.declared.row_op.RowOp.{RowOp}
+use Rattle.row_facts.{specs.{declared.site.Site.{Site}, Sites.{is_access, sites_of}}, proofs.FactLaws.{get-more}}
+use Rattle.row_facts.proofs.SiteLaws.{some-same}
+use Rattle.loop_inspector.proofs.SpanLaws.{get-kept, get-last}
+use Rattle.loop_inspector.specs.{declared.reach.Span.{Span}, Slices.{AreCuts, AreOpens, IsClosed, IsCut}}
+
+-- the operation of an access's site
+pub site-at : (ops : List RowOp) (k : ℕ) (op : RowOp) → slice_get ops k ≡ Some op → is_access op ≡ true
+    → slice_get (sites_of ops) (length (sites_of (take k ops))) ≡ Some op
+site-at [] k op there is = absurd (cc)
+site-at (x ∷ ops) zero op there is = grind (arith, common_steps)
+site-at (x ∷ ops) (suc k) op there is =
+    let before = site-at ops k op there is in
+    grind (arith, common_steps, before)
+
+-- one operation more
+pub opens-more : (sites : List Site) (spans : List Span) (ops : List RowOp) (opens : List Bool) (op : RowOp)
+    (flag : Bool) → length opens ≡ length ops → (is_access op ≡ true → flag ≡ true ⊎ IsClosed sites spans op)
+    → AreOpens sites spans ops opens → AreOpens sites spans (ops ++ op ∷ []) (opens ++ flag ∷ [])
+opens-more sites spans ops opens op flag count here before k one there is = elim (get-more ops op one k there) [
+  | inl old ↦ elim (before k one old is) [
+    | inl set ↦ inl (get-kept opens flag true k set)
+    | inr closed ↦ inr closed
+  ]
+  | inr new ↦ elim (here (ap is_access new.1 ∙ is)) [
+    | inl set ↦ inl (get-last opens flag k (new.0 ∙ sym count) ∙ ap Some set)
+    | inr closed ↦ inr (subst (IsClosed sites spans) new.1 closed)
+  ]
+]
+
+pub cuts-more : (sites : List Site) (spans : List Span) (needed : List Bool) (number : ℕ) (list cuts : List RowOp)
+    (op made : RowOp) → IsCut sites spans needed (length list) number op made
+    → AreCuts sites spans needed number list cuts
+    → AreCuts sites spans needed number (list ++ op ∷ []) (cuts ++ made ∷ [])
+cuts-more sites spans needed number list cuts op made here before = record {
+  count = length_push cuts made ∙ ap (λ n. n + 1) before.count ∙ sym (length_push list op);
+  each = λ k one cut there cut_there. elim (get-more list op one k there) [
+    | inl old ↦ elim (get-more cuts made cut k cut_there) [
+      | inl same ↦ before.each k one cut old same
+      | inr past ↦ absurd (omega (arith, past.0, before.count, slice_get_within list k one old))
+    ]
+    | inr new ↦ elim (get-more cuts made cut k cut_there) [
+      | inl same ↦ absurd (omega (arith, new.0, before.count, slice_get_within cuts k cut same))
+      | inr past ↦
+          let n = new.0 in
+          subst (λ (j : ℕ). IsCut sites spans needed j number one cut) (sym n)
+          (subst (λ (o : RowOp). IsCut sites spans needed (length list) number o cut) new.1
+          (subst (λ (m : RowOp). IsCut sites spans needed (length list) number op m) past.1 here))
+    ]
+  ];
+}
+
+-- how many accesses there are, with one operation more
+pub more-access : (ops : List RowOp) (op : RowOp) → is_access op ≡ true
+    → length (sites_of (ops ++ op ∷ [])) ≡ length (sites_of ops) + 1
+more-access ops op is = grind (arith, common_steps, filter-append is_access ops (op ∷ []), is)
+
+pub no-access : (ops : List RowOp) (op : RowOp) → is_access op ≡ false
+    → length (sites_of (ops ++ op ∷ [])) ≡ length (sites_of ops)
+no-access ops op is = grind (arith, common_steps, filter-append is_access ops (op ∷ []), is)
+
+-- the site of an access has its operation
+pub site-is : (sites : List Site) (ops : List RowOp) (k : ℕ) (site : Site) (op : RowOp)
+    → map (λ s. s.op) sites ≡ sites_of ops → slice_get sites k ≡ Some site → slice_get (sites_of ops) k ≡ Some op
+    → site.op ≡ op
+site-is sites ops k site op same there is =
+    let named : Site → RowOp = λ s. s.op in
+    some-same site.op op (sym (ap (option_map named) there) ∙ sym (slice_get-map named sites k)
+    ∙ ap (λ (xs : List RowOp). slice_get xs k) same ∙ is)

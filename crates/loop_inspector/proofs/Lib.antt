@@ -1,0 +1,15 @@
+pub mod FrameNumbers
+pub mod Deeds
+pub mod OwnLaws
+pub mod CalmLaws
+pub mod SameLanes
+pub mod Values
+pub mod SliceLanes
+pub mod Longer
+pub mod Conflicts
+pub mod Passing
+pub mod Bits
+pub mod Settling
+pub mod Inspecting
+pub mod SpanLaws
+pub mod CutLaws

@@ -1,0 +1,252 @@
+-- The lanes of a slice are those of its list.
+use Rattle.std.proofs.Common.{◌≡◌, ℕ, suc, ◌/◌, ◌^◌, ◌<◌, Bool, true, false, ◌==◌, ◌⊎◌, inl, inr, List, [], ◌∷◌, ◌++◌}
+use Rattle.std.proofs.Common.{arith, length, map, get_or, slice_index, refl, sym, ap, ap₂, ◌∙◌, subst}
+use Rattle.std.specs.Prelude.{ℤ, slice_get, Option, Some, None}
+use Rattle.std.proofs.lemmas.{Option.{slice_get_within, slice_get-get_or}, List.{map-append}}
+use Rattle.array_maps.specs.{MapList.{AreWords}, Accesses.{Access, Action, actions_at, words_after_all}}
+use Rattle.array_maps.specs.declared.access.Part.{Part, TheVariants.{Whole, Half as Of}}
+use Rattle.bpf_insn_types.specs.{declared.insn.SimpleOp.{SimpleOp}, WordBounds.{ResultsFit}}
+use Rattle.bpf_step_model.specs.Step.{Request, store_of, update_of}
+use Rattle.bpf_step_model.specs.AreaWords.{byte_named, part_named}
+use Rattle.loop_core_model.specs.{declared.access.Access.{Access as Kind}, Effects.{Effect, accesses_on, kind_of_deed}}
+use Rattle.loop_core_model.proofs.Turns.{actions_at-append}
+use Rattle.row_list.specs.declared.row_op.RowOp.{RowOp, TheVariants.{Number, Store, Reduce}}
+use Rattle.row_list.specs.Rows.{AreValues, IsRowValue, row_effects, effects_by, effects_if, deed_of, is_in}
+use Rattle.row_list.proofs.EffectLaws.{accesses_both}
+use Rattle.row_facts.specs.{declared.site.Site.{Site}, Sites.{is_access}, Elements.{Touches}, Ordered.{IsOrdered}}
+use Rattle.loop_marks.{specs.Touches.{Touch, touch_by, touch_of, touches_of}, proofs.VisitLaws.{touches_on}}
+use Rattle.loop_inspector.specs.{declared.reach.Span.{Span}, Reach.{Misses}, Open.{IsInSome}}
+use Rattle.loop_inspector.specs.Slices.{taken_by, with_number, IsNeeded, IsChangeAt, IsClosed, IsCut, AreCuts}
+use Rattle.loop_inspector.proofs.{FrameNumbers.{AreBytes}, SameLanes.{all_by, same_value, same_effects}}
+use Rattle.loop_inspector.proofs.Values.{values_with, are_values_with, same_given}
+use Rattle.loop_inspector.proofs.Deeds.{HasEffect, effect_of, effect_or_none, touches_here, no_effects, with_first}
+use Rattle.loop_inspector.proofs.Deeds.{action_of_first}
+
+-- the values of a list in a lane of which a slice has some
+pub record Extended (list : List RowOp) (needed : List Bool) (index : ℕ) (caller words cut_values : List ℕ)
+    : Type 0 where
+  pub values : List ℕ
+  pub are : AreValues list index caller words values
+  pub same : (k : ℕ) → IsNeeded needed k → slice_index values k ≡ slice_index cut_values k
+
+abbrev flag : Option Bool → Bool
+flag None = false
+flag (Some b) = b
+
+is_flag : (o : Option Bool) → flag o ≡ true → o ≡ Some true
+is_flag None is = absurd (cc is)
+is_flag (Some b) is = ap (λ (x : Bool). Some x) is
+
+-- a slice has something for each operation
+cut_at : (list cuts : List RowOp) → length cuts ≡ length list → (k : ℕ) (op : RowOp) → slice_get list k ≡ Some op
+    → (cut : RowOp) × (slice_get cuts k ≡ Some cut)
+cut_at list cuts count k op there = (
+  get_or cuts k op,
+  slice_get-get_or cuts k op
+      (subst (λ (n : ℕ). k < n) (sym count) (slice_get_within list k op there)),
+)
+
+abbrev is_given : List Bool → ℕ → Bool
+is_given needed k = flag (slice_get needed k)
+
+pub extended : ResultsFit → (sites : List Site) (spans : List Span) (needed : List Bool) (number : ℕ)
+    (list cuts : List RowOp) → IsOrdered list → AreCuts sites spans needed number list cuts
+    → (index : ℕ) (caller words : List ℕ) → AreBytes caller → AreWords words → index < 2 ^ 64 → (cut_values : List ℕ)
+    → AreValues cuts index caller words cut_values → Extended list needed index caller words cut_values
+extended fits sites spans needed number list cuts ordered cut index caller words bytes fit low cut_values are = record {
+  values = all;
+  are = are_values_with fits index caller words (is_given needed) cut_values bytes fit low are.fit list ordered right;
+  same = λ k is. same k (ap flag is);
+}
+  where
+    all : List ℕ
+    all = values_with fits index caller words (is_given needed) cut_values list
+
+    same : (k : ℕ) → is_given needed k ≡ true → slice_index all k ≡ slice_index cut_values k
+    same k is = same_given fits index caller words (is_given needed) cut_values list k is
+
+    by_cut : (k : ℕ) (op made : RowOp) → IsNeeded needed k → IsCut sites spans needed k number op made
+        → IsRowValue made index caller cut_values words (slice_index cut_values k)
+        → IsRowValue op index caller all words (slice_index cut_values k)
+    by_cut k op made need (inl whole) is =
+        same_value op index caller words cut_values all (slice_index cut_values k)
+        (all_by (taken_by op) (λ j has. sym (same j (ap flag has))) whole.takes)
+        (subst (λ (o : RowOp). IsRowValue o index caller cut_values words (slice_index cut_values k)) whole.same is)
+    by_cut k op made need (inr (inl change)) is = absurd (change.unneeded need)
+    by_cut k op made need (inr (inr nothing)) is = absurd (nothing.unneeded need)
+
+    right : (k : ℕ) (op : RowOp) → slice_get list k ≡ Some op → is_given needed k ≡ true
+        → IsRowValue op index caller all words (slice_index cut_values k)
+    right k op there is =
+        let made = cut_at list cuts cut.count k op there in
+        by_cut k op made.0 (is_flag (slice_get needed k) is) (cut.each k op made.0 there made.1)
+        (are.each k made.0 made.1)
+
+-- accesses of a lane without those that a slice leaves out: they touch what the slice's lane touches, and at open
+-- elements they are all
+pub record Survivors (spans : List Span) (list cuts : List RowOp) (words values cut_values : List ℕ) : Type 0 where
+  pub made : List Access
+  pub touches : touches_of made ≡ map touch_by (effects_by cuts cut_values words)
+  pub at_open : (e : ℕ) → IsInSome spans e
+      → actions_at e made ≡ actions_at e (accesses_on words (effects_by list values words))
+
+-- stores and reductions of other numbers touch the same
+abbrev SameKind : (one other : Request) → Type 0
+SameKind one other = (word : ℕ) → kind_of_deed (deed_of one word) ≡ kind_of_deed (deed_of other word)
+
+stores_alike : (part : Part) (n m : ℕ) → SameKind (store_of part n) (store_of part m)
+stores_alike Whole n m word = refl
+stores_alike (Of half) n m word = refl
+
+updates_alike : (part : Part) (op : SimpleOp) (n m : ℕ) → SameKind (update_of part op n) (update_of part op m)
+updates_alike Whole op n m word = refl
+updates_alike (Of half) op n m word = refl
+
+abbrev touched : Bool → (mask byte : ℕ) → Request → (words : List ℕ) → List Touch
+touched there mask byte request words =
+    map touch_by (effects_if there (record { mask = mask; byte = byte; request = request }) words)
+
+touch_alike : (there : Bool) (mask byte : ℕ) (one other : Request) (words : List ℕ) → SameKind one other
+    → touched there mask byte one words ≡ touched there mask byte other words
+touch_alike false mask byte one other words same = refl
+touch_alike true mask byte one other words same =
+    ap (λ (kind : Kind). record { element = byte / 8; kind = kind } ∷ []) (same (slice_index words (byte / 8)))
+
+abbrev touches_at : RowOp → (values words : List ℕ) → List Touch
+touches_at op values words = map touch_by (row_effects op values words)
+
+module _ (needed : List Bool) (words values cut_values : List ℕ)
+    (same : (k : ℕ) → IsNeeded needed k → slice_index values k ≡ slice_index cut_values k) where
+  change_at : (mask address number value : ℕ) (offset : ℤ) (request : (byte n : ℕ) → Request)
+      → IsNeeded needed mask × IsNeeded needed address
+      → ((byte n m : ℕ) → SameKind (request byte n) (request byte m))
+      → touched (is_in cut_values mask) mask (byte_named (slice_index cut_values address) offset)
+      (request (byte_named (slice_index cut_values address) offset) (slice_index cut_values number)) words
+      ≡ touched (is_in values mask) mask (byte_named (slice_index values address) offset)
+      (request (byte_named (slice_index values address) offset) (slice_index values value)) words
+  change_at mask address number value offset request needs alike =
+      let byte = byte_named (slice_index values address) offset in
+      let n = slice_index cut_values number in
+      sym (ap₂ (λ (m a : ℕ). touched (m == 1) mask (byte_named a offset) (request (byte_named a offset) n) words)
+      (same mask needs.0) (same address needs.1))
+      ∙ touch_alike (is_in values mask) mask byte (request byte n) (request byte (slice_index values value)) words
+      (alike byte n (slice_index values value))
+
+  change_touches : (op : RowOp) (number : ℕ) → IsChangeAt needed op
+      → touches_at (with_number op number) cut_values words ≡ touches_at op values words
+  change_touches (Store mask width address offset value) number needs =
+      change_at mask address number value offset (λ byte n. store_of (part_named width byte) n) needs
+      (λ byte n m. stores_alike (part_named width byte) n m)
+  change_touches (Reduce mask width op address offset value) number needs =
+      change_at mask address number value offset (λ byte n. update_of (part_named width byte) op n) needs
+      (λ byte n m. updates_alike (part_named width byte) op n m)
+  change_touches _ number needs = absurd needs
+
+-- accesses that touch this, and are all those of effects at open elements
+record Keeps (spans : List Span) (touches : List Touch) (effects : List Effect) (now : List ℕ) : Type 0 where
+  made : List Access
+  touch : touches_of made ≡ touches
+  at_open : (e : ℕ) → IsInSome spans e → actions_at e made ≡ actions_at e (accesses_on now effects)
+
+both_kept : (spans : List Span) (one two : List Touch) (effects more : List Effect) (now : List ℕ)
+    → Keeps spans one effects now → Keeps spans two more (words_after_all (accesses_on now effects) now)
+    → Keeps spans (one ++ two) (effects ++ more) now
+both_kept spans one two effects more now first rest =
+    let then = accesses_on (words_after_all (accesses_on now effects) now) more in
+    record {
+      made = first.made ++ rest.made;
+      touch = map-append touch_of first.made rest.made ∙ ap₂ (λ (a b : List Touch). a ++ b) first.touch rest.touch;
+      at_open = λ e is. actions_at-append e first.made rest.made
+          ∙ ap₂ (λ (a b : List Action). a ++ b) (first.at_open e is) (rest.at_open e is)
+          ∙ sym (ap (actions_at e) (accesses_both now effects more)
+          ∙ actions_at-append e (accesses_on now effects) then);
+    }
+
+module _ (sites : List Site) (spans : List Span) (needed : List Bool) (number : ℕ) (words values cut_values : List ℕ)
+    (same : (k : ℕ) → IsNeeded needed k → slice_index values k ≡ slice_index cut_values k)
+    (clear : (k : ℕ) (site : Site) → slice_get sites k ≡ Some site → (e : ℕ) → Misses site e → Touches site.op values e
+    → ⊥) where
+  abbrev KeepsOp : (op cut : RowOp) → (now : List ℕ) → Type 0
+  KeepsOp op cut now = Keeps spans (touches_at cut cut_values words) (row_effects op values words) now
+
+  -- an operation that touches the same
+  all_kept : (op cut : RowOp) (now : List ℕ) → touches_at op values words ≡ touches_at cut cut_values words
+      → KeepsOp op cut now
+  all_kept op cut now alike = record {
+    made = accesses_on now (row_effects op values words);
+    touch = touches_on (row_effects op values words) now ∙ alike;
+    at_open = λ e is. refl;
+  }
+
+  -- one that touches no open element
+  none_kept : (op : RowOp) (now : List ℕ) → (is_access op ≡ true → IsClosed sites spans op) → KeepsOp op (Number 0) now
+  none_kept op now closed = record {
+    made = [];
+    touch = refl;
+    at_open = λ e is. sym (by_kind e is (is_access op) refl);
+  }
+    where
+      by_place : (e : ℕ) (has : HasEffect op values words) (here : Bool) → (has.access.byte / 8 == e) ≡ here
+          → (Touches op values e → ⊥) → actions_at e (accesses_on now (effect_of has.access words ∷ [])) ≡ []
+      by_place e has true at never = absurd (never (touches_here values words e op has at))
+      by_place e has false at never =
+          ap (λ (b : Bool). with_first values words e b (action_of_first values words e has now) []) at
+
+      by_effect : (e : ℕ) → (row_effects op values words ≡ []) ⊎ HasEffect op values words
+          → (Touches op values e → ⊥) → actions_at e (accesses_on now (row_effects op values words)) ≡ []
+      by_effect e (inl none) never = ap (λ (effects : List Effect). actions_at e (accesses_on now effects)) none
+      by_effect e (inr has) never =
+          ap (λ (effects : List Effect). actions_at e (accesses_on now effects)) has.effects
+          ∙ by_place e has (has.access.byte / 8 == e) refl never
+
+      by_kind : (e : ℕ) → IsInSome spans e → (b : Bool) → is_access op ≡ b
+          → actions_at e (accesses_on now (row_effects op values words)) ≡ []
+      by_kind e is false h =
+          ap (λ (effects : List Effect). actions_at e (accesses_on now effects)) (no_effects op values words h)
+      by_kind e is true h =
+          let site = closed h in
+          by_effect e (effect_or_none op values words)
+          (λ touch. clear site.k site.site site.there e (site.avoids e is)
+          (subst (λ (o : RowOp). Touches o values e) (sym site.same) touch))
+
+  op_kept : (k : ℕ) (op cut : RowOp) (now : List ℕ) → IsCut sites spans needed k number op cut → KeepsOp op cut now
+  op_kept k op cut now (inl whole) =
+      subst (λ (c : RowOp). KeepsOp op c now) (sym whole.same)
+      (all_kept op op now (ap (map touch_by)
+      (same_effects op words values cut_values (all_by (taken_by op) same whole.takes))))
+  op_kept k op cut now (inr (inl change)) =
+      subst (λ (c : RowOp). KeepsOp op c now) (sym change.same)
+      (all_kept op (with_number op number) now
+      (sym (change_touches needed words values cut_values same op number change.change)))
+  op_kept k op cut now (inr (inr nothing)) =
+      subst (λ (c : RowOp). KeepsOp op c now) (sym nothing.same) (none_kept op now nothing.closed)
+
+  -- each is cut so, at some place
+  abbrev AreCut : (list cuts : List RowOp) → Type 0
+  AreCut list cuts = (j : ℕ) (op cut : RowOp) → slice_get list j ≡ Some op → slice_get cuts j ≡ Some cut
+      → (k : ℕ) × IsCut sites spans needed k number op cut
+
+  list_kept : (list cuts : List RowOp) → length cuts ≡ length list → AreCut list cuts → (now : List ℕ)
+      → Keeps spans (map touch_by (effects_by cuts cut_values words)) (effects_by list values words) now
+  list_kept [] [] count are now = record { made = []; touch = refl; at_open = λ e is. refl }
+  list_kept [] (cut ∷ cuts) count are now = absurd (cc count)
+  list_kept (op ∷ list) [] count are now = absurd (cc count)
+  list_kept (op ∷ list) (cut ∷ cuts) count are now =
+      let on = words_after_all (accesses_on now (row_effects op values words)) now in
+      let one = are 0 op cut refl refl in
+      let fewer : length cuts ≡ length list = omega (arith, count) in
+      subst (λ (t : List Touch). Keeps spans t (effects_by (op ∷ list) values words) now)
+      (sym (map-append touch_by (row_effects cut cut_values words) (effects_by cuts cut_values words)))
+      (both_kept spans (touches_at cut cut_values words) (map touch_by (effects_by cuts cut_values words))
+      (row_effects op values words) (effects_by list values words) now (op_kept one.0 op cut now one.1)
+      (list_kept list cuts fewer (λ j o c here there. are (suc j) o c here there) on))
+
+pub survivors : (sites : List Site) (spans : List Span) (needed : List Bool) (number : ℕ) (list cuts : List RowOp)
+    → AreCuts sites spans needed number list cuts → (words values cut_values : List ℕ)
+    → ((k : ℕ) → IsNeeded needed k → slice_index values k ≡ slice_index cut_values k)
+    → ((k : ℕ) (site : Site) → slice_get sites k ≡ Some site → (e : ℕ) → Misses site e → Touches site.op values e → ⊥)
+    → Survivors spans list cuts words values cut_values
+survivors sites spans needed number list cuts are words values cut_values same clear =
+    let kept = list_kept sites spans needed number words values cut_values same clear list cuts are.count
+    (λ j op cut here there. (j, are.each j op cut here there)) words in
+    record { made = kept.made; touches = kept.touch; at_open = kept.at_open }

@@ -1,0 +1,5 @@
+pub mod Independent
+pub mod Reach
+pub mod Open
+pub mod Slices
+pub mod Inspections

@@ -1,0 +1,103 @@
+-- Slices of lists: what says where iterations access open elements, and what they return.
+use Rattle.std.specs.Prelude.{◌≡◌, ℕ, ◌<◌, ◌^◌, ◌⊎◌, Bool, true, List, [], ◌∷◌, Some, length, slice_get}
+use Rattle.std.specs.List.{AllByRecursion}
+use Rattle.row_list.specs.declared.row_op.RowOp.{RowOp}
+use Rattle.row_list.specs.declared.row_op.RowOp.TheVariants.{All, Number, Caller, Index, Alu, Neg, Movsx, Endian, Found}
+use Rattle.row_list.specs.declared.row_op.RowOp.TheVariants.{Holds, Without, Either, Choice, Load, Store, Reduce, Fetch}
+use Rattle.row_facts.specs.{declared.site.Site.{Site}, Sites.{is_access}, Lists.{AreListSites}}
+use Rattle.loop_inspector.specs.declared.{reach.Span.{Span}, slice.Slice.{Slice}}
+use Rattle.loop_inspector.specs.{Reach.{Misses}, Open.{IsInSome}}
+
+-- the values that an operation takes
+abbrev pub taken_by : RowOp → List ℕ
+taken_by All = []
+taken_by (Number n) = []
+taken_by (Caller size extension position) = []
+taken_by Index = []
+taken_by (Alu width op first second) = first ∷ second ∷ []
+taken_by (Neg width value) = value ∷ []
+taken_by (Movsx width bits value) = value ∷ []
+taken_by (Endian order bits value) = value ∷ []
+taken_by (Found first count key) = key ∷ []
+taken_by (Holds mask width compare first second) = mask ∷ first ∷ second ∷ []
+taken_by (Without mask other) = mask ∷ other ∷ []
+taken_by (Either first second) = first ∷ second ∷ []
+taken_by (Choice mask first second) = mask ∷ first ∷ second ∷ []
+taken_by (Load mask width extension address offset) = mask ∷ address ∷ []
+taken_by (Store mask width address offset value) = mask ∷ address ∷ value ∷ []
+taken_by (Reduce mask width op address offset value) = mask ∷ address ∷ value ∷ []
+taken_by (Fetch mask width op address offset value compare) = mask ∷ address ∷ value ∷ compare ∷ []
+
+-- a value is needed
+abbrev pub IsNeeded : List Bool → (k : ℕ) → Type 0
+IsNeeded needed k = slice_get needed k ≡ Some true
+
+-- a store or a reduction of another number at the same place
+abbrev pub with_number : RowOp → (number : ℕ) → RowOp
+with_number (Store mask width address offset value) number = Store mask width address offset number
+with_number (Reduce mask width op address offset value) number = Reduce mask width op address offset number
+with_number op number = op
+
+-- an operation is a store or a reduction, and what says where it is made is needed
+abbrev pub IsChangeAt : List Bool → RowOp → Type 0
+IsChangeAt needed (Store mask width address offset value) = IsNeeded needed mask × IsNeeded needed address
+IsChangeAt needed (Reduce mask width op address offset value) = IsNeeded needed mask × IsNeeded needed address
+IsChangeAt needed op = ⊥
+
+-- no byte of a site is of an open element
+abbrev pub AvoidsOpen : List Span → Site → Type 0
+AvoidsOpen spans site = (e : ℕ) → IsInSome spans e → Misses site e
+
+-- an operation is an access at a site that avoids open elements
+pub record IsClosed (sites : List Site) (spans : List Span) (op : RowOp) : Type 0 where
+  pub k : ℕ
+  pub site : Site
+  pub there : slice_get sites k ≡ Some site
+  pub same : site.op ≡ op
+  pub avoids : AvoidsOpen spans site
+
+-- what a slice has for an operation: itself, where its value is needed; the access with any number, where it leaves
+-- something; and nothing where its value isn't needed, and it is no access or a closed one
+pub record IsWhole (needed : List Bool) (op cut : RowOp) : Type 0 where
+  pub same : cut ≡ op
+  pub takes : AllByRecursion (IsNeeded needed) (taken_by op)
+
+pub record IsChange (needed : List Bool) (k number : ℕ) (op cut : RowOp) : Type 0 where
+  pub same : cut ≡ with_number op number
+  pub change : IsChangeAt needed op
+  pub unneeded : IsNeeded needed k → ⊥
+
+pub record IsNothing (sites : List Site) (spans : List Span) (needed : List Bool) (k : ℕ) (op cut : RowOp) : Type 0 where
+  pub same : cut ≡ Number 0
+  pub unneeded : IsNeeded needed k → ⊥
+  pub closed : is_access op ≡ true → IsClosed sites spans op
+
+abbrev pub IsCut : List Site → List Span → List Bool → (k number : ℕ) → (op cut : RowOp) → Type 0
+IsCut sites spans needed k number op cut =
+    IsWhole needed op cut ⊎ (IsChange needed k number op cut ⊎ IsNothing sites spans needed k op cut)
+
+-- flags say which operations may access an open element
+abbrev pub AreOpens : List Site → List Span → List RowOp → List Bool → Type 0
+AreOpens sites spans ops opens = (k : ℕ) (op : RowOp) → slice_get ops k ≡ Some op → is_access op ≡ true
+    → slice_get opens k ≡ Some true ⊎ IsClosed sites spans op
+
+-- operations are those of a list, each cut
+pub record AreCuts (sites : List Site) (spans : List Span) (needed : List Bool) (number : ℕ) (list cuts : List RowOp)
+    : Type 0 where
+  pub count : length cuts ≡ length list
+  pub each : (k : ℕ) (op cut : RowOp) → slice_get list k ≡ Some op → slice_get cuts k ≡ Some cut →
+      IsCut sites spans needed k number op cut
+
+-- a slice of a list for open elements: its operations are cut, and the result is needed
+pub record IsSlice (sites : List Site) (spans : List Span) (list : List RowOp) (result : ℕ) (slice : Slice) : Type 0 where
+  pub needed : List Bool
+  pub result_needed : IsNeeded needed result
+  pub cuts : AreCuts sites spans needed result list slice.list.list.items
+  pub result_is : slice.list.result ≡ result
+  pub listed : AreListSites slice.list.list.items slice.sites
+
+-- the numbers of an operation are as small as their types say
+abbrev pub NumbersFit : RowOp → Type 0
+NumbersFit (Number n) = n < 2 ^ 64
+NumbersFit (Found first count key) = (first < 2 ^ 32) × (count < 2 ^ 32)
+NumbersFit op = Unit {0}
