@@ -6,7 +6,7 @@ use Rattle.bpf_insn_types.specs.{Values.{AreInsns}, declared.insn.Insn.{Insn}, P
 use Rattle.bpf_insn_types.specs.WordBounds.{ResultsFit}
 use Rattle.bpf_verify_model.specs.Flow.{flow}
 use Rattle.bpf_step_model.specs.{State.{Machine}, SoundMachine.{SoundMachine}, ProgramInOrder.{resumed}}
-use Rattle.bpf_step_model.specs.Step.{StepOutcome, Loops, within_function, insn_step, insn_step_if_any, step}
+use Rattle.bpf_step_model.specs.Step.{StepOutcome, Loops, step}
 use Rattle.bpf_verify_sound.{specs.Ways.{GoesBy}, proofs.Tests.{and-two}}
 use Rattle.bpf_verify_origin.specs.declared.inflow.Inflow.{Inflow, TheVariants.{Nowhere, One, Several}}
 use Rattle.bpf_verify_origin.specs.declared.source.Source.{Source, TheVariants.{Start, Written, Entered}}
@@ -14,31 +14,21 @@ use Rattle.bpf_verify_origin.specs.{Edges.{inflow}, Sources.{source_back, source
 use Rattle.bpf_verify_origin.specs.Sources.{writes_register, is_call, source_by_insn, or_earlier, source_by_inflow}
 use Rattle.bpf_verify_origin.{specs.Runs.{GoesOnTo, Enters, ComesTo}, proofs.FaultLaws.{starts-within}}
 use Rattle.bpf_verify_origin.specs.RunSources.{writes_if_any, ComesFrom, IsSourceBefore, SourcesHold, EachSourceHolds}
-use Rattle.bpf_verify_origin.proofs.OutcomeForms.{outcome-goes, outcome-enters, within-goes, within-enters, Behind}
-use Rattle.bpf_verify_origin.proofs.{OutcomeForms.{CallsLoop, insn_step-does}, EdgeLaws.{Includes, inflow-includes}}
+use Rattle.bpf_verify_origin.proofs.OutcomeForms.{outcome-goes, outcome-enters, Behind}
+use Rattle.bpf_verify_origin.proofs.{OutcomeForms.{CallsLoop, step-does}, EdgeLaws.{Includes, inflow-includes}}
 use Rattle.bpf_verify_origin.proofs.{SourceLaws.{among-suc}, RunLaws.{Flows, LastStep, goes-by, last-step}}
-
--- the step at an instruction
-step-is : (program : Program) (m : Machine) (insn : Insn) → insn_at program.insns m.slot ≡ Some insn
-    → step program m ≡ within_function program m.slot (insn_step program m insn)
-unfolding step
-step-is program m insn here = ap (insn_step_if_any program m) here
 
 goes-behind : (program : Program) (before m : Machine) (insn : Insn) (reg : ℕ)
     → insn_at program.insns before.slot ≡ Some insn → GoesOnTo (step program before) m → Behind insn reg before m
 goes-behind program before m insn reg here goes =
-    outcome-goes (CallsLoop insn before) (Behind insn reg before) (insn_step program before insn) m
-    (insn_step-does program before insn reg)
-    (within-goes program before.slot (insn_step program before insn) m
-    (subst (λ (move : StepOutcome). GoesOnTo move m) (step-is program before insn here) goes))
+    outcome-goes (CallsLoop insn before) (Behind insn reg before) (step program before) m
+    (step-does program before insn reg here) goes
 
 enters-calls : (program : Program) (before m : Machine) (insn : Insn) → insn_at program.insns before.slot ≡ Some insn
     → Enters (step program before) m → CallsLoop insn before
 enters-calls program before m insn here enters =
-    outcome-enters (CallsLoop insn before) (Behind insn 0 before) (insn_step program before insn) m
-    (insn_step-does program before insn 0)
-    (within-enters program before.slot (insn_step program before insn) m
-    (subst (λ (move : StepOutcome). Enters move m) (step-is program before insn here) enters))
+    outcome-enters (CallsLoop insn before) (Behind insn 0 before) (step program before) m
+    (step-does program before insn 0 here) enters
 
 -- where a loop call enters its callback, main goes on too, and the callback has a caller
 record Resumes (move : StepOutcome) (m : Machine) : Type 0 where

@@ -1,29 +1,30 @@
 -- Atomic operations go on within the abstract states.
-use Rattle.std.proofs.Common.{◌≡◌, ℕ, ◌+◌, ◌<◌, ◌≤◌, ◌^◌, Bool, true, false, not, Option, Some, None, refl, sym, ap}
-use Rattle.std.{proofs.Common.{subst, arith}, specs.Prelude.{ℤ, if◌then◌else◌}}
-use Rattle.bpf_insn_types.specs.{Sizes.{atomic_bytes}, declared.insn.Width.{Width, TheVariants.{W32, W64}}}
-use Rattle.bpf_insn_types.specs.{declared.insn.{AtomicOp.{AtomicOp}, Insn.TheVariants.{Atomic}}, Words.{modulus}}
+use Rattle.std.{proofs.{lemmas.Bool.Decides.{nat_tests}, Common.{arith}}, specs.Prelude.{ℤ, if◌then◌else◌}}
+use Rattle.std.proofs.Common.{◌≡◌, ℕ, ◌+◌, ◌<◌, ◌≤◌, ◌^◌, Bool, true, false, not, Option, Some, None, refl, sym, subst}
+use Rattle.bpf_insn_types.specs.{Sizes.{atomic_bytes}, declared.insn.Width.{Width}, declared.insn.AtomicOp.{AtomicOp}}
+use Rattle.bpf_insn_types.specs.{declared.insn.Width.TheVariants.{W32, W64}, declared.insn.Insn.TheVariants.{Atomic}}
+use Rattle.bpf_insn_types.specs.{Words.{modulus}, Program.{Program, leads_to}}
 use Rattle.bpf_insn_types.specs.declared.insn.AtomicOp.TheVariants.{Simple, Fetch as FetchOp, Xchg as XchgOp, Cmpxchg}
-use Rattle.bpf_insn_types.specs.Program.{Program, leads_to}
-use Rattle.array_maps.specs.{declared.access.Part.{Part, TheVariants.{Whole, Half as Of}}, Halves.{part_of}}
+use Rattle.array_maps.specs.{declared.access.Part.{Part}, declared.access.Part.TheVariants.{Whole, Half as Of}}
+use Rattle.array_maps.specs.Halves.{part_of}
 use Rattle.value_range.{specs.Spans.{top}, proofs.SpanLaws.{top-contains}}
-use Rattle.bpf_verify_model.specs.declared.{abstract_value.AbstractValue.{AbstractValue}, state.State.{State}}
-use Rattle.bpf_verify_model.specs.declared.memory_access.{MemoryAccess.{MemoryAccess}, AccessKind.TheVariants.{Changes}}
-use Rattle.bpf_verify_model.specs.{States.{known_register, with_known}, Values.{is_number_value}}
-use Rattle.bpf_verify_model.specs.Accesses.{has_unwritten_byte, is_ctx}
+use Rattle.bpf_verify_model.specs.declared.abstract_value.AbstractValue.{AbstractValue}
+use Rattle.bpf_verify_model.specs.{declared.state.State.{State}, Flow.{with_fetched, ahead_outflow, flow, known_behind}}
+use Rattle.bpf_verify_model.specs.declared.memory_access.MemoryAccess.{MemoryAccess}
+use Rattle.bpf_verify_model.specs.{declared.memory_access.AccessKind.TheVariants.{Changes}, Values.{is_number_value}}
+use Rattle.bpf_verify_model.specs.{States.{known_register, with_known}, Accesses.{has_unwritten_byte, is_ctx}}
 use Rattle.bpf_verify_model.specs.Rules.{fetches_into_r10, compares_with_no_number}
-use Rattle.bpf_verify_model.specs.Flow.{with_fetched, ahead_outflow, flow, known_behind}
 use Rattle.bpf_verify_model.specs.declared.abstract_value.AbstractValue.TheVariants as known
 use Rattle.bpf_step_model.specs.State.{Value, Word, Machine, register, advanced, with_register, with_frame}
 use Rattle.bpf_step_model.specs.Memory.{Place, InFrame, InMap, written_at, number_at, place}
-use Rattle.bpf_step_model.specs.{SoundMachine.{SoundMachine}, Step.{may_tell, compared_value, insn_step}}
-use Rattle.bpf_step_model.specs.Step.{NoStep, tells, atomic_left, changes_frame, request_of, changes_at, changes}
-use Rattle.bpf_step_model.specs.Run.{after_request, part_bytes}
-use Rattle.bpf_verify_sound.specs.{Containment.{ContainsValue, Contained}, KnownStates.{IsWellFormedState}}
-use Rattle.bpf_verify_sound.{specs.{Standing.{KeepsRules}, Ways.{GoesBy, StepFlows}}, proofs.RegisterLaws.{contain-set}}
-use Rattle.bpf_verify_sound.proofs.{ByteLaws.{IsNumberOf, write-unknown}, PlaceLaws.{PlaceIs}, AccessLaws.{accesses}}
-use Rattle.bpf_verify_sound.proofs.{Operands.{register-known}, Loads.{part-below, own-number}, Stores.{same-ahead}}
-use Rattle.bpf_verify_sound.proofs.Moves.{follows-on, ahead-goes}
+use Rattle.bpf_step_model.specs.SoundMachine.{SoundMachine}
+use Rattle.bpf_step_model.specs.Step.{may_tell, compared_value, insn_step, NoStep, tells, atomic_left, changes_frame}
+use Rattle.bpf_step_model.specs.{Step.{request_of, changes_at, changes}, Run.{after_request, part_bytes}}
+use Rattle.bpf_verify_sound.{specs.Containment.{ContainsValue, Contained}, proofs.ByteLaws.{IsNumberOf, write-unknown}}
+use Rattle.bpf_verify_sound.{specs.KnownStates.{IsWellFormedState}, proofs.Loads.{part-below, own-number}}
+use Rattle.bpf_verify_sound.{specs.Standing.{KeepsRules}, proofs.Stores.{same-ahead}}
+use Rattle.bpf_verify_sound.{specs.Ways.{GoesBy, StepFlows}, proofs.{AccessLaws.{accesses}, Operands.{register-known}}}
+use Rattle.bpf_verify_sound.proofs.{RegisterLaws.{contain-set}, PlaceLaws.{PlaceIs}, Moves.{follows-on, ahead-goes}}
 use Rattle.bpf_verify_sound.proofs.Tests.{not-not-true, or-left, or-right, test-fails, test-later}
 
 -- a number of an atomic operation's size is one of its width
@@ -91,16 +92,8 @@ map-change program m state width (Simple op) src operand compare word Whole lead
     same-ahead program m state leads c
 map-change program m state width (Simple op) src operand compare word (Of half) leads c bytes w =
     same-ahead program m state leads c
-map-change program m state width (FetchOp op) src operand compare word part leads c bytes w =
-    tells-known program m (advanced 1 m) state width (FetchOp op) src (part_of part word) leads refl
-    (record { registers = c.registers; own = c.own; caller = c.caller })
-    (of-width width (part_of part word) (subst (λ (k : ℕ). part_of part word < 256 ^ k) bytes (part-below part word w)))
-map-change program m state width XchgOp src operand compare word part leads c bytes w =
-    tells-known program m (advanced 1 m) state width XchgOp src (part_of part word) leads refl
-    (record { registers = c.registers; own = c.own; caller = c.caller })
-    (of-width width (part_of part word) (subst (λ (k : ℕ). part_of part word < 256 ^ k) bytes (part-below part word w)))
-map-change program m state width Cmpxchg src operand compare word part leads c bytes w =
-    tells-known program m (advanced 1 m) state width Cmpxchg src (part_of part word) leads refl
+map-change program m state width op src operand compare word part leads c bytes w =
+    tells-known program m (advanced 1 m) state width op src (part_of part word) leads refl
     (record { registers = c.registers; own = c.own; caller = c.caller })
     (of-width width (part_of part word) (subst (λ (k : ℕ). part_of part word < 256 ^ k) bytes (part-below part word w)))
 
@@ -126,10 +119,7 @@ changes-flow program m state width op src operand compare offset x at leads c sp
 
 -- V11: R10 isn't told
 after_request-kept : (op : AtomicOp) (src : ℕ) → fetches_into_r10 op src ≡ false → may_tell op src ≡ true
-after_request-kept (Simple op) src e = refl
-after_request-kept (FetchOp op) src e = ap not e
-after_request-kept XchgOp src e = ap not e
-after_request-kept Cmpxchg src e = refl
+after_request-kept op src e = grind (arith, nat_tests)
 
 -- a number is a word
 pub number-word_of : (x : AbstractValue) (v : Value) → is_number_value x ≡ true → ContainsValue x v → (n : ℕ)

@@ -95,16 +95,13 @@ registers-follow : (state : State) (m : Machine) (width : Width) (compare : Comp
     register m dst ≡ Word n → register m r ≡ w → Contains a n → ContainsValue y w → is_number_value y ≡ true →
     WayFollows (register_branch state width compare dst r a y) (on_two_words width compare n w) m
 registers-follow state m width compare dst r a (known.Number b) n (Word k) i j c e f x y some =
-    by_test state m width compare dst r a b n k i j c e f x y (dst == r)
+    by_test (dst == r)
   where
-    by_test : (state : State) (m : Machine) (width : Width) (compare : Compare) (dst r : ℕ) (a b : Span) (n k : ℕ)
-        → IsSpan a → IsSpan b → Contained state m →
-        register m dst ≡ Word n → register m r ≡ Word k → Contains a n → Contains b k → (same : Bool) →
+    by_test : (same : Bool) →
         WayFollows (if same then unrefined_branch state else number_branch state width compare dst (Reg r) a b)
         (Some (holds width compare n k)) m
-    by_test state m width compare dst r a b n k i j c e f x y true = both-follow state m (holds width compare n k) c
-    by_test state m width compare dst r a b n k i j c e f x y false = numbers-follow state m width compare dst (Reg r) a
-        b n k i j c e f x y (holds width compare n k) refl
+    by_test true = both-follow state m (holds width compare n k) c
+    by_test false = numbers-follow state m width compare dst (Reg r) a b n k i j c e f x y _ refl
 registers-follow state m width compare dst r a (known.Number b) n w i j c e f x y some = absurd y
 registers-follow state m width compare dst r a y n w i j c e f x z some = absurd cc
 

@@ -1,22 +1,22 @@
 -- A run of an accepted program ends within the longest path from its slot on, and a callback's at an exit.
-use Rattle.std.proofs.Common.{◌≡◌, ℕ, zero, suc, ◌+◌, ◌<◌, ◌≤◌, ◌^◌, Bool, true, false, List, [], ◌∷◌, get_or, Option}
-use Rattle.std.{proofs.Common.{Some, None, is_some, refl, sym, ap, ◌∙◌, subst, arith}, specs.List.{sum}}
-use Rattle.std.{specs.Prelude.{◌==◌, slice_get, if◌then◌else◌}, proofs.lemmas.Bool.Decides.{nat_tests}}
-use Rattle.std.proofs.lemmas.Option.{slice_get-get_or}
+use Rattle.std.proofs.Common.{◌≡◌, ℕ, zero, suc, ◌+◌, ◌<◌, ◌≤◌, ◌^◌, true, false, List, [], ◌∷◌, get_or, Option, Some}
+use Rattle.std.proofs.{Common.{None, is_some, refl, sym, ap, ◌∙◌, subst, arith}, lemmas.Option.{slice_get-get_or}}
+use Rattle.std.{specs.{List.{sum}, Prelude.{◌==◌, slice_get}}, proofs.lemmas.Bool.Decides.{nat_tests}}
 use Rattle.array_maps.specs.Accesses.{Access, left_by, words_after}
-use Rattle.bpf_insn_types.specs.{declared.insn.Insn.{Insn}, Program.{Program, insn_at, slot_count, leads_to}}
-use Rattle.bpf_insn_types.specs.WordBounds.{ResultsFit}
-use Rattle.bpf_verify_model.{specs.Count.{JumpsForward, through}, proofs.JumpLaws.{jumps_forward}}
-use Rattle.bpf_verify_model.proofs.{LongestLaws.{longest-step}, PathLaws.{through-some}}
-use Rattle.bpf_step_model.specs.{State.{Bytes, Machine}, Run.{mapped, with_first_step, after_access, after_step, run}}
+use Rattle.bpf_insn_types.specs.{declared.insn.Insn.{Insn}, declared.insn.Insn.TheVariants.{Jump, Call, Exit, Atomic}}
+use Rattle.bpf_insn_types.specs.{Program.{Program, insn_at, slot_count}, WordBounds.{ResultsFit}, Slots.{slots_of}}
+use Rattle.bpf_verify_model.specs.{Count.{JumpsForward, through}, Rules.{jump_distance, jump_target, goes_on}}
+use Rattle.bpf_verify_model.proofs.{JumpLaws.{jumps_forward}, LongestLaws.{longest-step}, PathLaws.{through-some}}
+use Rattle.bpf_step_model.specs.{State.{Bytes, Machine}, Run.{after_access, after_step, run, BoundedResult, Ended}}
+use Rattle.bpf_step_model.specs.Run.{Stuck, Unfinished, RunSegment, after_request, action_of, mapped, with_first_step}
 use Rattle.bpf_step_model.specs.Step.{Request, Load, Store, StoreHalf, Update, Fetch, StepOutcome, NoStep, Next, Asks}
-use Rattle.bpf_step_model.specs.Step.{Loops, Refuses, Exits, within_function, insn_step, insn_step_if_any, step}
-use Rattle.bpf_step_model.specs.Run.{BoundedResult, Ended, Stuck, Unfinished, RunSegment, after_request, action_of}
+use Rattle.bpf_step_model.specs.Step.{Loops, Refuses, Exits, insn_step, insn_step_if_any, step, puts}
+use Rattle.bpf_step_model.specs.AtomicRegisters.{told_register}
 use Rattle.bpf_verify_sound.specs.Soundness.{IsSoundProgram, AreMapWords, OverApproximates, StepsOverApproximated}
 use Rattle.bpf_verify_sound.specs.Soundness.{most_from, most_after, EndsWithin, EndsAtExit}
-use Rattle.bpf_verify_sound.proofs.{RuleLaws.{accepted-within}, EntryLaws.{accepted-some}, Moves.{after_request-slot}}
-use Rattle.bpf_verify_sound.proofs.RunLaws.{step-known, word-at, words-known}
-use Rattle.bpf_verify_sound.proofs.CountForms.{IsNextSlot, through-next, MoveNext, IsReturn, insn_step-next}
+use Rattle.bpf_verify_sound.proofs.{RuleLaws.{accepted-within}, StepCases.{IsReturn, step-cases, within-case}}
+use Rattle.bpf_verify_sound.proofs.EntryLaws.{accepted-some}
+use Rattle.bpf_verify_sound.proofs.{Moves.{after_request-slot}, RunLaws.{step-known, word-at, words-known}}
 
 -- jumps of an accepted program lead forward
 forward : (program : Program) → IsSoundProgram program → JumpsForward program.insns
@@ -48,60 +48,66 @@ StepShorter program slot caller (Refuses call next) = (suc (most_from program ne
     × (caller ≡ None)
 StepShorter program slot caller (Exits ret) = (1 ≤ most_from program slot) × IsReturn caller ret
 
-next-shorter : (program : Program) → IsSoundProgram program → (slot : ℕ) (insn : Insn) (k : ℕ)
-    → insn_at program.insns slot ≡ Some insn → IsNextSlot slot insn k → suc (most_from program k) ≤ most_from program
-    slot
-next-shorter program sound slot insn k here next =
-    subst (λ (n : ℕ). suc (most_from program k) ≤ n) (sym (most-through program sound slot insn here))
-    (through-next (most_from program) slot insn k next)
+-- the path through an instruction is longer than the one from where it goes on, or from where it jumps
+through-goes : (f : ℕ → ℕ) (slot : ℕ) (insn : Insn) → goes_on insn ≡ true
+    → suc (f (slot + slots_of insn)) ≤ through f slot (Some insn)
+through-goes f slot insn goes = grind (arith, nat_tests)
 
-move-shorter : (program : Program) → IsSoundProgram program → (slot : ℕ) (insn : Insn) (caller : Option Bytes)
-    (move : StepOutcome) → insn_at program.insns slot ≡ Some insn → MoveNext slot insn caller move →
-    StepShorter program slot caller move
-move-shorter program sound slot insn caller NoStep here i = tt
-move-shorter program sound slot insn caller (Next next) here i =
-    (next-shorter program sound slot insn next.slot here i.0, i.1)
-move-shorter program sound slot insn caller (Asks element request next) here i =
-    (next-shorter program sound slot insn next.slot here i.0, i.1)
-move-shorter program sound slot insn caller (Loops call next) here i =
-    (next-shorter program sound slot insn next.slot here i.0, i.1)
-move-shorter program sound slot insn caller (Refuses call next) here i =
-    (next-shorter program sound slot insn next.slot here i.0, i.1)
-move-shorter program sound slot insn caller (Exits ret) here i = (
-  subst (λ (n : ℕ). 1 ≤ n) (sym (most-through program sound slot insn here)) (through-some (most_from program) slot
-      insn),
-  i,
-)
+through-jumps : (f : ℕ → ℕ) (slot : ℕ) (insn : Insn) (k : ℕ) → jump_target slot (jump_distance insn) ≡ Some k
+    → suc (f k) ≤ through f slot (Some insn)
+through-jumps f slot insn k e = grind (arith, nat_tests)
 
-shorter-if : (program : Program) (slot : ℕ) (caller : Option Bytes) (test : Bool) (move : StepOutcome)
-    → StepShorter program slot caller move → StepShorter program slot caller (if test then move else NoStep)
-shorter-if program slot caller true move i = i
-shorter-if program slot caller false move i = tt
+goes-shorter : (program : Program) → IsSoundProgram program → (slot : ℕ) (insn : Insn) → insn_at program.insns slot
+    ≡ Some insn → goes_on insn ≡ true → suc (most_from program (slot + slots_of insn)) ≤ most_from program slot
+goes-shorter program sound slot insn here goes =
+    omega (arith, most-through program sound slot insn here, through-goes (most_from program) slot insn goes)
 
-within_function-shorter : (program : Program) (slot : ℕ) (caller : Option Bytes) (move : StepOutcome)
-    → StepShorter program slot caller move → StepShorter program slot caller (within_function program slot move)
-within_function-shorter program slot caller NoStep i = tt
-within_function-shorter program slot caller (Next next) i =
-    shorter-if program slot caller (leads_to program.insns slot next.slot) (Next next) i
-within_function-shorter program slot caller (Asks element request next) i =
-    shorter-if program slot caller (leads_to program.insns slot next.slot) (Asks element request next) i
-within_function-shorter program slot caller (Loops call next) i =
-    shorter-if program slot caller (leads_to program.insns slot next.slot) (Loops call next) i
-within_function-shorter program slot caller (Refuses call next) i =
-    shorter-if program slot caller (leads_to program.insns slot next.slot) (Refuses call next) i
-within_function-shorter program slot caller (Exits ret) i = i
+told-shorter : (program : Program) (slot n : ℕ) (caller : Option Bytes) (told : Option ℕ) (m : Machine)
+    → StepShorter program slot caller (Next m) → StepShorter program slot caller (Next (puts told n m))
+told-shorter program slot n caller None m i = i
+told-shorter program slot n caller (Some r) m i = i
 
-insn-shorter : (program : Program) → IsSoundProgram program → (m : Machine) (o : Option Insn)
+insn-shorter : (program : Program) → IsSoundProgram program → (m : Machine) (insn : Insn)
+    → insn_at program.insns m.slot ≡ Some insn → StepShorter program m.slot m.caller (insn_step program m insn)
+insn-shorter program sound m insn =
+    let goes = λ (insn : Insn). goes-shorter program sound m.slot insn in
+    step-cases program m (λ insn move. insn_at program.insns m.slot ≡ Some insn
+    → StepShorter program m.slot m.caller move) (record {
+      stuck = λ insn here. tt;
+      sets = λ insn dst v into on e here. (goes insn here on, refl);
+      jumps = λ insn slot jump e here. (
+        omega (
+          arith,
+          most-through program sound m.slot insn here,
+          through-jumps (most_from program) m.slot insn slot e,
+        ),
+        refl,
+      );
+      falls = λ width compare dst operand offset here. (goes (Jump width compare dst operand offset) here refl, refl);
+      loads = λ insn element dst part extension into on here. (goes insn here on, refl);
+      stores = λ insn position size n on inside here. (goes insn here on, refl);
+      puts = λ insn element n part on e here. (goes insn here on, refl);
+      changes = λ width op dst src offset position operand compare old inside e here.
+          told-shorter program m.slot old m.caller (told_register op src) _
+          (goes (Atomic width op dst src offset) here refl, refl);
+      updates = λ width op dst src offset element operand compare part e here.
+          (goes (Atomic width op dst src offset) here refl, refl);
+      answers = λ kind imm map key v e there here. (goes (Call kind imm) here refl, refl);
+      refuses = λ kind imm count flags call main e here. (goes (Call kind imm) here refl, main);
+      loops = λ kind imm count flags start n ctx a e here. (goes (Call kind imm) here refl, a.main);
+      exits = λ n e bit here. (omega (arith, most-through program sound m.slot Exit here), bit);
+    }) insn
+
+by_insn : (program : Program) → IsSoundProgram program → (m : Machine) (o : Option Insn)
     → insn_at program.insns m.slot ≡ o → StepShorter program m.slot m.caller (insn_step_if_any program m o)
-insn-shorter program sound m None here = tt
-insn-shorter program sound m (Some insn) here =
-    within_function-shorter program m.slot m.caller (insn_step program m insn) (move-shorter program sound m.slot insn
-    m.caller (insn_step program m insn) here (insn_step-next program m insn))
+by_insn program sound m None here = tt
+by_insn program sound m (Some insn) here = within-case (StepShorter program m.slot m.caller) program m.slot _ tt
+    (λ leads. insn-shorter program sound m insn here)
 
 step-shorter : (program : Program) → IsSoundProgram program → (m : Machine) → StepShorter program m.slot m.caller
     (step program m)
 unfolding step
-step-shorter program sound m = insn-shorter program sound m (insn_at program.insns m.slot) refl
+step-shorter program sound m = by_insn program sound m (insn_at program.insns m.slot) refl
 
 -- a callback's return is a bit
 returns-bit : (caller : Option Bytes) (ret : ℕ) → is_some caller ≡ true → IsReturn caller ret → ret ≤ 1

@@ -2,14 +2,13 @@
 use Rattle.std.proofs.Common.{◌≡◌, ℕ, zero, suc, ◌≤◌, Bool, true, false, Option, Some, None, is_some, refl, sym, subst}
 use Rattle.std.{proofs.{Common.{arith}, lemmas.Bool.Decides.{nat_tests}}, specs.Prelude.{nat_lt, nat_le, if◌then◌else◌}}
 use Rattle.bpf_insn_types.specs.{declared.insn.Insn.TheVariants.{Exit}, Program.{Program, function_of}}
-use Rattle.bpf_verify_model.specs.declared.{abstract_value.AbstractValue.{AbstractValue}, outflow.Outflow.{Outflow}}
-use Rattle.bpf_verify_model.specs.{declared.{rule.Rule.{Rule}, state.State.{State}}, States.{known_register}}
-use Rattle.bpf_verify_model.specs.{Values.{is_number_value}, Rules.{is_bit, end_fault}, Flow.{flow}}
-use Rattle.bpf_verify_model.specs.declared.abstract_value.AbstractValue.TheVariants as known
-use Rattle.bpf_step_model.specs.{State.{Value, Word, Bytes, Machine, register}, SoundMachine.{SoundMachine}}
-use Rattle.bpf_step_model.specs.Step.{NoStep, Exits, ends_with, ends, insn_step}
-use Rattle.bpf_verify_sound.specs.{Containment.{ContainsValue, Contained}, Standing.{KeepsRules}, Ways.{StepFlows}}
-use Rattle.bpf_verify_sound.proofs.{Operands.{register-known}, AtomicForms.{number-word_of}}
+use Rattle.bpf_verify_model.specs.{declared.abstract_value.AbstractValue.{AbstractValue}, declared.state.State.{State}}
+use Rattle.bpf_verify_model.specs.{declared.outflow.Outflow.{Outflow}, declared.rule.Rule.{Rule}, Flow.{flow}}
+use Rattle.bpf_verify_model.specs.{States.{known_register}, Values.{is_number_value}, Rules.{is_bit, end_fault}}
+use Rattle.bpf_step_model.specs.State.{Value, Word, Bytes, Machine, register}
+use Rattle.bpf_step_model.specs.{SoundMachine.{SoundMachine}, Step.{NoStep, Exits, ends_with, ends, insn_step}}
+use Rattle.bpf_verify_sound.{specs.Containment.{ContainsValue, Contained}, proofs.AtomicForms.{number-word_of}}
+use Rattle.bpf_verify_sound.{specs.{Standing.{KeepsRules}, Ways.{StepFlows}}, proofs.Operands.{register-known}}
 
 kept : (test : Bool) (rule : Rule) → (if test then None else Some rule) ≡ None → test ≡ true
 kept true rule e = refl
@@ -17,18 +16,14 @@ kept false rule e = absurd cc
 
 -- a bit is a number
 bit-number : (x : AbstractValue) → is_bit x ≡ true → is_number_value x ≡ true
-bit-number (known.Number a) e = refl
-bit-number x e = absurd cc
+bit-number x e = grind (arith, nat_tests)
 
 end-number : (function : ℕ) (x : AbstractValue) → end_fault function x ≡ None → is_number_value x ≡ true
 end-number zero x e = kept (is_number_value x) _ e
 end-number (suc f) x e = bit-number x (kept (is_bit x) _ e)
 
 bit-small : (x : AbstractValue) (n : ℕ) → is_bit x ≡ true → ContainsValue x (Word n) → n ≤ 1
-bit-small (known.Number a) n e c =
-    let most : a.hi ≤ 1 = grind (arith, nat_tests) in
-    omega (arith, c.below)
-bit-small x n e c = absurd cc
+bit-small x n e c = grind (arith, nat_tests)
 
 small-ends : (program : Program) (slot : ℕ) (out : Outflow) (n : ℕ) (test : Bool) → test ≡ true
     → StepFlows program slot out (if test then Exits n else NoStep)

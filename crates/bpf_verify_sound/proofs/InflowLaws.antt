@@ -22,24 +22,22 @@ joined_with-second (Some known) state m c = states-second known state m c
 received-keeps : (slot : ℕ) (before : Option State) (edge : Option Edge) (m : Machine) → ContainedIf before m
     → ContainedIf (received slot before edge) m
 received-keeps slot before None m c = c
-received-keeps slot before (Some edge) m c = by_test slot before edge m c (edge.target == slot)
+received-keeps slot before (Some edge) m c = by_test (edge.target == slot)
   where
-    by_test : (slot : ℕ) (before : Option State) (edge : Edge) (m : Machine) → ContainedIf before m → (test : Bool) →
-        ContainedIf (if test then joined_with before edge.state else before) m
-    by_test slot before edge m c true = joined_with-first before edge.state m c
-    by_test slot before edge m c false = c
+    by_test : (test : Bool) → ContainedIf (if test then joined_with before edge.state else before) m
+    by_test true = joined_with-first before edge.state m c
+    by_test false = c
 
 -- and a way that leads to the machine makes it known
 received-brings : (before : Option State) (edge : Option Edge) (m : Machine) → EdgeLeadsTo edge m
     → ContainedIf (received m.slot before edge) m
 received-brings before None m leads = absurd leads
-received-brings before (Some edge) m leads = by_test before edge m leads (edge.target == m.slot) refl
+received-brings before (Some edge) m leads = by_test (edge.target == m.slot) refl
   where
-    by_test : (before : Option State) (edge : Edge) (m : Machine) → EdgeLeadsTo (Some edge) m → (test : Bool)
-        → (edge.target == m.slot) ≡ test →
+    by_test : (test : Bool) → (edge.target == m.slot) ≡ test →
         ContainedIf (if test then joined_with before edge.state else before) m
-    by_test before edge m leads true e = joined_with-second before edge.state m leads.1
-    by_test before edge m leads false e =
+    by_test true e = joined_with-second before edge.state m leads.1
+    by_test false e =
         let here : edge.target ≡ m.slot = leads.0 in
         absurd (grind (arith, nat_tests))
 

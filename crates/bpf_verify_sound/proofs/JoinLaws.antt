@@ -6,7 +6,7 @@ use Rattle.bpf_verify_model.specs.{Written.{joined_written}, declared.abstract_v
 use Rattle.bpf_verify_model.specs.declared.state.State.{State}
 use Rattle.bpf_verify_model.specs.States.{joined_values, joined_registers, joined_callers, joined_states}
 use Rattle.bpf_verify_model.specs.declared.abstract_value.AbstractValue.TheVariants as known
-use Rattle.bpf_step_model.specs.State.{Value, Unwritten, Word, Frame, Ctx, Map, Area, Code, Bytes, Machine}
+use Rattle.bpf_step_model.specs.State.{Value, Word, Area, Bytes, Machine}
 use Rattle.bpf_verify_sound.specs.Containment.{ContainsValue, ContainEach, IsWritten, AreWritten, AreWrittenByCaller}
 use Rattle.bpf_verify_sound.specs.Containment.{Contained}
 
@@ -20,43 +20,23 @@ if_kept false x v kept = tt
 number-wider : (a b : Span) (v : Value) → ((n : ℕ) → Contains a n → Contains b n) → ContainsValue (known.Number a) v
     → ContainsValue (known.Number b) v
 number-wider a b (Word n) wider c = wider n c
-number-wider a b Unwritten wider c = c
-number-wider a b (Frame p) wider c = c
-number-wider a b (Ctx p) wider c = c
-number-wider a b (Map m) wider c = c
-number-wider a b (Area m o) wider c = c
-number-wider a b (Code s) wider c = c
+number-wider a b v wider c = c
 
 area-wider : (m : ℕ) (a b : Span) (v : Value) → ((n : ℕ) → Contains a n → Contains b n)
     → ContainsValue (known.Area m a) v → ContainsValue (known.Area m b) v
 area-wider m a b (Area n o) wider c = (c.0, wider o c.1)
-area-wider m a b Unwritten wider c = c
-area-wider m a b (Word n) wider c = c
-area-wider m a b (Frame p) wider c = c
-area-wider m a b (Ctx p) wider c = c
-area-wider m a b (Map n) wider c = c
-area-wider m a b (Code s) wider c = c
+area-wider m a b v wider c = c
 
 null-wider : (m : ℕ) (a b : Span) (v : Value) → ((n : ℕ) → Contains a n → Contains b n)
     → ContainsValue (known.AreaOrNull m a) v → ContainsValue (known.AreaOrNull m b) v
 null-wider m a b (Area n o) wider c = (c.0, wider o c.1)
-null-wider m a b (Word n) wider c = c
-null-wider m a b Unwritten wider c = c
-null-wider m a b (Frame p) wider c = c
-null-wider m a b (Ctx p) wider c = c
-null-wider m a b (Map n) wider c = c
-null-wider m a b (Code s) wider c = c
+null-wider m a b v wider c = c
 
 -- an address may be one that may be null
 pub area-null : (m : ℕ) (a : Span) (v : Value) → ContainsValue (known.Area m a) v → ContainsValue (known.AreaOrNull m a)
     v
-area-null m a (Area n o) c = c
 area-null m a (Word n) c = absurd c
-area-null m a Unwritten c = c
-area-null m a (Frame p) c = c
-area-null m a (Ctx p) c = c
-area-null m a (Map n) c = c
-area-null m a (Code s) c = c
+area-null m a v c = c
 
 same : (m n : ℕ) → (m == n) ≡ true → n ≡ m
 same m n e = grind (arith, nat_tests)

@@ -9,6 +9,7 @@ pub mod CompareLaws
 pub mod ByteLaws
 pub mod PlaceLaws
 pub mod AccessLaws
+pub mod StepCases
 pub mod Moves
 pub mod Arithmetic
 pub mod Jumps
@@ -31,6 +32,5 @@ pub mod SoundValues
 pub mod SoundForms
 pub mod SoundLaws
 pub mod RunLaws
-pub mod CountForms
 pub mod CountLaws
 pub mod ProgramEndings

@@ -1,7 +1,7 @@
 -- Loads go on within the abstract states.
-use Rattle.std.proofs.Common.{◌≡◌, ℕ, ◌+◌, ◌-◌, ◌*◌, ◌^◌, ◌<◌, ◌≤◌, Bool, true, false, not, ◌&&◌, List, Option, Some}
+use Rattle.std.proofs.Common.{◌≡◌, ℕ, ◌+◌, ◌-◌, ◌*◌, ◌^◌, ◌<◌, ◌≤◌, Bool, true, false, List, Option, Some}
 use Rattle.std.{proofs.{Common.{None, refl, sym, subst, arith}, lemmas.Bool.Decides.{nat_tests}}, specs.List.{sum}}
-use Rattle.std.specs.Prelude.{ℤ, pos, ◌+ℤ◌, nat_lt, nat_le, ◌==◌, if◌then◌else◌}
+use Rattle.std.specs.Prelude.{ℤ, pos, ◌+ℤ◌, nat_lt, ◌==◌, if◌then◌else◌}
 use Rattle.bpf_insn_types.specs.{Sizes.{bytes_of}, declared.insn.Size.{Size, TheVariants.{B, H, W, Dw}}}
 use Rattle.bpf_insn_types.specs.declared.insn.{Width.TheVariants.{W64}, Insn.TheVariants.{Load as LoadInsn, LoadSx}}
 use Rattle.bpf_insn_types.specs.declared.extension.Extension.{Extension, TheVariants.{Zeros, Signs}}
@@ -23,7 +23,7 @@ use Rattle.bpf_verify_sound.specs.{Containment.{ContainsValue, AreWrittenByCalle
 use Rattle.bpf_verify_sound.specs.{KnownStates.{HasCallerCount, IsWellFormedState}, Ways.{FollowsValue, StepFlows}}
 use Rattle.bpf_verify_sound.proofs.{ByteLaws.{IsNumberOf, number-known}, PlaceLaws.{PlaceIs}, AccessLaws.{accesses}}
 use Rattle.bpf_verify_sound.proofs.Moves.{follows-on, ahead-goes, set-contained, sets-flows}
-use Rattle.bpf_verify_sound.proofs.Tests.{not-not-true, test-fails}
+use Rattle.bpf_verify_sound.proofs.Tests.{test-fails}
 
 -- a loaded number is known by its size
 loaded-follows : (ext : Extension) (size : ℕ) (y : AbstractValue)
@@ -62,12 +62,7 @@ part-below (Of High) word h = omega arith
 -- V20: all bytes are written
 pub all-of-lacks_bytes : (marks : List Bool) (p size : ℕ) → p + size ≤ 512 → lacks_bytes marks size (pos p) ≡ false
     → all_written marks p size ≡ true
-all-of-lacks_bytes marks p size h e = by_test (nat_le (p + size) 512) (all_written marks p size)
-    (grind (arith, nat_tests)) e
-  where
-    by_test : (a b : Bool) → a ≡ true → (a && not b) ≡ false → b ≡ true
-    by_test true b t e = not-not-true b e
-    by_test false b t e = absurd cc
+all-of-lacks_bytes marks p size h e = grind (arith, nat_tests)
 
 pub frame-number : (state : State) (m : Machine) (program : Program) (p size : ℕ) → Contained state m
     → IsWellFormedState state → SoundMachine program m → p + size ≤ 512 →

@@ -1,37 +1,30 @@
 -- A lookup goes on within the abstract states.
-use Rattle.std.proofs.Common.{◌≡◌, ℕ, ◌+◌, ◌-◌, ◌*◌, ◌%◌, ◌^◌, ◌<◌, ◌≤◌, Bool, true, false, not, ◌||◌, List, length}
-use Rattle.std.proofs.{Common.{Option, Some, None, refl, sym, ap, ◌∙◌, subst, arith}, lemmas.Bool.Decides.{nat_tests}}
-use Rattle.std.specs.Prelude.{pos, nat_lt, nat_le, ◌==◌, if◌then◌else◌, slice_get}
-use Rattle.std.proofs.lemmas.Option.{slice_get-get_or}
+use Rattle.std.proofs.Common.{◌≡◌, ℕ, ◌+◌, ◌-◌, ◌*◌, ◌%◌, ◌^◌, ◌<◌, ◌≤◌, Bool, true, false, List, length}
+use Rattle.std.proofs.{Common.{Option, Some, None, refl, sym, ap, ◌∙◌, subst, arith}, lemmas.Option.{slice_get-get_or}}
+use Rattle.std.{proofs.lemmas.Bool.Decides.{nat_tests}, specs.Prelude.{pos, nat_lt, nat_le, if◌then◌else◌, slice_get}}
 use Rattle.bpf_insn_types.specs.{Limits.{sizes_fit}, Program.{Program, leads_to}}
 use Rattle.value_range.{specs.Spans.{norm}, proofs.SpanLaws.{norm-contains}}
-use Rattle.bpf_verify_model.specs.declared.{abstract_value.AbstractValue.{AbstractValue}, outflow.Edge.{Edge}}
-use Rattle.bpf_verify_model.specs.declared.{helper.Helper.TheVariants.{Lookup}, state.State.{State}}
-use Rattle.bpf_verify_model.specs.{States.{known_register}, Accesses.{has_unwritten_byte}}
-use Rattle.bpf_verify_model.specs.Rules.{is_key_position, is_key, is_map, helper_fault}
-use Rattle.bpf_verify_model.specs.Flow.{known_after_call, known_lookup, address_in, edge_to}
+use Rattle.bpf_verify_model.specs.{declared.abstract_value.AbstractValue.{AbstractValue}, Accesses.{has_unwritten_byte}}
+use Rattle.bpf_verify_model.specs.{declared.outflow.Edge.{Edge}, Rules.{is_key_position, is_key, is_map, helper_fault}}
+use Rattle.bpf_verify_model.specs.{declared.helper.Helper.TheVariants.{Lookup}, declared.state.State.{State}}
+use Rattle.bpf_verify_model.specs.{States.{known_register}, Flow.{known_after_call, known_lookup, address_in, edge_to}}
 use Rattle.bpf_verify_model.specs.declared.abstract_value.AbstractValue.TheVariants as known
 use Rattle.bpf_step_model.specs.State.{Value, Unwritten, Word, Frame, Ctx, Map, Area, Machine, register}
-use Rattle.bpf_step_model.specs.{Values.{area_address}, SoundMachine.{SoundValue, SoundMachine}}
+use Rattle.bpf_step_model.specs.{Values.{area_address}, Step.{key_at, lookup_result, answers, looks_up}}
+use Rattle.bpf_step_model.specs.SoundMachine.{SoundValue, SoundMachine}
 use Rattle.bpf_step_model.specs.Memory.{Place, InFrame, InCaller, place, in_frame, in_caller, frame_position}
-use Rattle.bpf_step_model.specs.Step.{key_at, lookup_result, answers, looks_up}
-use Rattle.bpf_verify_sound.specs.{Containment.{ContainsValue, Contained}, KnownStates.{IsWellFormedState}}
-use Rattle.bpf_verify_sound.{specs.Ways.{FollowsValue, StepFlows}, proofs.RegisterLaws.{all-at}}
-use Rattle.bpf_verify_sound.proofs.{ByteLaws.{IsNumberOf}, PlaceLaws.{PlaceIs, frame-goes}, NumberLaws.{there_if}}
-use Rattle.bpf_verify_sound.proofs.{Operands.{register-known}, Loads.{own-number, main-number}, WideForms.{count-few}}
-use Rattle.bpf_verify_sound.proofs.AfterCalls.{call-goes}
-use Rattle.bpf_verify_sound.proofs.Tests.{and-one, and-two, not-not-true, or-left, or-right, test-fails, test-later}
+use Rattle.bpf_verify_sound.{specs.Containment.{ContainsValue, Contained}, proofs.Loads.{own-number, main-number}}
+use Rattle.bpf_verify_sound.specs.{KnownStates.{IsWellFormedState}, Ways.{FollowsValue, StepFlows}}
+use Rattle.bpf_verify_sound.proofs.{RegisterLaws.{all-at}, Operands.{register-known}, AfterCalls.{call-goes}}
+use Rattle.bpf_verify_sound.proofs.{ByteLaws.{IsNumberOf}, NumberLaws.{there_if}, WideForms.{count-few}}
+use Rattle.bpf_verify_sound.proofs.PlaceLaws.{PlaceIs}
 
 -- where the key is
 key-position : (q : ℕ) → is_key_position q ≡ true → (frame_position (Some (q + 0)) 4 ≡ Some (q + 0)) × (q + 0 + 4 ≤ 512)
 key-position q e =
-    let first : (q % 4 == 0) ≡ true = and-one (q % 4 == 0) (nat_le q 508) e in
-    let second : nat_le q 508 ≡ true = and-two (q % 4 == 0) (nat_le q 508) e in
-    let aligned : q % 4 ≡ 0 = grind (arith, nat_tests) in
-    let inside : q ≤ 508 = grind (arith, nat_tests) in
-    let a : (q + 0) % 4 ≡ 0 = omega arith in
-    let h : q + 0 + 4 ≤ 512 = omega arith in
-    (frame-goes (q + 0) 4 a h, h)
+    let goes : frame_position (Some (q + 0)) 4 ≡ Some (q + 0) = grind (arith, nat_tests) in
+    let inside : q + 0 + 4 ≤ 512 = grind (arith, nat_tests) in
+    (goes, inside)
 
 key-place : (program : Program) (x : AbstractValue) (v : Value) → is_key x ≡ true → ContainsValue x v
     → PlaceIs program.sizes 4 (pos 0) x (place program v (pos 0) 4)
@@ -120,15 +113,9 @@ pub lookup-flows : (program : Program) (m : Machine) (state : State) (aside : Op
     })
     (looks_up program m (register m 1) (key_at m (place program (register m 2) (pos 0) 4)))
 lookup-flows program m state aside leads c spans sound fit e =
-    let written = test-fails (has_unwritten_byte state 4 (pos 0) (known_register state 2)) _ _ e in
-    let arguments = test-fails (not (is_map (known_register state 1)) || not (is_key (known_register state 2))) _ _
-    (test-later (has_unwritten_byte state 4 (pos 0) (known_register state 2)) _ _ e) in
-    let map_there : is_map (known_register state 1) ≡ true =
-    not-not-true (is_map (known_register state 1)) (or-left (not (is_map (known_register state 1)))
-    (not (is_key (known_register state 2))) arguments) in
-    let key_there : is_key (known_register state 2) ≡ true =
-    not-not-true (is_key (known_register state 2)) (or-right (not (is_map (known_register state 1)))
-    (not (is_key (known_register state 2))) arguments) in
+    let written : has_unwritten_byte state 4 (pos 0) (known_register state 2) ≡ false = grind (arith, nat_tests) in
+    let map_there : is_map (known_register state 1) ≡ true = grind (arith, nat_tests) in
+    let key_there : is_key (known_register state 2) ≡ true = grind (arith, nat_tests) in
     map-lookup program m state aside (known_register state 1) (register m 1)
     (key_at m (place program (register m 2) (pos 0) 4)) leads c fit map_there (register-known state m 1 c)
     (all-at (SoundValue program) m.registers 1 Unwritten sound.values tt)

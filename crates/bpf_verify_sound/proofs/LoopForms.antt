@@ -1,30 +1,29 @@
 -- A loop call goes on within the abstract states, and so do its iterations start.
-use Rattle.std.proofs.Common.{◌≡◌, ℕ, zero, suc, ◌+◌, ◌-◌, ◌%◌, ◌^◌, ◌<◌, ◌≤◌, inr, Bool, true, false, not, ◌||◌}
+use Rattle.std.proofs.Common.{◌≡◌, ℕ, zero, suc, ◌+◌, ◌-◌, ◌%◌, ◌^◌, ◌<◌, ◌≤◌, inr, Bool, true, false}
 use Rattle.std.proofs.Common.{replicate, Option, Some, None, is_some, refl, sym, ap, ◌∙◌, subst, arith}
-use Rattle.std.{specs.Prelude.{negsuc, nat_lt, ◌==◌, if◌then◌else◌}, proofs.lemmas.Bool.Decides.{nat_tests}}
-use Rattle.bpf_insn_types.specs.declared.insn.{Width.TheVariants.{W32, W64}, AluOp.TheVariants.{Mov}}
-use Rattle.bpf_insn_types.specs.{Program.{Program, insn_at, leads_to, function_of}, Words.{word_of, alu}}
-use Rattle.bpf_insn_types.specs.WordBounds.{ResultsFit}
-use Rattle.value_range.specs.{Spans.{Contains, top}, declared.operation.Operation.TheVariants.{Alu as AluOperation}}
-use Rattle.value_range.{specs.AluRows.{meant, span_of}, proofs.SpanLaws.{norm-contains, top-contains, exact-contains}}
-use Rattle.value_range.proofs.Multiples.{multiple-zero}
-use Rattle.bpf_verify_model.specs.{Written.{none_written}, declared.abstract_value.AbstractValue.{AbstractValue}}
-use Rattle.bpf_verify_model.specs.declared.{helper.Helper.TheVariants.{Loop}, outflow.Outflow.{Outflow}}
-use Rattle.bpf_verify_model.specs.{declared.state.State.{State}, States.{known_register}, Values.{is_number_value}}
-use Rattle.bpf_verify_model.specs.Rules.{is_code, is_ctx_argument, has_wrong_loop_arguments, helper_fault}
+use Rattle.std.{specs.Prelude.{nat_lt, ◌==◌, if◌then◌else◌}, proofs.lemmas.Bool.Decides.{nat_tests}}
+use Rattle.bpf_insn_types.specs.{declared.insn.Width.TheVariants.{W32, W64}, declared.insn.AluOp.TheVariants.{Mov}}
+use Rattle.bpf_insn_types.specs.{Program.{Program, insn_at, leads_to, function_of}, WordBounds.{ResultsFit}}
+use Rattle.bpf_insn_types.specs.Words.{word_of, alu}
+use Rattle.value_range.specs.Spans.{Contains, top}
+use Rattle.value_range.specs.{declared.operation.Operation.TheVariants.{Alu as AluOperation}, AluRows.{meant, span_of}}
+use Rattle.value_range.proofs.{SpanLaws.{norm-contains, top-contains, exact-contains}, Multiples.{multiple-zero}}
+use Rattle.bpf_verify_model.specs.{Written.{none_written}, States.{known_register}, Values.{is_number_value}}
+use Rattle.bpf_verify_model.specs.{declared.abstract_value.AbstractValue.{AbstractValue}, declared.state.State.{State}}
+use Rattle.bpf_verify_model.specs.{declared.helper.Helper.TheVariants.{Loop}, declared.outflow.Outflow.{Outflow}}
+use Rattle.bpf_verify_model.specs.Rules.{is_code, is_ctx_argument, helper_fault}
 use Rattle.bpf_verify_model.specs.Flow.{known_after_call, most_iterations, known_index, known_ctx, known_callback_entry}
 use Rattle.bpf_verify_model.specs.Flow.{enters, edge_to}
 use Rattle.bpf_verify_model.specs.declared.abstract_value.AbstractValue.TheVariants as known
-use Rattle.bpf_step_model.specs.{declared.refused_call.RefusedCall.{RefusedCall}, Step.{takes_arguments, loops}}
-use Rattle.bpf_step_model.specs.State.{Value, Unwritten, Word, Frame, Code, Bytes, Machine, register, advanced}
-use Rattle.bpf_step_model.specs.State.{after_call, ctx_value, fresh_frame, callback_entry}
-use Rattle.bpf_step_model.specs.{SoundMachine.{SoundValue, SoundMachine}, LoopCalls.{RefusedAs, Valid, count_validity}}
-use Rattle.bpf_step_model.specs.Step.{NoStep, Refuses, loop_call_step, calls_loop, takes_ctx, takes_flags}
-use Rattle.bpf_verify_sound.specs.{Containment.{ContainsValue, AreWritten, Contained}, Ways.{StepFlows}}
-use Rattle.bpf_verify_sound.{specs.KnownStates.{HasSpan, IsWellFormedState}, proofs.RegisterLaws.{all-at}}
-use Rattle.bpf_verify_sound.proofs.{Operands.{register-known, register-span}, NumberLaws.{span-has}}
-use Rattle.bpf_verify_sound.proofs.{StartLaws.{start-later, start-stands}, AfterCalls.{call-goes}}
-use Rattle.bpf_verify_sound.proofs.Tests.{not-not-true, or-left, or-right, test-fails}
+use Rattle.bpf_step_model.specs.Step.{takes_arguments, loops, NoStep, loop_call_step, calls_loop, takes_ctx}
+use Rattle.bpf_step_model.specs.{Step.{takes_flags}, LoopCalls.{Validity, RefusedAs, Valid, call_validity}}
+use Rattle.bpf_step_model.specs.State.{Value, Unwritten, Word, Frame, Code, Bytes, Machine, register, ctx_value}
+use Rattle.bpf_step_model.specs.{State.{fresh_frame, callback_entry}, SoundMachine.{SoundValue, SoundMachine}}
+use Rattle.bpf_verify_sound.{specs.Containment.{ContainsValue, AreWritten, Contained}, proofs.AfterCalls.{call-goes}}
+use Rattle.bpf_verify_sound.specs.{Ways.{StepFlows}, KnownStates.{HasSpan, IsWellFormedState}}
+use Rattle.bpf_verify_sound.proofs.{RegisterLaws.{all-at}}
+use Rattle.bpf_verify_sound.proofs.{Operands.{register-known, register-span}, StartLaws.{start-later, start-stands}}
+use Rattle.bpf_verify_sound.proofs.{NumberLaws.{span-has}, StepCases.{refused-word, valid-few, valid-low}}
 
 -- a fresh frame has no byte that is known to be written
 fresh-written : (count : ℕ) → AreWritten (replicate count false) (replicate count None)
@@ -56,24 +55,24 @@ abbrev pub IsCtxOf : AbstractValue → Option ℕ → Type 0
 IsCtxOf x ctx = ContainsValue (known_ctx x) (ctx_value ctx)
 
 -- a callback's start
-entry-known : ResultsFit → (m : Machine) (state : State) (start count index : ℕ) (ctx : Option ℕ) → Contained state m
-    → IsWellFormedState state → register m 1 ≡ Word count →
-    is_number_value (known_register state 1) ≡ true → IsCtxOf (known_register state 3) ctx → count % 2 ^ 32 ≤ 8388608
-    → index < count % 2 ^ 32 →
+entry-known : ResultsFit → (m : Machine) (state : State) (start count n index : ℕ) (ctx : Option ℕ) → Contained state m
+    → IsWellFormedState state → register m 1 ≡ Word count → is_number_value (known_register state 1) ≡ true
+    → IsCtxOf (known_register state 3) ctx → n ≡ count % 2 ^ 32 → n ≤ 8388608 → index < n →
     Contained (known_callback_entry state) (callback_entry (record {
       slot = m.slot;
       callback = start;
-      n = count % 2 ^ 32;
+      n = n;
       ctx = ctx;
       frame = m.frame;
     }) index)
 unfolding known_callback_entry
-entry-known fit m state start count index ctx c spans at some is few h = record {
+entry-known fit m state start count n index ctx c spans at some is low few h = record {
   registers = (
     tt,
     (
       index-known fit (known_register state 1) count index (register-span state 1 spans)
-          (subst (ContainsValue (known_register state 1)) at (register-known state m 1 c)) some few h,
+          (subst (ContainsValue (known_register state 1)) at (register-known state m 1 c)) some (omega arith)
+          (omega arith),
       (is, (tt, (tt, (tt, (tt, (tt, (tt, (tt, (refl, tt))))))))),
     ),
   );
@@ -93,48 +92,27 @@ loop_out slot state y = record {
   aside = enters state y;
 }
 
-refused-goes : (program : Program) (m : Machine) (state : State) (y : AbstractValue) (call : RefusedCall)
-    → leads_to program.insns m.slot (m.slot + 1) ≡ true → Contained state m → word_of call.answer < 2 ^ 64 →
-    StepFlows program m.slot (loop_out m.slot state y)
-    (Refuses call (after_call (Word (word_of call.answer)) (advanced 1 m)))
-refused-goes program m state y call leads c h =
-    call-goes program m state (enters state y) (known.Number (top W64)) (Word (word_of call.answer)) leads c
-    (top-contains W64 (word_of call.answer) h)
-
-counts-flow : ResultsFit → (program : Program) (m : Machine) (state : State) (start count : ℕ) (ctx : Option ℕ)
+valid-flow : ResultsFit → (program : Program) (m : Machine) (state : State) (start count flags : ℕ) (ctx : Option ℕ)
     → leads_to program.insns m.slot (m.slot + 1) ≡ true → Contained state m → IsWellFormedState state →
     BehindMain program m.slot start → register m 1 ≡ Word count → is_number_value (known_register state 1) ≡ true
-    → IsCtxOf (known_register state 3) ctx → (many : Bool) → nat_lt 8388608 (count % 2 ^ 32) ≡ many →
-    StepFlows program m.slot (loop_out m.slot state (known.Code start))
-    (loop_call_step m start ctx (if many
-    then RefusedAs (record { iterations = count % 2 ^ 32; flags = 0; answer = negsuc 6 }) else Valid (count % 2 ^ 32)))
-counts-flow fit program m state start count ctx leads c spans later at some is true e =
-    refused-goes program m state (known.Code start)
-    (record { iterations = count % 2 ^ 32; flags = 0; answer = negsuc 6 }) leads c (omega arith)
-counts-flow fit program m state start count ctx leads c spans later at some is false e =
-    let few : count % 2 ^ 32 ≤ 8388608 = grind (arith, nat_tests) in (
-      λ index h. record {
-        stands = later.1;
-        later = later.0;
-        flows = inr (refl, entry-known fit m state start count index ctx c spans at some is few h);
-      },
-      λ answer h. call-goes program m state (enters state (known.Code start)) (known.Number (top W64)) (Word answer)
-          leads c (top-contains W64 answer h),
-    )
-
-flags-flow : ResultsFit → (program : Program) (m : Machine) (state : State) (start count flags : ℕ) (ctx : Option ℕ)
-    → leads_to program.insns m.slot (m.slot + 1) ≡ true → Contained state m → IsWellFormedState state →
-    BehindMain program m.slot start → register m 1 ≡ Word count → is_number_value (known_register state 1) ≡ true
-    → IsCtxOf (known_register state 3) ctx → (none_set : Bool) →
-    StepFlows program m.slot (loop_out m.slot state (known.Code start))
-    (loop_call_step m start ctx (if none_set then count_validity (count % 2 ^ 32)
-    else RefusedAs (record { iterations = count % 2 ^ 32; flags = flags; answer = negsuc 21 })))
-flags-flow fit program m state start count flags ctx leads c spans later at some is true =
-    counts-flow fit program m state start count ctx leads c spans later at some is (nat_lt 8388608 (count % 2 ^ 32))
-    refl
-flags-flow fit program m state start count flags ctx leads c spans later at some is false =
-    refused-goes program m state (known.Code start)
-    (record { iterations = count % 2 ^ 32; flags = flags; answer = negsuc 21 }) leads c (omega arith)
+    → IsCtxOf (known_register state 3) ctx → (validity : Validity) → call_validity count flags ≡ validity →
+    StepFlows program m.slot (loop_out m.slot state (known.Code start)) (loop_call_step m start ctx validity)
+valid-flow fit program m state start count flags ctx leads c spans later at some is (RefusedAs call) e =
+    call-goes program m state (enters state (known.Code start)) (known.Number (top W64)) (Word (word_of call.answer))
+    leads c (top-contains W64 (word_of call.answer) (refused-word count flags call e))
+valid-flow fit program m state start count flags ctx leads c spans later at some is (Valid n) e = (
+  λ index h. record {
+    stands = later.1;
+    later = later.0;
+    flows = inr (
+      refl,
+      entry-known fit m state start count n index ctx c spans at some is (valid-low count flags n e)
+          (valid-few count flags n e) h,
+    );
+  },
+  λ answer h. call-goes program m state (enters state (known.Code start)) (known.Number (top W64)) (Word answer) leads c
+      (top-contains W64 answer h),
+)
 
 null-ctx : (program : Program) (m : Machine) (out : Outflow) (start count flags : ℕ) (null : Bool) → null ≡ true
     → StepFlows program m.slot out (calls_loop m count start flags None) →
@@ -151,14 +129,14 @@ ctx-flow : ResultsFit → (program : Program) (m : Machine) (state : State) (sta
 ctx-flow fit program m state start count flags (known.Frame p) (Frame q) leads c spans later at some there ctx d =
     let is : IsCtxOf (known_register state 3) (Some q) = subst (λ (x : AbstractValue). IsCtxOf x (Some q)) (sym there) d
     in
-    flags-flow fit program m state start count flags (Some q) leads c spans later at some is (flags == 0)
+    valid-flow fit program m state start count flags (Some q) leads c spans later at some is _ refl
 ctx-flow fit program m state start count flags (known.Number a) (Word n) leads c spans later at some there ctx d =
     let is : IsCtxOf (known_register state 3) None = subst (λ (x : AbstractValue). IsCtxOf x None) (sym there)
     (exact-contains 0) in
     let least : a.hi ≡ 0 = grind (arith, nat_tests) in
     let zero_is : n ≡ 0 = omega (arith, d.below) in
     null-ctx program m (loop_out m.slot state (known.Code start)) start count flags (n == 0) (grind (arith, nat_tests))
-    (flags-flow fit program m state start count flags None leads c spans later at some is (flags == 0))
+    (valid-flow fit program m state start count flags None leads c spans later at some is _ refl)
 ctx-flow fit program m state start count flags (known.Frame p) v leads c spans later at some there ctx d = absurd d
 ctx-flow fit program m state start count flags (known.Number a) v leads c spans later at some there ctx d = absurd d
 ctx-flow fit program m state start count flags x v leads c spans later at some there ctx d = absurd cc
@@ -207,21 +185,13 @@ pub loop-flows : ResultsFit → (program : Program) (m : Machine) (state : State
     SoundMachine program m → function_of program.insns m.slot ≡ 0 → helper_fault state (Some Loop) ≡ None →
     StepFlows program m.slot (loop_out m.slot state (known_register state 2)) (loops m m.caller)
 loop-flows fit program m state leads c spans sound main e =
-    let number = not (is_number_value (known_register state 1)) in
-    let code = not (is_code (known_register state 2)) in
-    let ctx = not (is_ctx_argument (known_register state 3)) in
-    let flags = not (is_number_value (known_register state 4)) in
-    let none_wrong : (number || code || ctx || flags) ≡ false = test-fails (has_wrong_loop_arguments state) _ _ e in
-    let first_three : (number || code || ctx) ≡ false = or-left (number || code || ctx) flags none_wrong in
-    let first_two : (number || code) ≡ false = or-left (number || code) ctx first_three in
+    let number : is_number_value (known_register state 1) ≡ true = grind (arith, nat_tests) in
+    let code : is_code (known_register state 2) ≡ true = grind (arith, nat_tests) in
+    let ctx : is_ctx_argument (known_register state 3) ≡ true = grind (arith, nat_tests) in
+    let flags : is_number_value (known_register state 4) ≡ true = grind (arith, nat_tests) in
     let outer : m.caller ≡ None = none-there m.caller (sound.in_callback ∙ ap (nat_lt 0) main) in
     subst (λ (caller : Option Bytes). StepFlows program m.slot (loop_out m.slot state (known_register state 2))
     (loops m caller)) (sym outer)
     (arguments-given fit program m state (known_register state 1) (known_register state 2) (register m 1) (register m 2)
-    leads c spans main refl refl
-    (not-not-true (is_number_value (known_register state 1)) (or-left number code first_two))
-    (register-known state m 1 c)
-    (not-not-true (is_code (known_register state 2)) (or-right number code first_two)) (register-known state m 2 c)
-    (all-at (SoundValue program) m.registers 2 Unwritten sound.values tt)
-    (not-not-true (is_ctx_argument (known_register state 3)) (or-right (number || code) ctx first_three))
-    (not-not-true (is_number_value (known_register state 4)) (or-right (number || code || ctx) flags none_wrong)))
+    leads c spans main refl refl number (register-known state m 1 c) code (register-known state m 2 c)
+    (all-at (SoundValue program) m.registers 2 Unwritten sound.values tt) ctx flags)

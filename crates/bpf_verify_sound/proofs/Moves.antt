@@ -1,5 +1,5 @@
 -- A machine that goes on: after an instruction, with a register set, or at a jump's target.
-use Rattle.std.proofs.Common.{◌≡◌, ℕ, ◌+◌, ◌<◌, inl, inr, Bool, true, false, not, ◌&&◌, Option, Some, None, is_none}
+use Rattle.std.proofs.Common.{◌≡◌, ℕ, ◌+◌, ◌<◌, inl, inr, Bool, true, false, Option, Some, None, is_none}
 use Rattle.std.{proofs.Common.{refl, sym, subst, arith}, specs.Prelude.{nat_lt, ◌==◌, if◌then◌else◌, List}}
 use Rattle.std.proofs.lemmas.Bool.Decides.{nat_tests}
 use Rattle.bpf_insn_types.specs.{Slots.{slots_of}, declared.insn.Insn.{Insn}, Program.{Program, leads_to}}
@@ -11,17 +11,13 @@ use Rattle.bpf_step_model.specs.{State.{Value, Machine, advanced, at_slot, with_
 use Rattle.bpf_step_model.specs.Step.{StepOutcome, NoStep, Next, Asks, Loops, Refuses, Exits, sets, jumps}
 use Rattle.bpf_step_model.specs.Step.{within_function, Request, Load, Store, StoreHalf, Update, Fetch}
 use Rattle.bpf_verify_sound.specs.{Containment.{ContainsValue, Contained}, Ways.{FollowsValue, GoesBy, StepFlows}}
-use Rattle.bpf_verify_sound.proofs.{RegisterLaws.{contain-set}, Tests.{and-one, and-two, not-not-true}}
+use Rattle.bpf_verify_sound.proofs.{RegisterLaws.{contain-set}, Tests.{and-one, and-two}}
 
 -- V4: where an instruction goes on, one of the same function follows
 pub follows-on : (insns : List Insn) (slot : ℕ) (insn : Insn) → goes_on insn ≡ true → falls_off insns slot insn ≡ false
     →
     leads_to insns slot (slot + slots_of insn) ≡ true
-follows-on insns slot insn goes e = by_test (goes_on insn) (leads_to insns slot (slot + slots_of insn)) goes e
-  where
-    by_test : (a b : Bool) → a ≡ true → (a && not b) ≡ false → b ≡ true
-    by_test true b goes e = not-not-true b e
-    by_test false b goes e = absurd cc
+follows-on insns slot insn goes e = grind (arith, nat_tests)
 
 -- after an instruction
 pub ahead-goes : (program : Program) (slot count : ℕ) (aside : Option Edge) (state : State) (m : Machine) →
@@ -48,15 +44,13 @@ pub sets-flows : (program : Program) (m : Machine) (state : State) (count dst : 
 sets-flows program m state count dst None v leads more fp c there f = absurd cc
 sets-flows program m state count dst (Some x) None leads more fp c there f = absurd f
 sets-flows program m state count dst (Some x) (Some v) leads more fp c there f =
-    by_test program m state count dst x v leads more c f (dst == 10) fp
+    by_test (dst == 10) fp
   where
-    by_test : (program : Program) (m : Machine) (state : State) (count dst : ℕ) (x : AbstractValue) (v : Value) →
-        leads_to program.insns m.slot (m.slot + count) ≡ true → 0 < count → Contained state m → ContainsValue x v
-        → (test : Bool) → test ≡ false →
+    by_test : (test : Bool) → test ≡ false →
         StepFlows program m.slot (ahead_outflow (m.slot + count) (with_known state dst x)) (if test then NoStep
         else Next (with_register dst v (advanced count m)))
-    by_test program m state count dst x v leads more c f true e = absurd cc
-    by_test program m state count dst x v leads more c f false e =
+    by_test true e = absurd cc
+    by_test false e =
         ahead-goes program m.slot count None (with_known state dst x) (with_register dst v (advanced count m)) leads
         more refl (set-contained state m count dst x v c f)
 

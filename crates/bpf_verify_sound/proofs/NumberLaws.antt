@@ -78,19 +78,17 @@ position-follows : (x : ℕ → AbstractValue) (address : ℕ → Value) → ((q
     → (op : AluOp) (p : ℕ) (n : Span) (k : ℕ) → Contains n k →
     FollowsValue (option_map x (known_position op p n)) (within_frame address (alu W64 op p k))
 position-follows x address same op p n k c =
-    by_test x address same op p n k c ((n.lo == n.hi) && nat_le (alu W64 op p n.lo) 512) refl
+    by_test ((n.lo == n.hi) && nat_le (alu W64 op p n.lo) 512) refl
   where
-    by_test : (x : ℕ → AbstractValue) (address : ℕ → Value) → ((q : ℕ) → ContainsValue (x q) (address q))
-        → (op : AluOp) (p : ℕ) (n : Span) (k : ℕ) → Contains n k →
-        (test : Bool) → ((n.lo == n.hi) && nat_le (alu W64 op p n.lo) 512) ≡ test →
+    by_test : (test : Bool) → ((n.lo == n.hi) && nat_le (alu W64 op p n.lo) 512) ≡ test →
         FollowsValue (option_map x (if test then Some (alu W64 op p n.lo) else None))
         (within_frame address (alu W64 op p k))
-    by_test x address same op p n k c true e =
+    by_test true e =
         let one : n.lo ≡ k = sym (exact-number n k (and-one (n.lo == n.hi) (nat_le (alu W64 op p n.lo) 512) e) c) in
         subst (λ (j : ℕ). FollowsValue (Some (x (alu W64 op p n.lo))) (within_frame address (alu W64 op p j))) one
         (there_if (x (alu W64 op p n.lo)) (address (alu W64 op p n.lo)) (nat_le (alu W64 op p n.lo) 512)
         (and-two (n.lo == n.hi) (nat_le (alu W64 op p n.lo) 512) e) (same (alu W64 op p n.lo)))
-    by_test x address same op p n k c false e = tt
+    by_test false e = tt
 
 -- an offset moved up
 small-sum : (a b : ℕ) → a + b ≤ 524288 → meant (AluOperation Add) W64 a b ≡ a + b
@@ -99,13 +97,12 @@ small-sum a b h = omega arith
 
 area-follows : ResultsFit → (m : ℕ) (a b : Span) → IsSpan a → IsSpan b → (n k : ℕ) → Contains a n → Contains b k →
     FollowsValue (known_area m a b) (area_address m (n + k))
-area-follows fit m a b i j n k c d = by_test fit m a b i j n k c d (nat_le (a.hi + b.hi) 524288) refl
+area-follows fit m a b i j n k c d = by_test (nat_le (a.hi + b.hi) 524288) refl
   where
-    by_test : ResultsFit → (m : ℕ) (a b : Span) → IsSpan a → IsSpan b → (n k : ℕ) → Contains a n → Contains b k
-        → (test : Bool) → nat_le (a.hi + b.hi) 524288 ≡ test →
+    by_test : (test : Bool) → nat_le (a.hi + b.hi) 524288 ≡ test →
         FollowsValue (if test then Some (known.Area m (span_of (AluOperation Add) W64 a b)) else None)
         (area_address m (n + k))
-    by_test fit m a b i j n k c d true e =
+    by_test true e =
         let most : a.hi + b.hi ≤ 524288 = grind (arith, nat_tests) in
         let small : n + k ≤ 524288 = omega (arith, c.below, d.below) in
         there_if (known.Area m (span_of (AluOperation Add) W64 a b)) (Area m (n + k)) (nat_le (n + k) 524288)
@@ -114,7 +111,7 @@ area-follows fit m a b i j n k c d = by_test fit m a b i j n k c d (nat_le (a.hi
           subst (λ (o : ℕ). Contains (span_of (AluOperation Add) W64 a b) o) (small-sum n k small)
               (span-has fit (AluOperation Add) W64 a b i j n k c d),
         )
-    by_test fit m a b i j n k c d false e = tt
+    by_test false e = tt
 
 -- a value moved by a number
 moved-follows : ResultsFit → (op : AluOp) (x : AbstractValue) (n : Span) (v : Value) (k : ℕ) → HasSpan x → IsSpan n

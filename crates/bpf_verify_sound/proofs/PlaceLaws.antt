@@ -1,22 +1,21 @@
 -- Where an access goes that breaks no rule.
-use Rattle.std.proofs.Common.{◌≡◌, ℕ, ◌+◌, ◌-◌, ◌*◌, ◌/◌, ◌%◌, ◌^◌, ◌<◌, ◌≤◌, zero, suc, Bool, true, false, not, ◌&&◌}
-use Rattle.std.proofs.Common.{◌||◌, Option, Some, None, refl, sym, ap, ◌∙◌, subst, arith, List, [], ◌∷◌, take}
-use Rattle.std.specs.Prelude.{ℤ, pos, negsuc, ◌+ℤ◌, int_lt, nat_lt, nat_le, ◌==◌, if◌then◌else◌, slice_get}
-use Rattle.std.{specs.{Ordering.{int_eq}, List.{sum}}, proofs.lemmas.{Int.{ints}, List.Sums.{sum_by-cons}}}
-use Rattle.std.proofs.lemmas.Bool.Decides.{nat_tests, Decides-int_eq}
+use Rattle.std.proofs.Common.{◌≡◌, ℕ, ◌+◌, ◌-◌, ◌*◌, ◌/◌, ◌%◌, ◌^◌, ◌<◌, ◌≤◌, zero, suc, Bool, true, false, ◌&&◌, ◌||◌}
+use Rattle.std.proofs.Common.{Option, Some, None, refl, sym, ap, ◌∙◌, subst, arith, List, [], ◌∷◌, take}
+use Rattle.std.{specs.Prelude.{ℤ, pos, negsuc, ◌+ℤ◌, int_lt, nat_lt, ◌==◌, slice_get}, proofs.lemmas.Int.{ints}}
+use Rattle.std.{specs.List.{sum}, proofs.{lemmas.List.Sums.{sum_by-cons}, lemmas.Bool.Decides.{nat_tests}}}
 use Rattle.bpf_insn_types.specs.Program.{Program, moved}
-use Rattle.array_maps.specs.declared.access.{Half.TheVariants.{Low, High}, Part.{Part, TheVariants.{Whole, Half as Of}}}
-use Rattle.array_maps.specs.MapList.{base_of}
+use Rattle.array_maps.specs.{declared.access.Half.TheVariants.{Low, High}, MapList.{base_of}}
+use Rattle.array_maps.specs.{declared.access.Part.{Part}, declared.access.Part.TheVariants.{Whole, Half as Of}}
 use Rattle.value_range.{specs.Spans.{Span, IsSpan, Contains}, proofs.Multiples.{coarser}}
-use Rattle.bpf_verify_model.specs.{declared.abstract_value.AbstractValue.{AbstractValue}, Rules.{place_fault}}
+use Rattle.bpf_verify_model.specs.declared.abstract_value.AbstractValue.{AbstractValue}
+use Rattle.bpf_verify_model.specs.{Rules.{place_fault}, Accesses.{is_outside_frame, is_outside_map, is_outside}}
 use Rattle.bpf_verify_model.specs.declared.memory_access.MemoryAccess.{MemoryAccess}
 use Rattle.bpf_verify_model.specs.Accesses.{is_memory, is_part_of_half, is_misaligned, is_spread, misses_alignment}
-use Rattle.bpf_verify_model.specs.Accesses.{is_outside_frame, is_outside_map, is_outside}
 use Rattle.bpf_verify_model.specs.declared.abstract_value.AbstractValue.TheVariants as known
-use Rattle.bpf_step_model.specs.{State.{Value, Frame, Ctx, Area}, Memory.{in_element, in_map, place}, Run.{part_bytes}}
-use Rattle.bpf_step_model.specs.Memory.{Place, InFrame, InCaller, InMap, frame_position, in_frame, in_caller, part_at}
-use Rattle.bpf_verify_sound.specs.{Containment.{ContainsValue}, KnownStates.{HasSpan}}
-use Rattle.bpf_verify_sound.proofs.Tests.{not-not-true, or-left, or-right, test-fails, test-later}
+use Rattle.bpf_step_model.specs.{State.{Value, Frame, Ctx, Area}, Memory.{in_caller, part_at}, Run.{part_bytes}}
+use Rattle.bpf_step_model.specs.Memory.{in_map, place, Place, InFrame, InCaller, InMap, frame_position, in_frame}
+use Rattle.bpf_verify_sound.{specs.Containment.{ContainsValue}, proofs.Tests.{not-not-true, or-left, or-right}}
+use Rattle.bpf_verify_sound.specs.KnownStates.{HasSpan}
 
 -- a place that isn't negative
 pub not-negative : (z : ℤ) → int_lt z (pos 0) ≡ false → (p : ℕ) × (z ≡ pos p)
@@ -25,27 +24,11 @@ not-negative (negsuc n) e = absurd cc
 
 -- is where a number is moved to
 pub moved-at : (n : ℕ) (z : ℤ) (p : ℕ) → pos n +ℤ z ≡ pos p → moved n z ≡ Some p
-moved-at n (pos up) p e =
-    let at : n + up ≡ p = cc in
-    ap Some at
-moved-at n (negsuc down) p e = by_test n down p e (nat_lt down n) refl
-  where
-    by_test : (n down p : ℕ) → pos n +ℤ negsuc down ≡ pos p → (test : Bool) → nat_lt down n ≡ test
-        → (if test then Some (n - suc down) else None) ≡ Some p
-    by_test n down p e true t =
-        let far : down < n = grind (arith, nat_tests) in
-        let at : n - suc down ≡ p = omega (arith, ints) in
-        ap Some at
-    by_test n down p e false t =
-        let near : n ≤ down = grind (arith, nat_tests) in
-        absurd (omega (arith, ints))
+moved-at n z p e = grind (arith, nat_tests, ints)
 
 -- an aligned place
 aligned : (p size : ℕ) → is_misaligned size (pos p) ≡ false → p % size ≡ 0
-aligned p size e =
-    let zero_rest : pos (p % size) ≡ pos 0 =
-    (Decides-int_eq (pos (p % size)) (pos 0)).0 (not-not-true (int_eq (pos (p % size)) (pos 0)) e) in
-    cc
+aligned p size e = grind (arith, nat_tests, ints)
 
 -- a place of a frame
 pub record InsideFrame (position : ℕ) (offset : ℤ) (size : ℕ) : Type 0 where
@@ -55,9 +38,7 @@ pub record InsideFrame (position : ℕ) (offset : ℤ) (size : ℕ) : Type 0 whe
   pub inside : at + size ≤ 512
 
 pub frame-goes : (p size : ℕ) → p % size ≡ 0 → p + size ≤ 512 → frame_position (Some p) size ≡ Some p
-frame-goes p size a h =
-    let both : ((p % size == 0) && nat_le (p + size) 512) ≡ true = grind (arith, nat_tests) in
-    ap (λ (b : Bool). if b then Some p else None) both
+frame-goes p size a h = grind (arith, nat_tests)
 
 pub frame-inside : (position : ℕ) (offset : ℤ) (size : ℕ) → is_misaligned size (pos position +ℤ offset) ≡ false →
     is_outside_frame size (pos position +ℤ offset) ≡ false → InsideFrame position offset size
@@ -100,22 +81,19 @@ pub record InsideArea (sizes : List ℕ) (map byte : ℕ) (offset : ℤ) (size :
 
 -- a part by its first byte
 part-whole : (byte size : ℕ) → byte ≡ 0 → size ≡ 8 → part_at byte size ≡ Some Whole
-part-whole byte size b s = ap (λ (n : ℕ). part_at n size) b ∙ ap (part_at 0) s
+part-whole byte size b s = grind arith
 
 part-low : (byte size : ℕ) → byte ≡ 0 → size ≡ 4 → part_at byte size ≡ Some (Of Low)
-part-low byte size b s = ap (λ (n : ℕ). part_at n size) b ∙ ap (part_at 0) s
+part-low byte size b s = grind arith
 
 part-high : (byte size : ℕ) → byte ≡ 4 → size ≡ 4 → part_at byte size ≡ Some (Of High)
-part-high byte size b s = ap (λ (n : ℕ). part_at n size) b ∙ ap (part_at 4) s
+part-high byte size b s = grind arith
 
 -- an element by the offset of a byte
-element-goes : (sizes : List ℕ) (map count byte size : ℕ) (part : Part) → slice_get sizes map ≡ Some count
-    → byte / 8 < count → part_at (byte % 8) size ≡ Some part →
+element-goes : (sizes : List ℕ) (map count byte size : ℕ) (part : Part) → byte / 8 < count
+    → part_at (byte % 8) size ≡ Some part →
     in_map sizes map (Some count) (Some byte) size ≡ Some (InMap (base_of sizes map + byte / 8) part)
-element-goes sizes map count byte size part there below is =
-    let test : nat_lt (byte / 8) count ≡ true = grind (arith, nat_tests) in
-    ap (λ (b : Bool). if b then in_element (base_of sizes map + byte / 8) (part_at (byte % 8) size) else None) test
-    ∙ ap (in_element (base_of sizes map + byte / 8)) is
+element-goes sizes map count byte size part below is = grind (arith, nat_tests)
 
 -- the part at an aligned byte
 area-part : (sizes : List ℕ) (map count byte at : ℕ) (offset : ℤ) (size : ℕ) (part : Part)
@@ -126,7 +104,7 @@ area-part sizes map count byte at offset size part there is below part_is bytes 
   part = part;
   goes = ap (λ (o : Option ℕ). in_map sizes map o (moved byte offset) size) there
       ∙ ap (λ (o : Option ℕ). in_map sizes map (Some count) o size) (moved-at byte offset at is)
-      ∙ element-goes sizes map count at size part there below part_is;
+      ∙ element-goes sizes map count at size part below part_is;
   inside = omega (arith, base-below sizes map count there);
   bytes = bytes;
 }
@@ -184,28 +162,7 @@ multiple-of z size x some h e = by_size z size x h e (size == 8) refl (size == 4
 -- the difference of two multiples
 multiple-moved : (a b lo byte size : ℕ) → ((size == 8) || (size == 4)) ≡ true → lo ≤ byte → b ≡ a + (byte - lo)
     → a % size ≡ 0 → lo % size ≡ 0 → byte % size ≡ 0 → b % size ≡ 0
-multiple-moved a b lo byte size some h is x y z = by_size a b lo byte size h is x y z (size == 8) refl (size == 4) refl
-    some
-  where
-    by_size : (a b lo byte size : ℕ) → lo ≤ byte → b ≡ a + (byte - lo) → a % size ≡ 0 → lo % size ≡ 0 → byte % size ≡ 0
-        →
-        (whole : Bool) → (size == 8) ≡ whole → (half : Bool) → (size == 4) ≡ half → (whole || half) ≡ true
-        → b % size ≡ 0
-    by_size a b lo byte size h is x y z true w half f some =
-        let eight : size ≡ 8 = grind (arith, nat_tests) in
-        let x' : a % 8 ≡ 0 = subst (λ (n : ℕ). a % n ≡ 0) eight x in
-        let y' : lo % 8 ≡ 0 = subst (λ (n : ℕ). lo % n ≡ 0) eight y in
-        let z' : byte % 8 ≡ 0 = subst (λ (n : ℕ). byte % n ≡ 0) eight z in
-        let r : b % 8 ≡ 0 = omega arith in
-        subst (λ (n : ℕ). b % n ≡ 0) (sym eight) r
-    by_size a b lo byte size h is x y z false w true f some =
-        let four : size ≡ 4 = grind (arith, nat_tests) in
-        let x' : a % 4 ≡ 0 = subst (λ (n : ℕ). a % n ≡ 0) four x in
-        let y' : lo % 4 ≡ 0 = subst (λ (n : ℕ). lo % n ≡ 0) four y in
-        let z' : byte % 4 ≡ 0 = subst (λ (n : ℕ). byte % n ≡ 0) four z in
-        let r : b % 4 ≡ 0 = omega arith in
-        subst (λ (n : ℕ). b % n ≡ 0) (sym four) r
-    by_size a b lo byte size h is x y z false w false f some = absurd cc
+multiple-moved a b lo byte size some h is x y z = grind (arith, nat_tests)
 
 -- a byte of a range is as aligned as its least
 spread-aligned : (range : Span) (a b byte size : ℕ) → IsSpan range → Contains range byte → ((size == 8) || (size == 4))
@@ -251,17 +208,12 @@ pub area-inside : (sizes : List ℕ) (map byte : ℕ) (range : Span) (offset : �
     → Contains range byte →
     is_part_of_half size (known.Area map range) ≡ false → misses_alignment size offset (known.Area map range) ≡ false →
     is_outside_map (slice_get sizes map) size offset range ≡ false → InsideArea sizes map byte offset size
-area-inside sizes map byte range offset size span c half misses outside =
-    by_count sizes map byte range offset size span c half misses (slice_get sizes map) refl outside
+area-inside sizes map byte range offset size span c half misses outside = by_count (slice_get sizes map) refl outside
   where
-    by_count : (sizes : List ℕ) (map byte : ℕ) (range : Span) (offset : ℤ) (size : ℕ) → IsSpan range
-        → Contains range byte →
-        is_part_of_half size (known.Area map range) ≡ false → misses_alignment size offset (known.Area map range)
-        ≡ false →
-        (o : Option ℕ) → slice_get sizes map ≡ o → is_outside_map o size offset range ≡ false
+    by_count : (o : Option ℕ) → slice_get sizes map ≡ o → is_outside_map o size offset range ≡ false
         → InsideArea sizes map byte offset size
-    by_count sizes map byte range offset size span c half misses None e outside = absurd cc
-    by_count sizes map byte range offset size span c half misses (Some count) e outside =
+    by_count None e outside = absurd cc
+    by_count (Some count) e outside =
         area-in sizes map count byte range offset size e span c (not-not-true ((size == 8) || (size == 4)) half)
         (or-left (is_misaligned size (pos range.lo +ℤ offset)) (is_spread size range) misses)
         (or-right (is_misaligned size (pos range.lo +ℤ offset)) (is_spread size range) misses)
@@ -287,16 +239,12 @@ pub record KeepsPlaceRules (sizes : List ℕ) (size : ℕ) (offset : ℤ) (x : A
 
 pub place-rules : (sizes : List ℕ) (access : MemoryAccess) (x : AbstractValue) → place_fault sizes access x ≡ None
     → KeepsPlaceRules sizes access.size access.offset x
-place-rules sizes access x e =
-    let e2 = test-later (not (is_memory x)) _ _ e in
-    let e3 = test-later (is_part_of_half access.size x) _ _ e2 in
-    let e4 = test-later (misses_alignment access.size access.offset x) _ _ e3 in
-    record {
-      memory = not-not-true (is_memory x) (test-fails (not (is_memory x)) _ _ e);
-      half = test-fails (is_part_of_half access.size x) _ _ e2;
-      alignment = test-fails (misses_alignment access.size access.offset x) _ _ e3;
-      bounds = test-fails (is_outside sizes access.size access.offset x) _ _ e4;
-    }
+place-rules sizes access x e = record {
+  memory = grind (arith, nat_tests);
+  half = grind (arith, nat_tests);
+  alignment = grind (arith, nat_tests);
+  bounds = grind (arith, nat_tests);
+}
 
 pub place-is : (program : Program) (x : AbstractValue) (v : Value) (offset : ℤ) (size : ℕ) → HasSpan x
     → ContainsValue x v → KeepsPlaceRules program.sizes size offset x →

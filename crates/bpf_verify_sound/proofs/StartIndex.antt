@@ -30,32 +30,18 @@ module _ (p : ℕ → Bool) where
   none-before : (from count slot : ℕ) → slot < from → up_to slot (kept from count) ≡ 0
   unfolding up_to
   none-before from zero slot h = refl
-  none-before from (suc count) slot h = by_test (p from) refl (none-before (from + 1) count slot (omega arith))
-    where
-      by_test : (keep : Bool) → p from ≡ keep → up_to slot (kept (from + 1) count) ≡ 0
-          → up_to slot (cond keep (from ∷ kept (from + 1) count) (kept (from + 1) count)) ≡ 0
-      by_test true e go =
-          let late : nat_le from slot ≡ false = grind (arith, nat_tests) in
-          let more : up_to slot (from ∷ kept (from + 1) count) ≡ 0 + up_to slot (kept (from + 1) count) =
-          up_to-cons slot from (kept (from + 1) count) false late in
-          omega arith
-      by_test false e go = go
+  none-before from (suc count) slot h =
+      grind (
+        arith,
+        nat_tests,
+        none-before (from + 1) count slot,
+        sum_by-cons (λ (start : ℕ). cond (nat_le start slot) 1 0) from (kept (from + 1) count),
+      )
 
   among-later : (from count slot : ℕ) → is_among slot (kept from count) ≡ true → from ≤ slot
   unfolding is_among
   among-later from zero slot there = absurd cc
-  among-later from (suc count) slot there =
-      by_test (p from) refl (from == slot) refl there (among-later (from + 1) count slot)
-    where
-      by_test : (keep : Bool) → p from ≡ keep → (here : Bool) → (from == slot) ≡ here
-          → is_among slot (cond keep (from ∷ kept (from + 1) count) (kept (from + 1) count)) ≡ true →
-          (is_among slot (kept (from + 1) count) ≡ true → from + 1 ≤ slot) → from ≤ slot
-      by_test true e true f there go =
-          let same : from ≡ slot = grind (arith, nat_tests) in
-          omega arith
-      by_test true e false f there go =
-          omega (arith, go (sym (ap (λ (b : Bool). b || is_among slot (kept (from + 1) count)) f) ∙ there))
-      by_test false e here f there go = omega (arith, go there)
+  among-later from (suc count) slot there = grind (arith, nat_tests, among-later (from + 1) count slot)
 
   -- a slot among them is at the place of how many aren't after it
   record IsPlaced (slot : ℕ) (starts : List ℕ) : Type 0 where

@@ -1,12 +1,12 @@
 -- Where callbacks start.
 use Rattle.std.proofs.Common.{◌≡◌, ℕ, zero, suc, ◌+◌, ◌-◌, ◌<◌, ◌≤◌, Bool, true, false, cond, ◌&&◌, ◌||◌, List, [], ◌∷◌}
 use Rattle.std.proofs.Common.{Option, Some, None, is_some, refl, sym, ap, ◌∙◌, subst, arith}
-use Rattle.std.{specs.Prelude.{ℤ, nat_lt, nat_le, nat_eq, ◌==◌, if◌then◌else◌}, proofs.lemmas.Bool.Decides.{nat_tests}}
+use Rattle.std.{specs.Prelude.{nat_lt, nat_le, nat_eq, ◌==◌, if◌then◌else◌}, proofs.lemmas.Bool.Decides.{nat_tests}}
 use Rattle.std.specs.List.{list_any, filter, count_by, range_with_len, cons_option}
 use Rattle.std.proofs.lemmas.{List.Sums.{sum_by-cons}, Map.Views.{any-filter_same}}
-use Rattle.bpf_insn_types.specs.{Slots.{slots_of}, declared.insn.{ImmKind.{ImmKind, TheVariants.{Code}}, Insn.{Insn}}}
-use Rattle.bpf_insn_types.{specs.declared.insn.Insn.TheVariants.{LoadImm}, proofs.ProgramLaws.{insn_at-end}}
-use Rattle.bpf_insn_types.specs.Program.{moved, insn_at, named_past, code_target, named_by, named_from}
+use Rattle.bpf_insn_types.specs.{Slots.{slots_of}, declared.insn.{Insn.{Insn}}}
+use Rattle.bpf_insn_types.{proofs.ProgramLaws.{insn_at-end}}
+use Rattle.bpf_insn_types.specs.Program.{insn_at, named_by, named_from}
 use Rattle.bpf_insn_types.specs.Program.{is_callback_start, slot_count, callback_starts, function_of}
 
 -- what is found among more is found
@@ -60,18 +60,7 @@ named-there from (suc k) (x ∷ insns) insn target here named =
 range-there : (from count target : ℕ) → from ≤ target → target < from + count → list_any (λ start. start == target)
     (range_with_len from count) ≡ true
 range-there from zero target low high = absurd (omega arith)
-range-there from (suc count) target low high = by_test from count target low high (from == target) refl
-    (range-there (from + 1) count target)
-  where
-    by_test : (from count target : ℕ) → from ≤ target → target < from + suc count → (here : Bool)
-        → (from == target) ≡ here →
-        (from + 1 ≤ target → target < from + 1 + count → list_any (λ start. start == target)
-        (range_with_len (from + 1) count) ≡ true) →
-        (here || list_any (λ start. start == target) (range_with_len (from + 1) count)) ≡ true
-    by_test from count target low high true e go = refl
-    by_test from count target low high false e go =
-        let other : (from ≡ target → ⊥) = λ same. absurd (grind (arith, nat_tests)) in
-        go (omega arith) (omega arith)
+range-there from (suc count) target low high = grind (arith, nat_tests, range-there (from + 1) count target)
 
 -- an instruction starts within the slots
 starts-within : (insns : List Insn) (target : ℕ) → is_some (insn_at insns target) ≡ true → (inside : Bool)
@@ -108,27 +97,12 @@ later-start : (starts : List ℕ) (slot start : ℕ) → list_any (λ callback. 
     → count_by (λ callback. nat_le callback slot) starts ≡ 0 → slot < start
 later-start [] slot start there none_before = absurd cc
 later-start (x ∷ starts) slot start there none_before =
-    by_test x starts slot start there none_before (x == start) refl (nat_le x slot) refl (later-start starts slot start)
-  where
-    by_test : (x : ℕ) (starts : List ℕ) (slot start : ℕ) → list_any (λ callback. callback == start) (x ∷ starts) ≡ true
-        → count_by (λ callback. nat_le callback slot) (x ∷ starts) ≡ 0 →
-        (here : Bool) → (x == start) ≡ here → (early : Bool) → nat_le x slot ≡ early →
-        (list_any (λ callback. callback == start) starts ≡ true → count_by (λ callback. nat_le callback slot) starts ≡ 0
-        → slot < start) → slot < start
-    by_test x starts slot start there none_before here e true f go =
-        let is : cond true 1 0 + count_by (λ callback. nat_le callback slot) starts ≡ 0 =
-        ap (λ (b : Bool). cond b 1 0 + count_by (λ callback. nat_le callback slot) starts) (sym f)
-        ∙ sym (sum_by-cons (λ (callback : ℕ). cond (nat_le callback slot) 1 0) x starts) ∙ none_before in
-        absurd (omega arith)
-    by_test x starts slot start there none_before true e false f go =
-        let same : x ≡ start = grind (arith, nat_tests) in
-        let late : slot < x = grind (arith, nat_tests) in
-        omega arith
-    by_test x starts slot start there none_before false e false f go =
-        let is : cond false 1 0 + count_by (λ callback. nat_le callback slot) starts ≡ 0 =
-        ap (λ (b : Bool). cond b 1 0 + count_by (λ callback. nat_le callback slot) starts) (sym f)
-        ∙ sym (sum_by-cons (λ (callback : ℕ). cond (nat_le callback slot) 1 0) x starts) ∙ none_before in
-        go (sym (ap (λ (b : Bool). b || list_any (λ callback. callback == start) starts) e) ∙ there) (omega arith)
+    grind (
+      arith,
+      nat_tests,
+      later-start starts slot start,
+      sum_by-cons (λ (callback : ℕ). cond (nat_le callback slot) 1 0) x starts,
+    )
 
 -- a callback starts after all of main
 pub start-later : (insns : List Insn) (slot start : ℕ) → list_any (λ callback. callback == start)
@@ -136,35 +110,12 @@ pub start-later : (insns : List Insn) (slot start : ℕ) → list_any (λ callba
 start-later insns slot start there main = later-start (callback_starts insns) slot start there main
 
 -- no instruction names slot 0
-past-first : (slot : ℕ) (o : Option ℕ) → (list_any (nat_eq 0) (cons_option (named_past slot o) []) ≡ false)
-past-first slot None = refl
-past-first slot (Some target) = by_test slot target (nat_lt (slot + 1) target) refl
-  where
-    by_test : (slot target : ℕ) (later : Bool) → nat_lt (slot + 1) target ≡ later
-        → list_any (nat_eq 0) (cons_option (if later then Some target else None) []) ≡ false
-    by_test slot target true e =
-        let past : slot + 1 < target = grind (arith, nat_tests) in
-        let other : nat_eq 0 target ≡ false = grind (arith, nat_tests) in
-        ap (λ (b : Bool). b || false) other
-    by_test slot target false e = refl
-
-code-first : (kind : ImmKind) (slot : ℕ) (imm : ℤ) → list_any (nat_eq 0) (cons_option (code_target kind slot imm) [])
-    ≡ false
-code-first Code slot imm = past-first slot (moved (slot + 1) imm)
-code-first kind slot imm = refl
-
 insn-first : (slot : ℕ) (insn : Insn) → list_any (nat_eq 0) (cons_option (named_by slot insn) []) ≡ false
-insn-first slot (LoadImm kind dst imm next_imm) = code-first kind slot imm
-insn-first slot insn = refl
+insn-first slot insn = grind (arith, nat_tests)
 
 first-apart : (o : Option ℕ) (xs : List ℕ) → list_any (nat_eq 0) (cons_option o []) ≡ false → list_any (nat_eq 0) xs
     ≡ false → list_any (nat_eq 0) (cons_option o xs) ≡ false
-first-apart None xs e f = f
-first-apart (Some x) xs e f = by_test (nat_eq 0 x) (list_any (nat_eq 0) xs) e f
-  where
-    by_test : (a b : Bool) → (a || false) ≡ false → b ≡ false → (a || b) ≡ false
-    by_test true b e f = absurd cc
-    by_test false b e f = f
+first-apart o xs e f = grind (arith, nat_tests)
 
 first-unnamed : (from : ℕ) (insns : List Insn) → list_any (nat_eq 0) (named_from from insns) ≡ false
 first-unnamed from [] = refl
@@ -174,18 +125,8 @@ first-unnamed from (x ∷ insns) = first-apart (named_by from x) (named_from (fr
 -- so none of the starts is at slot 0
 none-first : (p : ℕ → Bool) (xs : List ℕ) → p 0 ≡ false → count_by (λ start. nat_le start 0) (filter p xs) ≡ 0
 none-first p [] e = refl
-none-first p (x ∷ xs) e = by_test p x xs e (p x) refl (none-first p xs e)
-  where
-    by_test : (p : ℕ → Bool) (x : ℕ) (xs : List ℕ) → p 0 ≡ false → (keep : Bool) → p x ≡ keep
-        → count_by (λ start. nat_le start 0) (filter p xs) ≡ 0 →
-        count_by (λ start. nat_le start 0) (cond keep (x ∷ filter p xs) (filter p xs)) ≡ 0
-    by_test p zero xs e true f go = absurd cc
-    by_test p (suc x) xs e true f go =
-        sum_by-cons (λ (start : ℕ). cond (nat_le start 0) 1 0) (suc x) (filter p xs)
-        ∙ ap (λ (b : Bool). cond b 1 0 + count_by (λ start. nat_le start 0) (filter p xs)) (let t : nat_le (suc x) 0
-        ≡ false = grind (arith, nat_tests) in t)
-        ∙ omega arith
-    by_test p x xs e false f go = go
+none-first p (x ∷ xs) e =
+    grind (arith, nat_tests, none-first p xs e, sum_by-cons (λ (start : ℕ). cond (nat_le start 0) 1 0) x (filter p xs))
 
 -- main starts at slot 0
 pub main-first : (insns : List Insn) → function_of insns 0 ≡ 0

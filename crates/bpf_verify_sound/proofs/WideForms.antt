@@ -1,21 +1,21 @@
 -- Two-slot loads go on within the abstract states.
-use Rattle.std.proofs.Common.{◌≡◌, ℕ, zero, suc, ◌+◌, ◌*◌, ◌<◌, ◌≤◌, ◌^◌, Bool, true, false, ◌&&◌, List, length, Option}
-use Rattle.std.{proofs.Common.{Some, None, is_none, refl, sym, ap, subst, arith}, specs.List.{list_any, list_all, sum}}
+use Rattle.std.proofs.Common.{◌≡◌, ℕ, zero, suc, ◌+◌, ◌*◌, ◌<◌, ◌≤◌, ◌^◌, Bool, true, false, List, length, Option, Some}
+use Rattle.std.proofs.{Common.{None, is_none, refl, sym, ap, subst, arith}, lemmas.Bool.Decides.{nat_tests}}
+use Rattle.std.{specs.{List.{list_any, sum}, Int.{cast_unsigned, w32}}, proofs.lemmas.Int.{ints}}
 use Rattle.std.specs.Prelude.{ℤ, pos, negsuc, nat_lt, nat_le, ◌==◌, if◌then◌else◌, slice_get, FitsSigned}
-use Rattle.std.{specs.Int.{cast_unsigned, w32}, proofs.lemmas.{Int.{ints}, Bool.Decides.{nat_tests}}}
-use Rattle.bpf_insn_types.specs.{Limits.{sizes_fit}, declared.insn.{ImmKind.{ImmKind}, Insn.TheVariants.{LoadImm}}}
+use Rattle.bpf_insn_types.specs.{Limits.{sizes_fit}, Program.{Program, insn_at, code_target, callback_starts}}
+use Rattle.bpf_insn_types.specs.{declared.insn.ImmKind.{ImmKind}, declared.insn.Insn.TheVariants.{LoadImm}}
 use Rattle.bpf_insn_types.specs.declared.insn.ImmKind.TheVariants.{Number, MapFd, MapFdValue, Variable}
 use Rattle.bpf_insn_types.specs.declared.insn.ImmKind.TheVariants.{Code as CodeKind, Map as MapKind, MapValue}
-use Rattle.bpf_insn_types.specs.Program.{Program, insn_at, code_target, callback_starts}
 use Rattle.value_range.{specs.Spans.{Contains, exact}, proofs.SpanLaws.{exact-contains}}
-use Rattle.bpf_verify_model.specs.{declared.state.State.{State}, Rules.{starts, count_of_map, has_byte}}
-use Rattle.bpf_verify_model.specs.Flow.{known_code, known_wide, flow, known_behind}
+use Rattle.bpf_verify_model.specs.{declared.state.State.{State}, Flow.{known_code, known_wide, flow, known_behind}}
+use Rattle.bpf_verify_model.specs.Rules.{starts, count_of_map, has_byte}
 use Rattle.bpf_verify_model.specs.declared.abstract_value.AbstractValue.TheVariants as known
 use Rattle.bpf_step_model.specs.State.{Map, Area, Code, Machine}
 use Rattle.bpf_step_model.specs.Step.{code_named, map_named, area_named, wide_value, insn_step}
-use Rattle.bpf_verify_sound.specs.{Containment.{Contained}, Standing.{KeepsRules}, Ways.{FollowsValue, StepFlows}}
-use Rattle.bpf_verify_sound.proofs.{NumberLaws.{there_if}, PlaceLaws.{base-below}, StartLaws.{start-there}}
-use Rattle.bpf_verify_sound.proofs.{Moves.{follows-on, sets-flows}, Tests.{and-two, not-not-true}}
+use Rattle.bpf_verify_sound.{specs.Containment.{Contained}, proofs.{PlaceLaws.{base-below}, StartLaws.{start-there}}}
+use Rattle.bpf_verify_sound.{specs.Standing.{KeepsRules}, proofs.{NumberLaws.{there_if}, Tests.{not-not-true}}}
+use Rattle.bpf_verify_sound.{specs.Ways.{FollowsValue, StepFlows}, proofs.Moves.{follows-on, sets-flows}}
 
 -- a code address
 code-follows : (program : Program) (slot : ℕ) (imm next_imm : ℤ) (dst : ℕ) (target : Option ℕ)
@@ -47,12 +47,7 @@ map-follows program (pos n) fits e =
 
 -- the sizes of maps are at most 65,536
 sizes-few : (sizes : List ℕ) → sizes_fit sizes ≡ true → sum sizes ≤ 65536
-sizes-few sizes e =
-    let e2 = and-two (nat_le 1 (length sizes)) (nat_le (length sizes) 16
-    && (list_all (nat_le 1) sizes && nat_le (sum sizes) 65536)) e in
-    let e3 = and-two (nat_le (length sizes) 16) (list_all (nat_le 1) sizes && nat_le (sum sizes) 65536) e2 in
-    let e4 : nat_le (sum sizes) 65536 ≡ true = and-two (list_all (nat_le 1) sizes) (nat_le (sum sizes) 65536) e3 in
-    grind (arith, nat_tests)
+sizes-few sizes e = grind (arith, nat_tests)
 
 pub count-few : (sizes : List ℕ) (map count : ℕ) → sizes_fit sizes ≡ true → slice_get sizes map ≡ Some count
     → count ≤ 65536
