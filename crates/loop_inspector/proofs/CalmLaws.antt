@@ -1,20 +1,17 @@
 -- Lists whose lanes load nothing that they left themselves, and elements where they never conflict.
-use Rattle.std.proofs.Common.{◌≡◌, ℕ, zero, suc, ◌+◌, ◌-◌, ◌*◌, ◌/◌, ◌%◌, ◌^◌, ◌<◌, ◌≤◌, ◌==◌, inl, inr, true, false, ◌⊎◌}
-use Rattle.std.proofs.Common.{Bool, if◌then◌else◌, List, [], ◌∷◌, length, slice_index_or, sym, ap, subst, ◌∙◌, arith}
+use Rattle.std.proofs.Common.{◌≡◌, ℕ, zero, suc, ◌+◌, ◌/◌, ◌^◌, ◌<◌, ◌≤◌, inl, inr, true, ◌⊎◌}
+use Rattle.std.proofs.Common.{List, [], ◌∷◌, length, slice_index_or, sym, ap, subst, ◌∙◌, arith}
 use Rattle.std.{specs.{Prelude.{slice_get, Some}, List.{AllZip}}, proofs.lemmas.Option.{slice_get_within}}
 use Rattle.array_maps.specs.MapList.{AreWords}
-use Rattle.bpf_insn_types.specs.declared.insn.Width.{Width, TheVariants.{W32, W64}}
 use Rattle.lane_stamps.specs.declared.site.Site.{Site as Ranked}
 use Rattle.row_list.specs.{declared.row_op.RowOp.{RowOp}, Rows.{AreValues, effects_by, is_in}, Agreement.{SeesBefore}}
 use Rattle.row_facts.specs.declared.{fact.Fact.{Fact}, meeting.Meeting.{Meeting}, site.{Place.{Place}, Site.{Site}}}
-use Rattle.row_facts.specs.{Facts.{AreFacts}, Sites.{AreSites, IsSite, byte_at, sites_of}, SiteKinds.{HasSite, IsKindOf}}
-use Rattle.row_facts.specs.Meetings.{AreMeetings, IsHalfOf, Touches as TouchesHalf, leaves, loads}
-use Rattle.row_facts.specs.{Meetings.{ReduceAlike}, Elements.{AlwaysApart, AreApart, Touches, reads}}
-use Rattle.row_facts.specs.Independence.{IsAlone, NeverConflict}
+use Rattle.row_facts.specs.{Facts.{AreFacts, IsSure}, Sites.{IsSite, byte_at, sites_of}, SiteKinds.{HasSite, IsKindOf}}
+use Rattle.row_facts.specs.Meetings.{ReduceAlike, Touches as TouchesHalf, leaves, loads}
+use Rattle.row_facts.specs.Elements.{Touches, reads}
 use Rattle.row_facts.proofs.SiteLaws.{known, some-same}
-use Rattle.loop_inspector.specs.Reach.{AreAlone, Misses}
-use Rattle.loop_inspector.specs.Open.{IsApartAt, IsInSome, NoneOfOwn, OpenUpto}
-use Rattle.loop_inspector.specs.declared.reach.Span.{Span}
+use Rattle.loop_inspector.specs.{Reach.{AreAlone, Misses}, Open.{IsApartAt, IsInSome, NoneLoadsOwn}, Inspections.{IsSurvey}}
+use Rattle.loop_inspector.specs.declared.survey.Survey.{Survey}
 use Rattle.loop_inspector.proofs.OwnLaws.{sees_first}
 
 -- no iteration touches an element at the first site that an earlier one touches at the second
@@ -23,11 +20,20 @@ NeverBoth list at by n e = (earlier later : ℕ) → earlier < later → later <
     → AreValues list later caller words values → AreValues list earlier caller words others → Touches at values e
     → Touches by others e → ⊥
 
+-- each site reduces by the operator of one, or iterations never touch an element at both
+abbrev pub IsAlone : List RowOp → (by : RowOp) → (n : ℕ) → Type 0
+IsAlone list by n = (k : ℕ) (at : RowOp) → slice_get (sites_of list) k ≡ Some at → ReduceAlike by at
+    ⊎ ((index other : ℕ) → index < n → other < n → (caller words values others : List ℕ)
+    → AreValues list index caller words values → AreValues list other caller words others → (e : ℕ)
+    → Touches at values e → Touches by others e → ⊥)
+
 -- at an element no iteration reads what an earlier one leaves, but where all that touch it reduce by one operator
+abbrev Pair : List RowOp → (n e : ℕ) → (at by : RowOp) → Type 0
+Pair list n e at by = NeverBoth list at by n e ⊎ (ReduceAlike by at × IsAlone list by n)
+
 pub record IsCalm (list : List RowOp) (n e : ℕ) : Type 0 where
   pub pairs : (first second : ℕ) (at by : RowOp) → slice_get (sites_of list) first ≡ Some at →
-      slice_get (sites_of list) second ≡ Some by → reads at ≡ true → leaves by ≡ true →
-      NeverBoth list at by n e ⊎ (ReduceAlike by at × IsAlone list by n)
+      slice_get (sites_of list) second ≡ Some by → reads at ≡ true → leaves by ≡ true → Pair list n e at by
 
 -- no iteration loads what it left itself
 pub record LoadsNoneOfOwn (list : List RowOp) (n : ℕ) : Type 0 where
@@ -48,38 +54,10 @@ pub each_site : (list : List RowOp) (accesses : List RowOp) (sites : List Ranked
 each_site list accesses sites all zip k op there =
     have_sites list accesses sites zip k op (ap (λ (ops : List RowOp). slice_get ops k) all ∙ there)
 
--- a half of an access is one of its element
-half_inside : (width : Width) (byte half : ℕ) → IsHalfOf width byte half → byte / 8 ≡ half / 2
-half_inside W64 byte half is = sym is
-half_inside W32 byte half is = go (byte % 8 == 0) is
-  where
-    go : (b : Bool) → half ≡ 2 * (byte / 8) + (if b then 0 else 1) → byte / 8 ≡ half / 2
-    go true e = omega (arith, e)
-    go false e = omega (arith, e)
-
-in_element : (op : RowOp) (values : List ℕ) (half : ℕ) → TouchesHalf op values half → Touches op values (half / 2)
-in_element op values half touch = record {
-  place = touch.place;
-  is = touch.is;
-  there = touch.there;
-  at = half_inside touch.place.width (byte_at values touch.place) half touch.covers;
-}
-
--- lanes of lists that never conflict load nothing of their own
-pub never_own : (list : List RowOp) (n : ℕ) → NeverConflict list n
-    → ((k : ℕ) (op : RowOp) → slice_get (sites_of list) k ≡ Some op → HasSite op) → LoadsNoneOfOwn list n
-never_own list n never has = record {
-  each = λ index caller words values below fit are. sees_first values words list fit has
-      (λ first second at by half before here there loaded left touch touched.
-      (((never.sites first second at by here there).1 before loaded left) index below).never caller words values values
-      are are (half / 2) (in_element at values half touch) (in_element by values half touched));
-}
-
--- nor do those of lists without such meetings
-pub none_own : (list : List RowOp) (facts : List Fact) (sites : List Site) (meetings : List Meeting) (n : ℕ)
-    → n ≤ 2 ^ 23 → AreSites list facts list sites → AreMeetings list meetings → NoneOfOwn sites meetings
-    → ((k : ℕ) (op : RowOp) → slice_get (sites_of list) k ≡ Some op → HasSite op) → LoadsNoneOfOwn list n
-none_own list facts sites meetings n few are_sites are own has = record {
+-- so it is of a list that is surveyed
+pub none_own : (list : List RowOp) (n : ℕ) (survey : Survey) → n ≤ 2 ^ 23 → IsSurvey list n survey
+    → NoneLoadsOwn list survey.sites.items → ((k : ℕ) (op : RowOp) → slice_get (sites_of list) k ≡ Some op → HasSite op) → LoadsNoneOfOwn list n
+none_own list n survey few is own has = record {
   each = λ index caller words values below fit valued. sees_first values words list fit has (pairs index caller words
       values below valued);
 }
@@ -95,13 +73,13 @@ none_own list facts sites meetings n few are_sites are own has = record {
         → slice_get (sites_of list) second ≡ Some by → loads at ≡ true → leaves by ≡ true → TouchesHalf at values half
         → TouchesHalf by values half → ⊥
     pairs index caller words values below valued first second at by half before here there loaded left touch touched =
-        elim (are.others first second at by here there) [
+        elim (own.are.others first second at by here there) [
           | inl listed ↦
-              let one = known list facts sites first at are_sites here in
-              let two = known list facts sites second by are_sites there in
+              let one = known list is.facts survey.sites.items first at is.are_sites here in
+              let two = known list is.facts survey.sites.items second by is.are_sites there in
               let meeting : Meeting = record { first = first; second = second } in
-              own listed.0 meeting
-              (there_is meetings listed.0 meeting listed.1 listed.2) (record {
+              own.none listed.0 meeting
+              (there_is own.meetings listed.0 meeting listed.1 listed.2) (record {
                 at = one.site;
                 by = two.site;
                 before = before;
@@ -116,75 +94,75 @@ none_own list facts sites meetings n few are_sites are own has = record {
               (subst (λ (i : ℕ). AreValues list i caller words values) (sym same) valued) valued half touch touched
         ]
 
--- an element is that of no byte of a site that misses it
+-- the byte that a lane names at a site where it touches an element
+record IsNamed (site : Site) (index e : ℕ) : Type 0 where
+  byte : ℕ
+  sure : IsSure site.byte index byte
+  inside : byte / 8 ≡ e
+
+named : (list : List RowOp) (facts : List Fact) (site : Site) → AreFacts list facts → IsSite list facts site
+    → (index : ℕ) (caller words values : List ℕ) → index ≤ 2 ^ 23 → AreValues list index caller words values → (e : ℕ)
+    → Touches site.op values e → IsNamed site index e
+named list facts site are is index caller words values few valued e touch =
+    let same : touch.place ≡ site.place = some-same touch.place site.place (sym touch.is ∙ is.there) in
+    let there = subst (λ (p : Place). is_in values p.mask ≡ true) same touch.there in
+    record {
+      byte = byte_at values site.place;
+      sure = is.byte index caller words values valued (are.each index caller words values few valued) there;
+      inside = subst (λ (p : Place). byte_at values p / 8 ≡ e) same touch.at;
+    }
+
+-- a lane touches no element of which it names no byte
 pub missed : (list : List RowOp) (facts : List Fact) (site : Site) → AreFacts list facts → IsSite list facts site
     → (index : ℕ) (caller words values : List ℕ) → index ≤ 2 ^ 23 → AreValues list index caller words values → (e : ℕ)
     → Misses site e → Touches site.op values e → ⊥
 missed list facts site are is index caller words values few valued e misses touch =
-    let same : touch.place ≡ site.place = some-same touch.place site.place (sym touch.is ∙ is.there) in
-    let there = subst (λ (p : Place). is_in values p.mask ≡ true) same touch.there in
-    misses (byte_at values site.place)
-    (is.byte index caller words values valued (are.each index caller words values few valued) there).in_range
-    (subst (λ (p : Place). byte_at values p / 8 ≡ e) same touch.at)
-
--- lists that never conflict are calm at all elements
-pub never_calm : (list : List RowOp) (n : ℕ) → NeverConflict list n → (e : ℕ) → IsCalm list n e
-never_calm list n never e = record {
-  pairs = λ first second at by here there reading leaving.
-      elim ((never.sites first second at by here there).0 reading leaving) [
-        | inl apart ↦ inl (λ earlier later order below caller words values others are_later are_earlier touch touched.
-            let distance = later - earlier in
-            let same : earlier + distance ≡ later = omega (arith, order) in
-            let both : AreApart list at by later earlier =
-            subst (λ (k : ℕ). AreApart list at by k earlier) same
-            (apart earlier distance (omega (arith, order)) (omega (arith, same, below))) in
-            both.never caller words values others are_later are_earlier e touch touched)
-        | inr alone ↦ inr alone
-      ];
-}
-
-abbrev Pair : List RowOp → (n e : ℕ) → (at by : RowOp) → Type 0
-Pair list n e at by = NeverBoth list at by n e ⊎ (ReduceAlike by at × IsAlone list by n)
+    let one = named list facts site are is index caller words values few valued e touch in
+    misses one.byte one.sure.in_range one.inside
 
 -- an element that isn't open is calm
-pub closed_calm : (list : List RowOp) (facts : List Fact) (sites : List Site) (spans : List Span) (n : ℕ) → n ≤ 2 ^ 23
-    → AreFacts list facts → AreSites list facts list sites → OpenUpto sites (length sites) spans → (e : ℕ)
-    → (IsInSome spans e → ⊥) → IsCalm list n e
-closed_calm list facts sites spans n few are are_sites all e closed = record {
+pub closed_calm : (list : List RowOp) (n : ℕ) (survey : Survey) → n ≤ 2 ^ 23 → IsSurvey list n survey → (e : ℕ)
+    → (IsInSome survey.spans.items e → ⊥) → IsCalm list n e
+closed_calm list n survey few is e closed = record {
   pairs = λ first second at by here there reading leaving.
-      let one = known list facts sites first at are_sites here in
-      let two = known list facts sites second by are_sites there in
-      let found = (all.each first one.site (slice_get_within sites first one.site one.there) one.there
+      let one = known list facts sites first at is.are_sites here in
+      let two = known list facts sites second by is.are_sites there in
+      let found = (is.all.each first one.site (slice_get_within sites first one.site one.there) one.there
       (ap reads one.same ∙ reading)).each e second two.site (slice_get_within sites second two.site two.there)
       two.there (ap leaves two.same ∙ leaving) in
       subst (λ (o : RowOp). Pair list n e o by) one.same (subst (λ (o : RowOp). Pair list n e one.site.op o) two.same
       (pair one.site two.site one.is two.is found));
 }
   where
-    alone_in : (by : Site) → IsSite list facts by → AreAlone sites by → IsAlone list by.op n
-    alone_in by is alone k at here =
-        let three = known list facts sites k at are_sites here in
+    facts : List Fact
+    facts = is.facts
+
+    sites : List Site
+    sites = survey.sites.items
+
+    at_byte : (site : Site) → IsSite list facts site → (index : ℕ) → index < n → (caller words values : List ℕ)
+        → AreValues list index caller words values → (e : ℕ) → Touches site.op values e → IsNamed site index e
+    at_byte site site_is index below caller words values =
+        named list facts site is.are_facts site_is index caller words values (omega (arith, below, few))
+
+    alone_in : (by : Site) → IsSite list facts by → AreAlone sites by n → IsAlone list by.op n
+    alone_in by by_is alone k at here =
+        let three = known list facts sites k at is.are_sites here in
         elim (alone k three.site three.there) [
           | inl alike ↦ inl (subst (ReduceAlike by.op) three.same alike)
-          | inr apart ↦ inr (subst (λ (o : RowOp). AlwaysApart list o by.op n) three.same
-              (λ index other below under. record {
-                never = λ caller words values others one_are two_are element touch touched.
-                    missed list facts three.site are three.is index caller words values (omega (arith, below, few)) one_are
-                    element
-                    (λ byte contains inside. missed list facts by are is other caller words others (omega (arith, under, few))
-                    two_are element (λ other_byte contained same. apart element byte other_byte contains contained inside same)
-                    touched) touch;
-              }))
+          | inr apart ↦ inr (λ index other below under caller words values others one_are two_are element touch touched.
+              let a = at_byte three.site three.is index below caller words values one_are element
+              (subst (λ (o : RowOp). Touches o values element) (sym three.same) touch) in
+              let b = at_byte by by_is other under caller words others two_are element touched in
+              apart.never index other a.byte b.byte below under a.sure b.sure (a.inside ∙ sym b.inside))
         ]
 
-    pair : (at by : Site) → IsSite list facts at → IsSite list facts by → IsInSome spans e ⊎ IsApartAt sites at by e
-        → Pair list n e at.op by.op
+    pair : (at by : Site) → IsSite list facts at → IsSite list facts by
+        → IsInSome survey.spans.items e ⊎ IsApartAt sites at by n e → Pair list n e at.op by.op
     pair at by at_is by_is (inl open_there) = absurd (closed open_there)
     pair at by at_is by_is (inr (inl misses)) =
         inl (λ earlier later order below caller words values others are_later are_earlier touch touched.
-        missed list facts at are at_is later caller words values (omega (arith, below, few)) are_later e misses touch)
-    pair at by at_is by_is (inr (inr (inl misses))) =
-        inl (λ earlier later order below caller words values others are_later are_earlier touch touched.
-        missed list facts by are by_is earlier caller words others (omega (arith, order, below, few)) are_earlier e misses
-        touched)
-    pair at by at_is by_is (inr (inr (inr alone))) = inr (alone.0, alone_in by by_is alone.1)
+        let a = at_byte at at_is later below caller words values are_later e touch in
+        let b = at_byte by by_is earlier (omega (arith, order, below)) caller words others are_earlier e touched in
+        misses.never earlier later a.byte b.byte order below a.sure b.sure a.inside b.inside)
+    pair at by at_is by_is (inr (inr alone)) = inr (alone.0, alone_in by by_is alone.1)

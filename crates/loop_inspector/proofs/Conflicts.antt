@@ -12,8 +12,8 @@ use Rattle.loop_core_model.proofs.OneElement.{and_true_left, and_true_right, sam
 use Rattle.loop_core_model.specs.Effects.{action_on, accesses_on}
 use Rattle.row_list.specs.{declared.row_op.RowOp.{RowOp}, Rows.{AreValues, RowAccess, deed_of, effects_by, row_access}}
 use Rattle.row_facts.specs.{Sites.{sites_of}, Meetings.{leaves}, Elements.{reads, Touches}}
-use Rattle.row_facts.specs.Independence.{IsAlone}
-use Rattle.loop_inspector.proofs.{CalmLaws.{IsCalm}, Deeds.{HasSite, writer, reader, all_pass, alike_acts, operator_of, by_sites}}
+use Rattle.loop_inspector.proofs.CalmLaws.{IsAlone, IsCalm}
+use Rattle.loop_inspector.proofs.Deeds.{HasSite, writer, reader, all_pass, alike_acts, operator_of, by_sites}
 
 -- iterations that do nothing at an element fail no test there
 pub idle_flow : (iterations : List (List Action)) → joined iterations ≡ [] → fails_flow iterations ≡ false
@@ -119,7 +119,7 @@ module _ (list : List RowOp) (n : ℕ) (caller words : List ℕ) (values : ℕ �
           → reduces_by (operator_of wrote.op) (action_on (deed_of access.request word) on) ≡ true
       only i inside alone k at there touch access is word on = elim (alone k at there) [
         | inl alike ↦ alike_acts wrote.op at (values i) access alike is word on
-        | inr apart ↦ absurd ((apart i earlier inside (omega (arith, order, below))).never caller words (values i)
+        | inr apart ↦ absurd (apart i earlier inside (omega (arith, order, below)) caller words (values i)
             (values earlier) (are i inside) (are earlier (omega (arith, order, below))) e touch wrote.holds.1)
       ]
 

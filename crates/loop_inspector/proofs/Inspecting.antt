@@ -27,9 +27,9 @@ use Rattle.loop_marks.specs.Visits.{visits_below}
 use Rattle.loop_inspector.specs.{Inspections.{AreInspected, IsInspected, IsInspection, IsVerdictAt}}
 use Rattle.loop_inspector.specs.declared.inspection.Inspection.{Inspection}
 use Rattle.loop_inspector.proofs.{Bits.{elements_below}, Settling.{IsSettled, is_verdict}}
-use Rattle.loop_inspector.proofs.CalmLaws.{LoadsNoneOfOwn, closed_calm, each_site, missed, none_own}
+use Rattle.loop_inspector.proofs.CalmLaws.{LoadsNoneOfOwn, closed_calm, missed}
 use Rattle.loop_inspector.proofs.{FrameNumbers.{AreBytes, filled_fit}, SliceLanes.{extended, survivors}}
-use Rattle.loop_inspector.proofs.Passing.{enough_zeros, makes, many, runs_of, words_both, zeros, zeros_fit}
+use Rattle.loop_inspector.proofs.Passing.{enough_zeros, makes, many, own_of, runs_of, words_both, zeros, zeros_fit}
 
 -- with zeros after them words are the same
 same_word : (words : List ℕ) (x : ℕ) → slice_index (words ++ zeros) x ≡ slice_index words x
@@ -132,8 +132,9 @@ pub record IsLane (program : Program) (call : LoopCall) (words plane : List ℕ)
 -- so it is of each lane of a batch of the slice
 module _ (fits : ResultsFit) (its : EachIterationSimulates) (program : Program) (sound : IsSoundProgram program)
     (each : EachIterationEnds program) (call : LoopCall) (known : OverApproximatesCall program call) (rows : CallbackRows)
-    (are : AreRowsAt program call.callback rows) (bytes : List ℕ) (same : map Some bytes ≡ call.frame) (words : List ℕ)
-    (fit : AreMapWords program words) (inspection : Inspection) (is : IsInspection rows (length words) inspection) where
+    (are : AreRowsAt program call.callback rows) (bytes : List ℕ) (same : map Some bytes ≡ call.frame)
+    (words : List ℕ) (fit : AreMapWords program words) (inspection : Inspection)
+    (is : IsInspection rows call.n (length words) inspection) where
   abbrev list : List RowOp
   list = rows.list.list.items
 
@@ -146,10 +147,8 @@ module _ (fits : ResultsFit) (its : EachIterationSimulates) (program : Program) 
   bytes_fit : AreBytes bytes
   bytes_fit = filled_fit bytes (subst (AllByRecursion SoundByte) (sym same) known.sound.frame.bytes)
 
-  pub own : LoadsNoneOfOwn list call.n
-  own = none_own list is.facts is.sites is.meetings call.n few is.are_sites is.are_meetings is.own
-      (each_site list rows.sites.accesses.items rows.sites.sites.items are.are.sites.listed.all
-      are.are.sites.listed.kinds)
+  own : LoadsNoneOfOwn list call.n
+  own = own_of program call known rows are is.survey is.known is.own
 
   lane_is : (index : ℕ) → index < call.n → (effects : List Effect) → RanAs cuts inspection.slice.list.result index bytes words
       effects → (made : List Access) × IsLane program call words inspection.plane.items index effects made
@@ -157,17 +156,17 @@ module _ (fits : ResultsFit) (its : EachIterationSimulates) (program : Program) 
       let slice = is.slice in
       let lane : AreValues cuts index bytes (words ++ zeros) ran.values = values_same cuts index bytes words ran.values
       ran.are in
-      let whole = extended fits is.sites is.spans slice.needed rows.list.result list cuts is.ordered slice.cuts index bytes
-      (words ++ zeros) bytes_fit (words_both words zeros fit.fit (zeros_fit many)) (omega (arith, below, few)) ran.values
-      lane in
+      let whole = extended fits is.survey.sites.items is.survey.spans.items slice.needed rows.list.result list cuts
+      is.known.ordered slice.cuts index bytes (words ++ zeros) bytes_fit (words_both words zeros fit.fit (zeros_fit many))
+      (omega (arith, below, few)) ran.values lane in
       let one = makes fits its program sound each call known are.ops are.translated list rows.list.result
       (subst (λ (start : ℕ). AgreesWithValues are.ops start list rows.list.result) are.here are.are.agrees)
-      is.ordered own bytes (sym (length-map bytes Some) ∙ ap length same ∙ known.sound.frame.count) same words fit zeros
-      enough_zeros (zeros_fit many) index below whole.values whole.are in
-      let left = survivors is.sites is.spans slice.needed rows.list.result list cuts slice.cuts (words ++ zeros)
-      whole.values ran.values whole.same
-      (λ k site there e misses touch. missed list is.facts site is.are_facts (site_is k site there) index bytes
-      (words ++ zeros) whole.values (omega (arith, below, few)) whole.are e misses touch) in (
+      is.known.ordered own bytes (sym (length-map bytes Some) ∙ ap length same ∙ known.sound.frame.count) same words fit
+      zeros enough_zeros (zeros_fit many) index below whole.values whole.are in
+      let left = survivors is.survey.sites.items is.survey.spans.items slice.needed rows.list.result list cuts
+      slice.cuts (words ++ zeros) whole.values ran.values whole.same
+      (λ k site there e misses touch. missed list is.known.facts site is.known.are_facts (site_is k site there) index
+      bytes (words ++ zeros) whole.values (omega (arith, below, few)) whole.are e misses touch) in (
         left.made,
         record {
           inspected = record {
@@ -185,10 +184,10 @@ module _ (fits : ResultsFit) (its : EachIterationSimulates) (program : Program) 
         },
       )
     where
-      site_is : (k : ℕ) (site : Site) → slice_get is.sites k ≡ Some site → IsSite list is.facts site
+      site_is : (k : ℕ) (site : Site) → slice_get is.survey.sites.items k ≡ Some site → IsSite list is.known.facts site
       site_is k site there =
-          subst (IsSite list is.facts) (get_or_from_slice_get is.sites k site site there)
-          (is.are_sites.each k site (slice_get_within is.sites k site there))
+          subst (IsSite list is.known.facts) (get_or_from_slice_get is.survey.sites.items k site site there)
+          (is.known.are_sites.each k site (slice_get_within is.survey.sites.items k site there))
 
   -- a batch more
   pub batch_inspected : (index lanes : ℕ) → index + lanes ≤ call.n → (log : EffectLog) (returned_lanes : ℕ)
@@ -236,8 +235,8 @@ module _ (fits : ResultsFit) (its : EachIterationSimulates) (program : Program) 
       → verdict Flow program 4096 call words ≡ Ended found
   inspected_verdict index within planes inspected test elements found is_at done =
       is_verdict program call list words inspection.plane.items
-      (runs_of fits its program sound each call known rows are is.ordered own bytes same words fit)
-      (λ e below bit. closed_calm list is.facts is.sites is.spans call.n few is.are_facts is.are_sites is.all e
+      (runs_of fits its program sound each call known rows are is.known.ordered own bytes same words fit)
+      (λ e below bit. closed_calm list call.n is.survey few is.known e
       (λ there. not_open inspection.plane.items e (is.plane.set e below there) bit))
       index within planes inspected test elements found is_at (elim done [
         | inl all ↦ inl all

@@ -1,7 +1,7 @@
 -- A loop whose iterations never conflict passes.
 use Rattle.std.proofs.Common.{◌≡◌, ℕ, zero, suc, ◌+◌, ◌-◌, ◌^◌, ◌<◌, ◌≤◌, ◌⊎◌, inl, inr, Bool, true, false, ◌==◌, if◌then◌else◌, List}
-use Rattle.std.proofs.Common.{[], ◌∷◌, ◌++◌, map, length, slice_index, Some, refl, sym, ap, subst, ◌∙◌, arith, Result}
-use Rattle.std.{proofs.Common.{Ok, Err, IfOk}, specs.{Prelude.{replicate}, List.{AllByRecursion, range_with_len}}}
+use Rattle.std.proofs.Common.{[], ◌∷◌, ◌++◌, map, length, slice_index, Some, refl, sym, ap, subst, ◌∙◌, arith}
+use Rattle.std.specs.{Prelude.{replicate, slice_get}, List.{AllByRecursion, range_with_len}}
 use Rattle.std.proofs.lemmas.List.{length-map, length-append, length-replicate}
 use Rattle.array_maps.specs.{Accesses.{Access}, MapList.{AreWords}}
 use Rattle.bpf_insn_types.specs.{Program.{Program}, WordBounds.{ResultsFit}}
@@ -22,9 +22,11 @@ use Rattle.loop_core_model.proofs.{PlaneLaws.{filter-none}, ScanLaws.{counted_ar
 use Rattle.row_list.specs.{declared.row_op.RowOp.{RowOp}, Rows.{AreValues, effects_by}}
 use Rattle.row_list.specs.Agreement.{AgreesWithValues, EndsWith}
 use Rattle.row_facts.specs.Ordered.{IsOrdered}
-use Rattle.loop_inspector.{specs.Independent.{IndependentPass}, proofs.{Deeds.{all_inside}, FrameNumbers.{filled_fit}}}
+use Rattle.loop_inspector.specs.{Independent.{AlwaysPasses}, Inspections.{IsSurvey}, Open.{NoneLoadsOwn}}
+use Rattle.loop_inspector.specs.declared.{reach.Span.{Span}, survey.Survey.{Survey}}
+use Rattle.loop_inspector.proofs.{Deeds.{all_inside}, FrameNumbers.{filled_fit}}
 use Rattle.loop_inspector.proofs.{Values.{values_of, are_values}, Longer.{IsLonger, longer_run}}
-use Rattle.loop_inspector.proofs.CalmLaws.{IsCalm, LoadsNoneOfOwn, each_site, never_calm, never_own}
+use Rattle.loop_inspector.proofs.CalmLaws.{IsCalm, LoadsNoneOfOwn, closed_calm, each_site, none_own}
 use Rattle.loop_inspector.proofs.Conflicts.{calm_at, lane_accesses}
 
 -- an iteration that ended
@@ -296,20 +298,24 @@ runs_of fits its program sound each call known rows are ordered own bytes same w
     ordered own bytes (sym (length-map bytes Some) ∙ ap length same ∙ known.sound.frame.count) same words fit zeros
     enough_zeros (zeros_fit many)
 
-pub independent_pass : IndependentPass
-independent_pass fits its program sound each call known independent words fit =
-    let are = independent.are in
-    let list = independent.rows.list.list.items in
-    all_pass_flow program call list words
-    (runs_of fits its program sound each call known independent.rows are independent.never.ordered
-    (never_own list call.n independent.never
-    (each_site list independent.rows.sites.accesses.items independent.rows.sites.sites.items are.are.sites.listed.all
-    are.are.sites.listed.kinds))
-    independent.bytes independent.filled words fit)
-    (never_calm list call.n independent.never)
+-- so it loads nothing of its own, where a survey says so
+pub own_of : (program : Program) (call : LoopCall) → OverApproximatesCall program call → (rows : CallbackRows)
+    → AreRowsAt program call.callback rows → (survey : Survey) → IsSurvey rows.list.list.items call.n survey
+    → NoneLoadsOwn rows.list.list.items survey.sites.items → LoadsNoneOfOwn rows.list.list.items call.n
+own_of program call known rows are survey is own =
+    none_own rows.list.list.items call.n survey (omega (arith, known.sound.iterations)) is own
+    (each_site rows.list.list.items rows.sites.accesses.items rows.sites.sites.items are.are.sites.listed.all
+    are.are.sites.listed.kinds)
 
--- so where it is found that they don't
-pub if_found : {E : Type 0} → (told : Result Bool E) (P Q : Type 0) → (P → Q) → IfOk told (λ b. b ≡ true → P)
-    → IfOk told (λ b. b ≡ true → Q)
-if_found (Ok b) P Q so is = λ found. so (is found)
-if_found (Err e) P Q so is = tt
+-- a loop of which no element is open passes
+pub none_open_pass : ResultsFit → EachIterationSimulates → (program : Program) → IsSoundProgram program
+    → EachIterationEnds program → (call : LoopCall) → OverApproximatesCall program call → (rows : CallbackRows)
+    → AreRowsAt program call.callback rows → (survey : Survey) → IsSurvey rows.list.list.items call.n survey
+    → NoneLoadsOwn rows.list.list.items survey.sites.items → survey.spans.items ≡ [] → (bytes : List ℕ) → map Some bytes ≡ call.frame → AlwaysPasses program call
+none_open_pass fits its program sound each call known rows are survey is own none bytes same words fit =
+    all_pass_flow program call rows.list.list.items words
+    (runs_of fits its program sound each call known rows are is.ordered (own_of program call known rows are survey is
+    own) bytes same words fit)
+    (λ e. closed_calm rows.list.list.items call.n survey (omega (arith, known.sound.iterations)) is e (λ inside.
+    absurd (let there = subst (λ (spans : List Span). slice_get spans inside.k ≡ Some inside.span) none inside.there in
+    cc)))

@@ -1,5 +1,5 @@
 -- Spans of elements, and planes of those in them.
-use Rattle.std.proofs.Common.{◌≡◌, ◌∙◌, ℕ, zero, suc, ◌+◌, ◌<◌, ◌≤◌, ◌⊎◌, Bool, true}
+use Rattle.std.proofs.Common.{◌≡◌, ◌∙◌, ℕ, zero, suc, ◌+◌, ◌/◌, ◌<◌, ◌≤◌, ◌⊎◌, Bool, true}
 use Rattle.std.proofs.Common.{List, [], ◌∷◌, ◌++◌, length, refl, sym, ap, subst, inl, inr, arith}
 use Rattle.std.{specs.Prelude.{slice_get, Some}, proofs.{lemmas.Bool.{cases_lt, Decides.{nat_tests}}}}
 use Rattle.row_facts.specs.{declared.site.Site.{Site}, Meetings.{leaves}, Elements.{reads}}
@@ -46,11 +46,12 @@ in-more spans span e is = elim (get-more spans span is.span is.k is.there) [
 ]
 
 -- sites whose spans are apart are
-pub sites-apart : (at by : Site) (one other : Span) → IsSpanOf at one → IsSpanOf by other → AreApart one other
-    → AreSitesApart at by
-sites-apart at by one other at_is by_is apart e byte second first_in second_in first_is second_is =
-    apart e (subst (IsIn one) first_is (at_is.each byte first_in))
-    (subst (IsIn other) second_is (by_is.each second second_in))
+pub spans-apart : (at by : Site) (n : ℕ) (one other : Span) → IsSpanOf at one → IsSpanOf by other → AreApart one other
+    → AreSitesApart at by n
+spans-apart at by n one other at_is by_is apart = record {
+  never = λ index second x y below under first_is second_is same. apart (y / 8)
+      (subst (IsIn one) same (at_is.each x first_is.in_range)) (by_is.each y second_is.in_range);
+}
 
 pub avoids-more : (spans : List Span) (span one : Span) (site : Site) → IsSpanOf site one → AreApart one span
     → AvoidsOpen spans site → AvoidsOpen (spans ++ span ∷ []) site
@@ -118,29 +119,30 @@ each-more P xs n x there here before k y below is = elim (cases_lt k n) [
       subst (λ (j : ℕ). P j y) same (subst (P n) one here)
 ]
 
-pub open-kept : (sites : List Site) (at : Site) (count : ℕ) (old new : List Span) → AreKept old new
-    → OpenAt sites at count old → OpenAt sites at count new
-open-kept sites at count old new kept open_before = record {
+pub open-kept : (sites : List Site) (at : Site) (n count : ℕ) (old new : List Span) → AreKept old new
+    → OpenAt sites at n count old → OpenAt sites at n count new
+open-kept sites at n count old new kept open_before = record {
   each = λ e k by below there left. elim (open_before.each e k by below there left) [
     | inl is ↦ inl (kept e is)
     | inr apart ↦ inr apart
   ];
 }
 
-pub open-more : (sites : List Site) (at by : Site) (count : ℕ) (spans : List Span) → slice_get sites count ≡ Some by
-    → (leaves by.op ≡ true → (e : ℕ) → IsInSome spans e ⊎ IsApartAt sites at by e)
-    → OpenAt sites at count spans → OpenAt sites at (count + 1) spans
-open-more sites at by count spans there here before = record {
-  each = λ e. each-more (λ k other. leaves other.op ≡ true → IsInSome spans e ⊎ IsApartAt sites at other e) sites count
-      by there (λ left. here left e) (before.each e);
+pub open-more : (sites : List Site) (at by : Site) (n count : ℕ) (spans : List Span) → slice_get sites count ≡ Some by
+    → (leaves by.op ≡ true → (e : ℕ) → IsInSome spans e ⊎ IsApartAt sites at by n e)
+    → OpenAt sites at n count spans → OpenAt sites at n (count + 1) spans
+open-more sites at by n count spans there here before = record {
+  each = λ e. each-more (λ k other. leaves other.op ≡ true → IsInSome spans e ⊎ IsApartAt sites at other n e) sites
+      count by there (λ left. here left e) (before.each e);
 }
 
-pub upto-more : (sites : List Site) (at : Site) (count : ℕ) (old new : List Span) → slice_get sites count ≡ Some at
-    → AreKept old new → (reads at.op ≡ true → OpenAt sites at (length sites) new)
-    → OpenUpto sites count old → OpenUpto sites (count + 1) new
-upto-more sites at count old new there kept here before = record {
-  each = each-more (λ j other. reads other.op ≡ true → OpenAt sites other (length sites) new) sites count at there here
-      (λ j other below is read. open-kept sites other (length sites) old new kept (before.each j other below is read));
+pub upto-more : (sites : List Site) (at : Site) (n count : ℕ) (old new : List Span) → slice_get sites count ≡ Some at
+    → AreKept old new → (reads at.op ≡ true → OpenAt sites at n (length sites) new)
+    → OpenUpto sites n count old → OpenUpto sites n (count + 1) new
+upto-more sites at n count old new there kept here before = record {
+  each = each-more (λ j other. reads other.op ≡ true → OpenAt sites other n (length sites) new) sites count at there
+      here (λ j other below is read. open-kept sites other n (length sites) old new kept (before.each j other below is
+      read));
 }
 
 -- an element is in the span of a site, or has no byte of it
@@ -154,13 +156,17 @@ in-or-misses site span e is = elim (cases_lt e span.first) [
 ]
 
 -- the common elements of the spans of two sites are open, or one has no byte of it
-pub open-both : (sites : List Site) (at by : Site) (one other both : Span) (spans : List Span) → IsSpanOf at one
+pub open-both : (sites : List Site) (at by : Site) (n : ℕ) (one other both : Span) (spans : List Span) → IsSpanOf at one
     → IsSpanOf by other → ((e : ℕ) → IsIn one e → IsIn other e → IsIn both e)
-    → ((e : ℕ) → IsIn both e → IsInSome spans e) → (e : ℕ) → IsInSome spans e ⊎ IsApartAt sites at by e
-open-both sites at by one other both spans at_is by_is common added e = elim (in-or-misses at one e at_is) [
-  | inr misses ↦ inr (inl misses)
+    → ((e : ℕ) → IsIn both e → IsInSome spans e) → (e : ℕ) → IsInSome spans e ⊎ IsApartAt sites at by n e
+open-both sites at by n one other both spans at_is by_is common added e = elim (in-or-misses at one e at_is) [
+  | inr misses ↦ inr (inl (record {
+    never = λ earlier later x y order below first second here there. misses x first.in_range here;
+  }))
   | inl first ↦ elim (in-or-misses by other e by_is) [
-    | inr misses ↦ inr (inr (inl misses))
+    | inr misses ↦ inr (inl (record {
+      never = λ earlier later x y order below first second here there. misses y second.in_range there;
+    }))
     | inl second ↦ inl (added e (common e first second))
   ]
 ]

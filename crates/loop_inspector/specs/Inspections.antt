@@ -7,34 +7,36 @@ use Rattle.bpf_step_model.specs.State.{LoopCall}
 use Rattle.loop_core_model.specs.{Report.{judged}, LoopByEffects.{EndsInZero}, Marks.{Visit, marks_of, marked_conflict}}
 use Rattle.loop_core_model.specs.{Planes.{bit_of}, declared.verdict.Verdict.{Verdict}}
 use Rattle.bpf_verify.specs.{declared.callback_rows.CallbackRows.{CallbackRows}, Rows.{AreRowsAt}}
-use Rattle.row_facts.specs.{declared.{fact.Fact.{Fact}, site.Site.{Site}, meeting.Meeting.{Meeting}}, Facts.{AreFacts}}
-use Rattle.row_facts.specs.{Sites.{AreSites}, Meetings.{AreMeetings}, Ordered.{IsOrdered}}
+use Rattle.row_list.specs.declared.row_op.RowOp.{RowOp}
+use Rattle.row_facts.specs.{declared.fact.Fact.{Fact}, Facts.{AreFacts}}
+use Rattle.row_facts.specs.{Sites.{AreSites}, Ordered.{IsOrdered}}
 use Rattle.shadow_marks.specs.{declared.planes.Planes.{Planes}, Standing.{StandFor, test_of}}
 use Rattle.loop_marks.specs.Visits.{visits_below}
-use Rattle.loop_inspector.specs.declared.{reach.Span.{Span}, inspection.Inspection.{Inspection}}
-use Rattle.loop_inspector.specs.{Open.{IsPlaneOf, NoneOfOwn, OpenUpto}, Slices.{IsSlice}}
+use Rattle.loop_inspector.specs.declared.{survey.Survey.{Survey}, inspection.Inspection.{Inspection}}
+use Rattle.loop_inspector.specs.{Open.{IsPlaneOf, NoneLoadsOwn, OpenUpto}, Slices.{IsSlice}}
 
--- what is known of a loop of a callback over so many elements: its slice is for the elements at which iterations may
--- conflict, and none loads what it left itself
-pub record IsInspection (rows : CallbackRows) (elements : ℕ) (inspection : Inspection) : Type 0 where
-  pub ordered : IsOrdered rows.list.list.items
+-- what is known of the iterations of a list, of indexes below n: the elements at which they may conflict
+pub record IsSurvey (list : List RowOp) (n : ℕ) (survey : Survey) : Type 0 where
+  pub ordered : IsOrdered list
   pub facts : List Fact
-  pub are_facts : AreFacts rows.list.list.items facts
-  pub sites : List Site
-  pub are_sites : AreSites rows.list.list.items facts rows.list.list.items sites
-  pub meetings : List Meeting
-  pub are_meetings : AreMeetings rows.list.list.items meetings
-  pub own : NoneOfOwn sites meetings
-  pub spans : List Span
-  pub all : OpenUpto sites (length sites) spans
-  pub plane : IsPlaneOf spans elements inspection.plane.items
-  pub slice : IsSlice sites spans rows.list.list.items rows.list.result inspection.slice
+  pub are_facts : AreFacts list facts
+  pub are_sites : AreSites list facts list survey.sites.items
+  pub all : OpenUpto survey.sites.items n (length survey.sites.items) survey.spans.items
+
+-- what is known of a loop of a callback over so many elements: its slice is for the elements that are open, and no
+-- iteration loads what it left itself
+pub record IsInspection (rows : CallbackRows) (n elements : ℕ) (inspection : Inspection) : Type 0 where
+  pub survey : Survey
+  pub known : IsSurvey rows.list.list.items n survey
+  pub own : NoneLoadsOwn rows.list.list.items survey.sites.items
+  pub plane : IsPlaneOf survey.spans.items elements inspection.plane.items
+  pub slice : IsSlice survey.sites.items survey.spans.items rows.list.list.items rows.list.result inspection.slice
 
 -- so of a loop call's
 pub record IsInspectionOf (program : Program) (call : LoopCall) (elements : ℕ) (inspection : Inspection) : Type 0 where
   pub rows : CallbackRows
   pub are : AreRowsAt program call.callback rows
-  pub is : IsInspection rows elements inspection
+  pub is : IsInspection rows call.n elements inspection
 
 -- an iteration was inspected: it returns 0 on the start words, and at open elements it does what is marked
 pub record IsInspected (program : Program) (call : LoopCall) (words plane : List ℕ) (index : ℕ) (made : List Access)

@@ -1,9 +1,10 @@
 -- Elements that are open: iterations may conflict there.
-use Rattle.std.specs.Prelude.{◌≡◌, ℕ, ◌<◌, ◌≤◌, ◌⊎◌, true, List, Some, length, slice_get}
+use Rattle.std.specs.Prelude.{◌≡◌, ℕ, ◌/◌, ◌<◌, ◌≤◌, ◌⊎◌, true, List, Some, length, slice_get}
 use Rattle.loop_core_model.specs.Planes.{bit_of}
-use Rattle.row_facts.specs.{declared.{site.Site.{Site}, meeting.Meeting.{Meeting}}, Meetings.{leaves, loads, ReduceAlike}}
-use Rattle.row_facts.specs.Elements.{reads}
-use Rattle.loop_inspector.specs.{declared.reach.Span.{Span}, Reach.{IsIn, Misses, AreAlone}}
+use Rattle.row_list.specs.declared.row_op.RowOp.{RowOp}
+use Rattle.row_facts.specs.{declared.{site.Site.{Site}, meeting.Meeting.{Meeting}}, Facts.{IsSure}, Elements.{reads}}
+use Rattle.row_facts.specs.Meetings.{AreMeetings, leaves, loads, ReduceAlike}
+use Rattle.loop_inspector.specs.{declared.reach.Span.{Span}, Reach.{IsIn, AreAlone}}
 
 -- an element is in one of some spans
 pub record IsInSome (spans : List Span) (e : ℕ) : Type 0 where
@@ -12,20 +13,25 @@ pub record IsInSome (spans : List Span) (e : ℕ) : Type 0 where
   pub there : slice_get spans k ≡ Some span
   pub within : IsIn span e
 
--- at an element, lanes don't read at a site what others leave at another, but where all that touch it reduce by one
--- operator
-abbrev pub IsApartAt : List Site → (at by : Site) → (e : ℕ) → Type 0
-IsApartAt sites at by e = Misses at e ⊎ (Misses by e ⊎ (ReduceAlike by.op at.op × AreAlone sites by))
+-- lanes, of indexes below n, name no byte of an element at a site, if an earlier one does at another
+pub record LaterMisses (at by : Site) (n e : ℕ) : Type 0 where
+  pub never : (earlier later x y : ℕ) → earlier < later → later < n → IsSure at.byte later x →
+      IsSure by.byte earlier y → x / 8 ≡ e → y / 8 ≡ e → ⊥
+
+-- at an element, lanes don't read at a site what earlier ones leave at another, but where all that touch it reduce by
+-- one operator
+abbrev pub IsApartAt : List Site → (at by : Site) → (n e : ℕ) → Type 0
+IsApartAt sites at by n e = LaterMisses at by n e ⊎ (ReduceAlike by.op at.op × AreAlone sites by n)
 
 -- an element is open, or so it is of a site and the first others
-pub record OpenAt (sites : List Site) (at : Site) (count : ℕ) (spans : List Span) : Type 0 where
+pub record OpenAt (sites : List Site) (at : Site) (n count : ℕ) (spans : List Span) : Type 0 where
   pub each : (e k : ℕ) (by : Site) → k < count → slice_get sites k ≡ Some by → leaves by.op ≡ true →
-      IsInSome spans e ⊎ IsApartAt sites at by e
+      IsInSome spans e ⊎ IsApartAt sites at by n e
 
 -- so of the first sites with all
-pub record OpenUpto (sites : List Site) (count : ℕ) (spans : List Span) : Type 0 where
+pub record OpenUpto (sites : List Site) (n count : ℕ) (spans : List Span) : Type 0 where
   pub each : (j : ℕ) (at : Site) → j < count → slice_get sites j ≡ Some at → reads at.op ≡ true →
-      OpenAt sites at (length sites) spans
+      OpenAt sites at n (length sites) spans
 
 -- what is in spans is in others
 abbrev pub AreKept : (old new : List Span) → Type 0
@@ -54,6 +60,12 @@ pub record IsOwn (sites : List Site) (meeting : Meeting) : Type 0 where
   pub loaded : loads at.op ≡ true
   pub left : leaves by.op ≡ true
 
--- none is
+-- none of these is
 abbrev pub NoneOfOwn : List Site → List Meeting → Type 0
 NoneOfOwn sites meetings = (k : ℕ) (meeting : Meeting) → slice_get meetings k ≡ Some meeting → IsOwn sites meeting → ⊥
+
+-- none of a list is
+pub record NoneLoadsOwn (list : List RowOp) (sites : List Site) : Type 0 where
+  pub meetings : List Meeting
+  pub are : AreMeetings list meetings
+  pub none : NoneOfOwn sites meetings

@@ -1,7 +1,7 @@
--- The elements that lanes may access at sites, by the ranges of their bytes.
-use Rattle.std.specs.Prelude.{◌≡◌, ℕ, ◌/◌, ◌≤◌, ◌⊎◌, List, Some, slice_get}
+-- The elements that lanes may access at sites, by what is known of their bytes.
+use Rattle.std.specs.Prelude.{◌≡◌, ℕ, ◌/◌, ◌<◌, ◌≤◌, ◌⊎◌, List, Some, slice_get}
 use Rattle.value_range.specs.Spans.{Contains}
-use Rattle.row_facts.specs.{declared.site.Site.{Site}, Meetings.{ReduceAlike}}
+use Rattle.row_facts.specs.{declared.site.Site.{Site}, Facts.{IsSure}, Meetings.{ReduceAlike}}
 use Rattle.loop_inspector.specs.declared.reach.Span.{Span}
 
 -- an element is in a span
@@ -21,11 +21,12 @@ Misses site e = (byte : ℕ) → Contains site.byte.range byte → byte / 8 ≡ 
 abbrev pub AreApart : (one other : Span) → Type 0
 AreApart one other = (e : ℕ) → IsIn one e → IsIn other e → ⊥
 
--- no element has bytes of two sites
-abbrev pub AreSitesApart : (at by : Site) → Type 0
-AreSitesApart at by = (e byte other : ℕ) → Contains at.byte.range byte → Contains by.byte.range other → byte / 8 ≡ e
-    → other / 8 ≡ e → ⊥
+-- lanes, of indexes below n, name no bytes of a common element at two sites
+pub record AreSitesApart (at by : Site) (n : ℕ) : Type 0 where
+  pub never : (index other x y : ℕ) → index < n → other < n → IsSure at.byte index x → IsSure by.byte other y →
+      x / 8 ≡ y / 8 → ⊥
 
 -- each site reduces by the operator of one, or is apart from it
-abbrev pub AreAlone : List Site → (by : Site) → Type 0
-AreAlone sites by = (k : ℕ) (at : Site) → slice_get sites k ≡ Some at → ReduceAlike by.op at.op ⊎ AreSitesApart at by
+abbrev pub AreAlone : List Site → (by : Site) → (n : ℕ) → Type 0
+AreAlone sites by n = (k : ℕ) (at : Site) → slice_get sites k ≡ Some at →
+    ReduceAlike by.op at.op ⊎ AreSitesApart at by n

@@ -1,5 +1,5 @@
 -- Slices of lists: what says where iterations access open elements, and what they return.
-use Rattle.std.specs.Prelude.{◌≡◌, ℕ, ◌<◌, ◌^◌, ◌⊎◌, Bool, true, List, [], ◌∷◌, Some, length, slice_get}
+use Rattle.std.specs.Prelude.{◌≡◌, ℕ, ◌⊎◌, Bool, true, List, [], ◌∷◌, Some, length, slice_get}
 use Rattle.std.specs.List.{AllByRecursion}
 use Rattle.row_list.specs.declared.row_op.RowOp.{RowOp}
 use Rattle.row_list.specs.declared.row_op.RowOp.TheVariants.{All, Number, Caller, Index, Alu, Neg, Movsx, Endian, Found}
@@ -95,9 +95,3 @@ pub record IsSlice (sites : List Site) (spans : List Span) (list : List RowOp) (
   pub cuts : AreCuts sites spans needed result list slice.list.list.items
   pub result_is : slice.list.result ≡ result
   pub listed : AreListSites slice.list.list.items slice.sites
-
--- the numbers of an operation are as small as their types say
-abbrev pub NumbersFit : RowOp → Type 0
-NumbersFit (Number n) = n < 2 ^ 64
-NumbersFit (Found first count key) = (first < 2 ^ 32) × (count < 2 ^ 32)
-NumbersFit op = Unit {0}

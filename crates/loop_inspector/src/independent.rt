@@ -3,20 +3,14 @@
 
 ghost use Rattle.std.specs.Prelude.{◌≡◌, true, IfOk};
 ghost use Rattle.bpf_verify_sound.specs.Soundness.{OverApproximatesCall};
-ghost use Rattle.loop_inspector.specs.Independent.{AlwaysPasses, IndependentPass};
+ghost use Rattle.loop_inspector.specs.Independent.{AlwaysPasses};
 
+use crate::survey::{none_loads_own, survey_of};
 use bpf_insn_types::results_fit;
 use bpf_step::{LoopCall, law_of_plain_iterations};
 use bpf_verify::Verified;
 use bpf_verify_sound::{law_of_accepted_programs, law_of_accepted_runs};
-use row_facts::never_conflict;
 use std::alloc::{AllocError, Global};
-
-/// The law of independent iterations: each loop call whose callback's list has lanes that never conflict passes by the
-/// flow test, on any words of the maps.
-pub fn law_of_independence()
-    ensures { IndependentPass }
-{}
 
 /// Whether it is known of a loop call that main of this program made that it passes by the flow test, on any words of
 /// the maps. It fails where memory runs out.
@@ -28,7 +22,6 @@ pub fn is_independent(
     requires { OverApproximatesCall program.now call.now }
     ensures { IfOk result (λ found. found ≡ true → AlwaysPasses program.now call.now) }
 {
-    law_of_independence();
     results_fit();
     law_of_plain_iterations();
     law_of_accepted_runs();
@@ -37,8 +30,15 @@ pub fn is_independent(
     let _unit = program.unit();
     // The frame that iterations see.
     let _frame = call.frame();
-    match program.rows(call.callback()) {
-        None => Ok(false),
-        Some(rows) => never_conflict(alloc, rows.list.list.as_slice(), call.n()),
+    let Some(rows) = program.rows(call.callback()) else {
+        return Ok(false);
+    };
+    let ops = rows.list.list.as_slice();
+    let Some(survey) = survey_of(alloc, ops, call.n())? else {
+        return Ok(false);
+    };
+    if !survey.spans.is_empty() {
+        return Ok(false);
     }
+    none_loads_own(alloc, ops, survey.sites.as_slice())
 }

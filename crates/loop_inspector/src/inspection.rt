@@ -11,9 +11,9 @@ ghost use Rattle.lane_planes.specs.Merged.{StandForSome};
 ghost use Rattle.shadow_marks.specs.Standing.{ArePlanes, StandFor, no_visits, test_of};
 ghost use Rattle.loop_inspector.specs.Inspections.{AreInspected, IsInspection, IsInspectionOf, IsVerdictAt, KeepsBits};
 
-use crate::open::{open_spans, plane_of};
-use crate::own::none_loads_own;
-use crate::slice::{Slice, is_ordered, slice_of};
+use crate::open::plane_of;
+use crate::slice::{Slice, slice_of};
+use crate::survey::{none_loads_own, survey_of};
 use array_maps::{Maps, are_words};
 use bpf_insn_types::results_fit;
 use bpf_step::{LoopCall, law_of_plain_iterations};
@@ -22,7 +22,6 @@ use bpf_verify_sound::{law_of_accepted_programs, law_of_accepted_runs};
 use lane_planes::verdict_of;
 use loop_core_model::{Test, Verdict, law_of_planes};
 use loop_marks::LoopMarks;
-use row_facts::{facts, meetings, sites};
 use row_run::Batch;
 use std::alloc::{AllocError, Global};
 
@@ -41,24 +40,30 @@ pub(crate) struct Inspection {
     pub plane: Vec<u64>,
 }
 
-/// What is known of a loop of a callback over so many elements, if it can be inspected. It fails where memory runs out.
+/// What is known of a loop of n iterations of a callback over so many elements, if it can be inspected. It fails where
+/// memory runs out.
 fn inspection_of(
     alloc: Global,
     rows: &CallbackRows,
+    n: u32,
     elements: u32,
 ) -> Result<Option<Inspection>, AllocError>
-    ensures { IfOk result (λ found. IfSome found (IsInspection rows.now elements)) }
+    ensures { IfOk result (λ found. IfSome found (IsInspection rows.now n elements)) }
 {
     let ops = rows.list.list.as_slice();
-    let facts = facts(alloc, ops)?;
-    let sites = sites(alloc, ops, &facts)?;
-    let meetings = meetings(alloc, ops)?;
-    if !is_ordered(ops) || !none_loads_own(sites.as_slice(), meetings.as_slice()) {
+    let Some(survey) = survey_of(alloc, ops, n)? else {
+        return Ok(None);
+    };
+    if !none_loads_own(alloc, ops, survey.sites.as_slice())? {
         return Ok(None);
     }
-    let spans = open_spans(alloc, sites.as_slice())?;
-    let plane = plane_of(alloc, spans.as_slice(), elements)?;
-    match slice_of(alloc, &rows.list, sites.as_slice(), spans.as_slice())? {
+    let plane = plane_of(alloc, survey.spans.as_slice(), elements)?;
+    match slice_of(
+        alloc,
+        &rows.list,
+        survey.sites.as_slice(),
+        survey.spans.as_slice(),
+    )? {
         None => Ok(None),
         Some(slice) => Ok(Some(Inspection { slice, plane })),
     }
@@ -271,7 +276,7 @@ pub fn inspect(
         return Ok(None);
     };
     let elements = maps.words().len() as u32;
-    let Some(inspection) = inspection_of(alloc, rows, elements)? else {
+    let Some(inspection) = inspection_of(alloc, rows, call.n(), elements)? else {
         return Ok(None);
     };
     let mut marks = LoopMarks::try_new(alloc, elements, Test::Flow)?;

@@ -1,12 +1,13 @@
 //! Elements at which iterations may conflict.
 
-ghost use Rattle.std.specs.Prelude.{◌≡◌, ℕ, ◌*◌, ◌≤◌, true, length, IfOk, OnOk};
+ghost use Rattle.std.specs.Prelude.{◌≡◌, ℕ, ◌*◌, ◌≤◌, true, false, length, IfOk, OnOk};
+ghost use Rattle.row_facts.specs.Meetings.{leaves};
 ghost use Rattle.loop_inspector.specs.Reach.{IsIn};
-ghost use Rattle.loop_inspector.specs.Open.{AreKept, IsInSome, IsPlaneOf, OpenAt, OpenUpto, SetsSpan};
+ghost use Rattle.loop_inspector.specs.Open.{AreKept, IsApartAt, IsInSome, IsPlaneOf, OpenAt, OpenUpto, SetsSpan};
 
-use crate::reach::{Span, is_alone, reads, span_of};
+use crate::reach::{Span, is_alone, span_of};
 use loop_marks::set_run;
-use row_facts::{Site, leaves, reduce_alike};
+use row_facts::{Site, are_lines_clear, leaves, reads, reduce_alike};
 use std::alloc::{AllocError, Global};
 
 /// The common elements of two spans.
@@ -42,28 +43,38 @@ fn add_span(spans: &mut Vec<Span>, span: Span) -> Result<(), AllocError>
     Ok(spans.push(span)?)
 }
 
-/// Adds the elements at which lanes may read at one site what others leave at any, but where all reduce by one
-/// operator.
-fn add_spans(spans: &mut Vec<Span>, sites: &[Site], at: &Site) -> Result<(), AllocError>
+/// Whether lanes, of indexes below n, may read at one site what earlier ones leave at another, but where all reduce by
+/// one operator.
+fn may_conflict(sites: &[Site], at: &Site, by: &Site, n: u32) -> bool
+    ensures { result ≡ false → (e : ℕ) → leaves by.now.op ≡ true → IsApartAt sites.now at.now by.now n e }
+{
+    leaves(&by.op)
+        && !are_lines_clear(at.byte.line, by.byte.line, 1, n)
+        && !(reduce_alike(&by.op, &at.op) && is_alone(sites, by, n))
+}
+
+/// Adds the elements at which lanes may so read what others leave at any site.
+fn add_spans(spans: &mut Vec<Span>, sites: &[Site], at: &Site, n: u32) -> Result<(), AllocError>
     ensures kept { OnOk result (AreKept spans.old.items spans.new.items) }
-    ensures open { OnOk result (OpenAt sites.now at.now (length sites.now) spans.new.items) }
+    ensures open { OnOk result (OpenAt sites.now at.now n (length sites.now) spans.new.items) }
 {
     for by in sites {
-        if leaves(&by.op) && !(reduce_alike(&by.op, &at.op) && is_alone(sites, by)) {
+        if may_conflict(sites, at, by, n) {
             add_span(spans, shared(span_of(at), span_of(by)))?;
         }
     }
     Ok(())
 }
 
-/// The elements at which lanes of these sites may conflict by the flow test. It fails where memory runs out.
-pub(crate) fn open_spans(alloc: Global, sites: &[Site]) -> Result<Vec<Span>, AllocError>
-    ensures { IfOk result (λ spans. OpenUpto sites.now (length sites.now) spans.items) }
+/// The elements at which lanes of these sites, of indexes below n, may conflict by the flow test. It fails where memory
+/// runs out.
+pub(crate) fn open_spans(alloc: Global, sites: &[Site], n: u32) -> Result<Vec<Span>, AllocError>
+    ensures { IfOk result (λ spans. OpenUpto sites.now n (length sites.now) spans.items) }
 {
     let mut spans = Vec::new(alloc);
     for at in sites {
         if reads(&at.op) {
-            add_spans(&mut spans, sites, at)?;
+            add_spans(&mut spans, sites, at, n)?;
         }
     }
     Ok(spans)

@@ -1,12 +1,9 @@
 //! The elements that lanes may access at a site.
 
 ghost use Rattle.std.specs.Prelude.{◌≡◌, true};
-ghost use Rattle.row_facts.specs.Elements.{reads};
-ghost use Rattle.loop_inspector.specs.Reach.{AreAlone, AreApart, IsSpanOf};
+ghost use Rattle.loop_inspector.specs.Reach.{AreAlone, AreApart, AreSitesApart, IsSpanOf};
 
-use bpf_insn_types::Width;
-use row_facts::{Site, reduce_alike};
-use row_list::RowOp;
+use row_facts::{Site, are_lines_clear, reduce_alike};
 
 /// How many bytes an element has.
 const ELEMENT: u64 = 8;
@@ -16,22 +13,6 @@ const ELEMENT: u64 = 8;
 pub(crate) struct Span {
     pub first: u64,
     pub last: u64,
-}
-
-/// Whether an access reads its element, for the verdict: all but a store of a whole word does.
-pub(crate) fn reads(op: &RowOp) -> bool
-    ensures { result ≡ reads op.now }
-{
-    match *op {
-        RowOp::Store { width, .. } => match width {
-            Width::W32 => true,
-            Width::W64 => false,
-        },
-        RowOp::Load { .. } => true,
-        RowOp::Reduce { .. } => true,
-        RowOp::Fetch { .. } => true,
-        _ => false,
-    }
 }
 
 /// The elements that lanes may access at a site, by the range of its bytes.
@@ -51,12 +32,21 @@ pub(crate) fn are_apart(one: Span, other: Span) -> bool
     one.last < other.first || other.last < one.first
 }
 
+/// Whether lanes, of indexes below n, access no common element at two sites.
+fn are_sites_apart(at: &Site, by: &Site, n: u32) -> bool
+    ensures { result ≡ true → AreSitesApart at.now by.now n }
+{
+    are_apart(span_of(at), span_of(by))
+        || (are_lines_clear(at.byte.line, by.byte.line, 0, n)
+            && are_lines_clear(by.byte.line, at.byte.line, 0, n))
+}
+
 /// Whether each of these sites reduces by the same operator as another, or is apart from it.
-pub(crate) fn is_alone(sites: &[Site], by: &Site) -> bool
-    ensures { result ≡ true → AreAlone sites.now by.now }
+pub(crate) fn is_alone(sites: &[Site], by: &Site, n: u32) -> bool
+    ensures { result ≡ true → AreAlone sites.now by.now n }
 {
     for at in sites {
-        if !reduce_alike(&by.op, &at.op) && !are_apart(span_of(at), span_of(by)) {
+        if !reduce_alike(&by.op, &at.op) && !are_sites_apart(at, by, n) {
             return false;
         }
     }

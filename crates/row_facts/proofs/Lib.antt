@@ -9,4 +9,3 @@ pub mod NarrowLaws
 pub mod ListLaws
 pub mod MarkLaws
 pub mod Clear
-pub mod Pairs

@@ -9,4 +9,3 @@ pub mod Marks
 pub mod Lists
 pub mod Elements
 pub mod Ordered
-pub mod Independence

@@ -3,7 +3,7 @@
 ghost use Rattle.std.specs.Prelude.{◌≡◌, ℕ, List, ◌<◌, ◌≤◌, ◌++◌, ◌∷◌, [], true, false, IfOk, OnOk, length};
 ghost use Rattle.row_list.specs.declared.row_op.RowOp.{RowOp};
 ghost use Rattle.row_facts.specs.{declared.fact.Fact.{Fact}, Facts.{IsSure, AreFacts}, Apart.{IsAmong}};
-ghost use Rattle.row_facts.specs.Sites.{IsSite, bytes_in};
+ghost use Rattle.row_facts.specs.{Sites.{IsSite, bytes_in}, Elements.{reads}};
 ghost use Rattle.row_facts.specs.Meetings.{IsHalfOf, loads, leaves, ReducesBy, ReduceAlike, AreApart, LanesNeverMeet};
 ghost use Rattle.row_facts.specs.Meetings.{LoadsNoOwn, NeverMeet, AreMeetings, AreKept, AreDone};
 
@@ -43,6 +43,22 @@ pub fn leaves(op: &RowOp) -> bool
 {
     match *op {
         RowOp::Store { .. } => true,
+        RowOp::Reduce { .. } => true,
+        RowOp::Fetch { .. } => true,
+        _ => false,
+    }
+}
+
+/// Whether an access reads its element, for the verdict: all but a store of a whole word does.
+pub fn reads(op: &RowOp) -> bool
+    ensures { result ≡ reads op.now }
+{
+    match *op {
+        RowOp::Store { width, .. } => match width {
+            Width::W32 => true,
+            Width::W64 => false,
+        },
+        RowOp::Load { .. } => true,
         RowOp::Reduce { .. } => true,
         RowOp::Fetch { .. } => true,
         _ => false,

@@ -1,27 +1,48 @@
-use Rattle.std.proofs.Common.{ℕ, List, subst}
+use Rattle.std.proofs.Common.{◌≡◌, ◌∙◌, ℕ, Bool, Option, Result, Ok, Err, List, [], ◌∷◌, length, true, refl, sym, subst}
+use Rattle.std.{proofs.{Common.{arith}, lemmas.Bool.{eqb-true}}, specs.Prelude.{IfOk, IfSome}}
 use Rattle.bpf_verify.specs.Rows.{AreRowsAt}
+use Rattle.bpf_verify_sound.specs.Soundness.{IsSoundProgram}
 use Rattle.bpf_step.proofs.Limits.{iterations_end}
 use Rattle.row_list.specs.declared.row_op.RowOp.{RowOp}
-use Rattle.row_facts.specs.Independence.{NeverConflict}
-use Rattle.loop_inspector.{specs.Independent.{AlwaysPasses}, proofs.Passing.{if_found}}
+use Rattle.row_facts.specs.declared.site.Site.{Site}
+use Rattle.loop_inspector.specs.{Independent.{AlwaysPasses}, Inspections.{IsSurvey}, Open.{NoneLoadsOwn}}
+use Rattle.loop_inspector.specs.declared.{reach.Span.{Span}, survey.Survey.{Survey}}
+use Rattle.loop_inspector.proofs.Passing.{none_open_pass}
 use Rattle.loop_inspector.proofs.independent.is_independent.Goals as goal
 
-pub returns-in-Some : goal.returns-in-Some
-returns-in-Some c =
+-- of no spans none is left
+none_left : (spans : List Span) → length spans ≡ 0 → spans ≡ []
+none_left [] none = refl
+none_left (span ∷ spans) none = absurd (omega (arith, none))
+
+-- what follows from what is found
+if_found : {E : Type 0} → (found : Result Bool E) (P Q : Type 0) → (P → Q) → IfOk found (λ b. b ≡ true → P)
+    → IfOk found (λ b. b ≡ true → Q)
+if_found (Ok b) P Q so is = λ true_there. so (is true_there)
+if_found (Err e) P Q so is = tt
+
+pub returns : goal.returns
+returns c =
     let program = c.args.program.now in
     let call = c.args.call.now in
     let rows = c.in-Some.rows.now in
-    if_found c.never_conflict.result (NeverConflict c.as_slice.result.now c.n.result) (AlwaysPasses program call)
-    (λ never. c.law_of_independence.ensures c.results_fit.ensures c.law_of_plain_iterations.ensures program
-    (record { accepted = c.unit-unit.ensures.accepted; fits = c.unit-unit.ensures.fit })
-    (iterations_end c.law_of_accepted_programs.ensures c.law_of_accepted_runs.ensures.counts program
-    (record { accepted = c.unit-unit.ensures.accepted; fits = c.unit-unit.ensures.fit }))
-    call c.requires (record {
-      rows = rows;
-      are = subst (λ (start : ℕ). AreRowsAt program start rows) c.callback.ensures c.in-Some.ensures;
-      never = subst (λ (n : ℕ). NeverConflict rows.list.list.items n) c.n.ensures
-          (subst (λ (list : List RowOp). NeverConflict list c.n.result) c.as_slice.ensures.value never);
-      bytes = c.frame-frame.result.now;
-      filled = c.frame-frame.ensures;
-    }))
-    c.never_conflict.ensures
+    let list = rows.list.list.items in
+    let survey : Survey = c.in-Some-2.survey in
+    let sound : IsSoundProgram program =
+    record { accepted = c.unit-unit.ensures.accepted; fits = c.unit-unit.ensures.fit } in
+    if_found c.none_loads_own.result (NoneLoadsOwn c.as_slice-ops.result.now c.as_slice.result.now)
+    (AlwaysPasses program call)
+    (λ own. none_open_pass c.results_fit.ensures c.law_of_plain_iterations.ensures program sound
+    (iterations_end c.law_of_accepted_programs.ensures c.law_of_accepted_runs.ensures.counts program sound)
+    call c.requires rows
+    (subst (λ (start : ℕ). AreRowsAt program start rows) c.callback.ensures c.in-Some.ensures) survey
+    (subst (λ (n : ℕ). IsSurvey list n survey) c.n.ensures
+    (subst (λ (ops : List RowOp). IsSurvey ops c.n.result survey) c.as_slice-ops.ensures.value
+    (subst (λ (found : Option Survey). IfSome found (IsSurvey c.as_slice-ops.result.now c.n.result)) c.in-Some-2.is
+    c.in_ok-survey.ensures)))
+    (subst (λ (all : List Site). NoneLoadsOwn list all) c.as_slice.ensures.value
+    (subst (λ (ops : List RowOp). NoneLoadsOwn ops c.as_slice.result.now) c.as_slice-ops.ensures.value own))
+    (none_left survey.spans.items (sym survey.spans.ok.0
+    ∙ eqb-true survey.spans.len 0 (sym c.is_empty.ensures ∙ c.if-not-is_empty.false)))
+    c.frame-frame.result.now c.frame-frame.ensures)
+    c.none_loads_own.ensures

@@ -9,7 +9,9 @@ verdict-requires-clause-is c =
     record {
       rows = rows;
       are = subst (λ (start : ℕ). AreRowsAt c.args.program.now start rows) c.callback.ensures c.in-Some.ensures;
-      is = subst (λ (words : List ℕ). IsInspection rows (length words) c.in-Some-2.inspection) c.words.ensures.words
-          (subst (λ (found : Option Inspection). IfSome found (IsInspection rows (length c.words.result.now)))
-          c.in-Some-2.is c.in_ok-inspection.ensures);
+      is = subst (λ (n : ℕ). IsInspection rows n (length c.args.maps.now.words) c.in-Some-2.inspection) c.n.ensures
+          (subst (λ (words : List ℕ). IsInspection rows c.n.result (length words) c.in-Some-2.inspection)
+          c.words.ensures.words
+          (subst (λ (o : Option Inspection). IfSome o (IsInspection rows c.n.result (length c.words.result.now)))
+          c.in-Some-2.is c.in_ok-inspection.ensures));
     }

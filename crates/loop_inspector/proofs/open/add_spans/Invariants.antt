@@ -4,5 +4,5 @@ use Rattle.loop_inspector.proofs.open.add_spans.Given as goal
 abbrev pub invariant-loop-by : goal.invariant-loop-by
 invariant-loop-by l = record {
   kept : AreKept l.fn.spans.items l.spans.items;
-  done : OpenAt l.sites l.at l.by-index l.spans.items;
+  done : OpenAt l.sites l.at l.n l.by-index l.spans.items;
 }

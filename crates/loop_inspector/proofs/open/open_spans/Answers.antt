@@ -13,8 +13,8 @@ loop-at-preserved c =
     let there : slice_get sites k ≡ Some at =
     slice_get_read sites (length sites) k at refl c.loop-at-test.true c.at-item.is in
     elim c.if-reads.branch [
-      | then-reads+in_ok-add_spans w ↦ rw w.spans-is (upto-more sites at k old w.add_spans.new.spans.items there
-          w.in_ok-add_spans.ensures.kept (λ read. w.in_ok-add_spans.ensures.«open») c.loop-at.invariant)
-      | else-reads w ↦ rw w.spans-is (upto-more sites at k old old there (λ e is. is)
+      | then-reads+in_ok-add_spans w ↦ rw w.spans-is (upto-more sites at c.args.n k old w.add_spans.new.spans.items
+          there w.in_ok-add_spans.ensures.kept (λ read. w.in_ok-add_spans.ensures.«open») c.loop-at.invariant)
+      | else-reads w ↦ rw w.spans-is (upto-more sites at c.args.n k old old there (λ e is. is)
           (λ read. absurd (cc (read, c.reads.ensures, w.if-reads.false))) c.loop-at.invariant)
     ]
