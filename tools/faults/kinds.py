@@ -19,7 +19,7 @@ SOURCE = Path(__file__).resolve().parent / "fail.c"
 FLAGS = "-O1 -fno-builtin -fPIC -shared -nostdlib".split()
 STATS = re.compile(rb"(?:loop \d+ at|program:) .*\n")  # lines of `--stats`, whose times aren't those of another run
 TIME_LIMIT = 20  # seconds of a run, which takes some milliseconds
-STACK = 224 * 1024  # bytes of stack, for the main thread and for each other, that are enough for every row
+STACK = 128 * 1024  # bytes of stack, for the main thread and for each other, that are enough for every row
 
 
 @dataclass(frozen=True)

@@ -158,11 +158,11 @@ pub ran_together : EachIterationSimulates → EachProgramEnds → EachCountIsSma
     → count ≤ returned → lanes ≤ 256 → first + lanes ≤ call.n → (old new : Batch) → sites_of new ≡ sites_of old
     → rows_of new ≡ rows_of old
     → AllRan rows.list.list.items rows.list.result first returned bytes words (batch_log old)
-    → All (IsWithin (length words) count (rows_of new)) (sites_of new) → AreRanked (sites_of old) → new.count ≤ 64
+    → All (IsWithin (length words) count (rows_of new)) (sites_of new) → AreRanked (sites_of old)
     → All (HasRows (rows_of new)) (sites_of new) → NoneSeesOwn (batch_log new) count → GoTogether (batch_log new) count
     → NoneMeets (sites_of new) (rows_of new) count → RanTogether program call first lanes words new count
 ran_together its laws counts program sound call known bytes same rows are words fit first lanes returned count fewer few
-    room inside old new same_sites same_rows all within ranked many there own together unmet = record {
+    room inside old new same_sites same_rows all within ranked there own together unmet = record {
       few = omega (arith, fewer, few);
       go_on = lanes_go_on its laws counts program sound call known bytes same rows are words fit first returned count
           few
@@ -172,7 +172,6 @@ ran_together its laws counts program sound call known bytes same rows are words 
           own;
       applies = record {
         room = omega (arith, fewer, few, room);
-        count = many;
         rows = there;
         within = within;
         together = together;

@@ -2,7 +2,9 @@
 
 ghost use Rattle.std.specs.Prelude.{◌≡◌, ◌<◌, ◌≤◌};
 
+use bpf_verify::CallbackRows;
 use row_run::Batch;
+use std::alloc::Global;
 
 /// The most iterations that are done together.
 pub(crate) const MOST: u32 = 256;
@@ -48,9 +50,9 @@ pub(crate) struct Batches {
 
 impl Batches {
     /// Nothing was tried yet.
-    pub(crate) fn new() -> Batches {
+    pub(crate) fn new(alloc: Global) -> Batches {
         Batches {
-            batch: Batch::new(),
+            batch: Batch::new(alloc),
             lanes: MOST,
             quarters: 0,
             pause: 1,
@@ -59,6 +61,11 @@ impl Batches {
             patience: 1,
             whole: 0,
         }
+    }
+
+    /// Makes room for a callback's list. Where memory runs out no batch can be run, and each iteration goes alone.
+    pub(crate) fn make_room(&mut self, rows: &CallbackRows) {
+        let _made = self.batch.make_room(&rows.list, &rows.sites);
     }
 
     /// Notes that so many of a batch's lanes went: how many are tried the next time, and how many iterations go alone

@@ -12,7 +12,7 @@ use array_maps::Maps;
 use bpf_step::LoopCall;
 use bpf_verify::{CallbackRows, Verified};
 
-/// The fewest iterations of a loop that is tried in batches: set-up clears 144 KB, which takes some 3 µs.
+/// The fewest iterations of a loop that is tried in batches: set-up clears about 100 KB, which takes some 3 µs.
 pub(crate) const MIN_BATCHED_ITERATIONS: u32 = 512;
 
 /// Runs the iterations of a loop call that main of this program made, one after another on the maps, up
@@ -85,7 +85,8 @@ fn in_batches(
     ensures same { run.new ≡ run.old }
     ensures ran { RanTo run.old.program.now run.old.call.now from to maps.old maps.new result }
 {
-    let mut batches = Batches::new();
+    let mut batches = Batches::new(*rows.list.list.allocator());
+    batches.make_room(rows);
     let mut index = from;
     while index < to {
         let next = batches.run_batch(run, rows, index, to, maps);

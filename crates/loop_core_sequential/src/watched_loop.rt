@@ -107,8 +107,9 @@ fn watch_in_batches(
     ensures { (start : MapList) → GoesWatched run.old.program.now run.old.call.now from start maps.old log.old
         → WatchedToEnd run.old.program.now run.old.call.now start maps.new log.new result }
 {
-    let mut batches = Batches::new();
     let n = run.call.n();
+    let mut batches = Batches::new(*rows.list.list.allocator());
+    batches.make_room(rows);
     let mut index = from;
     while index < n {
         let next = batches.run_batch_watched(run, rows, index, n, log, maps);

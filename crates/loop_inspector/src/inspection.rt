@@ -234,7 +234,10 @@ impl Inspection {
         let _words = maps.words();
         let _frame = call.frame();
         let most = conflicts_in(judge(self.plane.as_slice()));
-        let mut batch = Batch::new();
+        // An iteration accesses at most an element a site: before so many, not all open elements can conflict.
+        let sites = self.slice.sites.sites.len() as u32;
+        let mut batch = Batch::new(alloc);
+        batch.make_room(&self.slice.list, &self.slice.sites)?;
         let n = call.n();
         let mut index = 0;
         let mut look = FIRST_LOOK;
@@ -245,7 +248,7 @@ impl Inspection {
             }
             index = to;
             look = look.saturating_mul(2);
-            if index < n {
+            if index < n && most <= index.saturating_mul(sites) {
                 let found = self.verdict_by(alloc, marks)?;
                 if conflicts_in(found) == most {
                     return Ok(Some(found));

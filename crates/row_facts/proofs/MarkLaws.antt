@@ -20,7 +20,7 @@ are_marked meetings sites each even = record {
   even = λ i j d within inside. (even i d within).each j d inside;
 }
 
-pub list_sites_of : (list : List RowOp) (made : ListSites) (meetings : List Meeting) → length made.sites.items ≤ 64
+pub list_sites_of : (list : List RowOp) (made : ListSites) (meetings : List Meeting) → length made.sites.items ≤ 255
     → AreListed list made.accesses.items made.sites.items → AreRanked made.sites.items → AreMeetings list meetings
     → AreMarked meetings made.sites.items → AreListSites list made
 list_sites_of list made meetings few listed ranked are marked =

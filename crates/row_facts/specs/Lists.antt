@@ -7,7 +7,7 @@ use Rattle.row_facts.specs.{SiteKinds.{AreListed}, Marks.{AreMarked}}
 
 -- sites are those of a list, in order, ranked, and marked by accesses of which no others meet
 pub record AreListSites (list : List RowOp) (made : ListSites) : Type 0 where
-  pub few : length made.sites.items ≤ 64
+  pub few : length made.sites.items ≤ 255
   pub listed : AreListed list made.accesses.items made.sites.items
   pub ranked : AreRanked made.sites.items
   pub meetings : List Meeting

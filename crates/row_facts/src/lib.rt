@@ -25,7 +25,7 @@ mod transfer;
 pub use elements::are_lines_clear;
 pub use fact::Fact;
 pub use lines::{Line, common_bits, low};
-pub use listed::{ListSites, SITES};
+pub use listed::ListSites;
 pub use listing::list_sites;
 pub use meeting::{Meeting, leaves, loads, meetings, reads, reduce_alike};
 pub use narrowing::is_narrower;

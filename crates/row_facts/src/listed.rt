@@ -3,10 +3,7 @@
 use lane_stamps::Site;
 use row_list::RowOp;
 
-/// How many sites a list has at most.
-pub const SITES: usize = 64;
-
-/// The sites of a list, in order.
+/// The sites of a list, in order: at most `MOST_SITES`.
 #[derive(Drop)]
 pub struct ListSites {
     /// The accesses.

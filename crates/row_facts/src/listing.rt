@@ -6,11 +6,11 @@ ghost use Rattle.row_facts.specs.{Meetings.{AreMeetings}, Lists.{AreListSites}, 
 ghost use Rattle.row_list.specs.declared.row_op.RowOp.{RowOp};
 
 use crate::kinds::{is_access, kind_of};
-use crate::listed::{ListSites, SITES};
+use crate::listed::ListSites;
 use crate::marking::{are_marked, mark_meetings, mark_uneven};
 use crate::numbering::{number_of, place_of};
 use crate::{Meeting, meetings};
-use lane_stamps::{Site, rank_sites};
+use lane_stamps::{MOST_SITES, Site, rank_sites};
 use row_list::{RowList, RowOp};
 use std::alloc::{AllocError, Global};
 
@@ -70,7 +70,7 @@ fn list_site(
     made: &mut ListSites,
     list: &RowList,
     op: &RowOp,
-    marks: &[bool; SITES],
+    marks: &[bool; MOST_SITES],
 ) -> Result<bool, AllocError>
     ensures { IfOk result (λ good. good ≡ true → (ops : List RowOp) →
         AreListed ops made.old.accesses.items made.old.sites.items →
@@ -81,7 +81,7 @@ fn list_site(
         return Ok(true);
     }
     let count = made.sites.len();
-    if count >= SITES {
+    if count >= MOST_SITES {
         return Ok(false);
     }
     let number = number_of(list, made, op);
@@ -99,7 +99,7 @@ fn list_site(
 fn unranked_sites(
     alloc: Global,
     list: &RowList,
-    marks: &[bool; SITES],
+    marks: &[bool; MOST_SITES],
 ) -> Result<Option<ListSites>, AllocError>
     ensures { IfOk result (λ found. IfSome found (λ made. AreListed list.now.list.items made.accesses.items
         made.sites.items)) }
@@ -121,7 +121,7 @@ fn unranked_sites(
 /// Ranks the sites of a list.
 #[tactic(auto, using(crate::proofs::ListLaws::listed_ranked))]
 fn rank_listed(sites: &mut [Site])
-    requires { length sites.old ≤ 64 }
+    requires { length sites.old ≤ 255 }
     ensures ranked { AreRanked sites.new }
     ensures listed { (list ops : List RowOp) → AreListed list ops sites.old → AreListed list ops sites.new }
 {
@@ -132,7 +132,7 @@ fn rank_listed(sites: &mut [Site])
 fn ranked_sites(
     alloc: Global,
     list: &RowList,
-    marks: &[bool; SITES],
+    marks: &[bool; MOST_SITES],
 ) -> Result<Option<ListSites>, AllocError>
     ensures listed { IfOk result (λ found. IfSome found (λ made. AreListed list.now.list.items made.accesses.items
         made.sites.items)) }
@@ -141,7 +141,7 @@ fn ranked_sites(
     let Some(mut made) = unranked_sites(alloc, list, marks)? else {
         return Ok(None);
     };
-    if made.sites.len() > SITES {
+    if made.sites.len() > MOST_SITES {
         return Ok(None);
     }
     rank_listed(made.sites.as_mut_slice());
@@ -158,7 +158,7 @@ fn marked_sites(
     requires { AreMeetings list.now.list.items meetings.now }
     ensures { IfOk result (λ found. IfSome found (AreListSites list.now.list.items)) }
 {
-    let mut marks = [false; SITES];
+    let mut marks = [false; MOST_SITES];
     mark_meetings(&mut marks, meetings);
     let Some(first) = ranked_sites(alloc, list, &marks)? else {
         return Ok(None);
@@ -167,7 +167,7 @@ fn marked_sites(
     let Some(made) = ranked_sites(alloc, list, &marks)? else {
         return Ok(None);
     };
-    if made.sites.len() > SITES || !are_marked(made.sites.as_slice(), meetings) {
+    if made.sites.len() > MOST_SITES || !are_marked(made.sites.as_slice(), meetings) {
         return Ok(None);
     }
     Ok(Some(made))

@@ -5,26 +5,25 @@ ghost use Rattle.row_facts.specs.declared.meeting.Meeting.{Meeting};
 ghost use Rattle.row_facts.specs.Marks.{AreEven, AreMarked, IsEven, IsEvenWith, IsWatched, WatchesEach};
 
 use crate::Meeting;
-use crate::listed::SITES;
-use lane_stamps::{Site, alike};
+use lane_stamps::{MOST_SITES, Site, alike};
 
 /// Marks two sites.
-fn mark(marks: &mut [bool; SITES], first: usize, second: usize) {
-    if first < SITES && second < SITES {
+fn mark(marks: &mut [bool; MOST_SITES], first: usize, second: usize) {
+    if first < MOST_SITES && second < MOST_SITES {
         marks[first] = true;
         marks[second] = true;
     }
 }
 
 /// Marks the sites of meetings.
-pub(crate) fn mark_meetings(marks: &mut [bool; SITES], meetings: &[Meeting]) {
+pub(crate) fn mark_meetings(marks: &mut [bool; MOST_SITES], meetings: &[Meeting]) {
     for meeting in meetings {
         mark(marks, meeting.first, meeting.second);
     }
 }
 
 /// Marks those two and two at which lanes reduce by one operator, with something else between.
-pub(crate) fn mark_uneven(marks: &mut [bool; SITES], sites: &[Site]) {
+pub(crate) fn mark_uneven(marks: &mut [bool; MOST_SITES], sites: &[Site]) {
     for first in 0..sites.len() {
         for second in 0..sites.len() {
             if alike(sites[first].kind, sites[second].kind)

@@ -1,8 +1,9 @@
 //! The numbers of places.
 
-use crate::listed::{ListSites, SITES};
+use crate::listed::ListSites;
 use crate::narrowing::is_narrower;
 use bpf_insn_types::Width;
+use lane_stamps::MOST_SITES;
 use row_list::{RowList, RowOp};
 
 /// Where an access is made.
@@ -74,7 +75,7 @@ pub(crate) fn number_of(list: &RowList, made: &ListSites, op: &RowOp) -> usize {
         if serve(list, &place_of(&accesses[at]), &place) {
             return places;
         }
-        if places >= next && places < SITES {
+        if places >= next && places < MOST_SITES {
             next = places + 1;
         }
     }

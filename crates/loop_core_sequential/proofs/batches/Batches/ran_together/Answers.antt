@@ -19,7 +19,7 @@ returns c =
     c.limit-count.ensures.few c.requires.room c.requires.within c.run.new.self c.limit-count.new.self
     c.limit-count.ensures.sites c.limit-count.ensures.lanes c.in_ok-returned.ensures.ran
     (c.limit-count.ensures.within (length c.words.result.now) c.in_ok-returned.ensures.within)
-    c.in_ok-returned.ensures.ready.ranked c.limit-count.ensures.count c.limit-count.ensures.rows
+    c.in_ok-returned.ensures.ready.ranked c.limit-count.ensures.rows
     c.limit-count.ensures.own c.limit-count.ensures.together c.limit-count.ensures.unmet)
 
 pub run-requires-clause-indices : goal.run-requires-clause-indices
