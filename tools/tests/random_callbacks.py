@@ -5,10 +5,10 @@
 
 PROGRAM stands for `./bpfspec`. A callback has arithmetic, branches, early ends, breaks, accesses of elements, of fields
 and of halves of all kinds, loads of what an iteration at a distance left, its own frame, main's, and lookups. Each unit
-has eight. By `order`, a loop call of 2,048 iterations or more takes many of them together where it may, and calls of at
-most 1,024 take none: what these leave has to come out of the one call too, the same answer of each loop, and the same
-maps. Each unit goes by `run` too: with one, two and four workers, in blocks, and by the test `lrpd`. But for the last
-they have to say the same of each loop.
+has eight. By `order`, a loop call of 512 iterations or more takes many of them together where it may, and a shorter one
+takes none: what short calls leave has to come out of the one call too, the same answer of each loop, and the same maps.
+Each unit goes by `run` too: with one, two and four workers, in blocks, and by the test `lrpd`. But for the last they
+have to say the same of each loop.
 
 COUNT is of callbacks, 10,000 if it isn't given. Each difference is on standard error, and so is each unit that is
 refused, since all have to be accepted. One line on standard output has the counts. The status is 0 where nothing was
@@ -34,7 +34,7 @@ LOOPS = 8  # of a unit
 FEWEST, MOST, LONGEST = 2_048, 6_000, 20_000  # iterations of a loop call that go together, of most here, and of any
 MANY, MANY_EVERY = 15_900, 16  # more elements of the first map in one unit of so many: halves then share stamps
 PRIME = 20_011  # that all answers so far are multiplied by
-CALLS = 1_024, 1_000, 997, 991  # iterations of each call of a loop that is to go one by one: the first that does
+CALLS = 511, 509, 503, 499  # iterations of each call of a loop that is to go one by one: the first that does
 DONE, REFUSED = 0, 1  # statuses
 TOGETHER, ONE_BY_ONE = "order", "order, one by one"
 ORDER = ("order",)
