@@ -5,7 +5,7 @@ use Rattle.bpf_insn_types.specs.Program.{Program, callback_starts}
 use Rattle.bpf_verify_model.specs.Count.{count_of}
 use Rattle.bpf_verify_sound.specs.Soundness.{most_from}
 use Rattle.loop_core_model.specs.declared.verdict.LoopReport.{LoopReport}
-use Rattle.spec_run_main.specs.InPlace.{RanInOrder}
+use Rattle.spec_run_main.specs.Reports.{IsReportInOrder}
 
 -- a program, its maps, and the lines of the loop calls of its last run
 pub record MachineState : Type 0 where
@@ -26,7 +26,7 @@ pub record IsMachine (program : Program) (maps : MapList) (lines : List LoopRepo
 -- its maps, which it leaves to the next run
 pub record MachineRan (argument : ℕ) (old new : MachineState) (answer : ℕ) : Type 0 where
   pub program : new.program ≡ old.program
-  pub ran : RanInOrder old.program argument old.maps new.maps answer new.loops
+  pub ran : IsReportInOrder old.program argument old.maps new.maps answer new.loops
 
 -- runs in turn, each from what the one before left, one for each argument, gave these answers
 abbrev pub RanEach : (arguments : List ℕ) → (old new : MachineState) → (answers : List ℕ) → Type 0

@@ -2,7 +2,6 @@
 use Rattle.std.specs.Prelude.{◌≡◌, ℕ, Result, IfOk, IfErr, OnErr}
 use Rattle.array_maps.specs.MapList.{MapList}
 use Rattle.bpf_insn_types.specs.Program.{Program}
-use Rattle.loop_core_model.specs.declared.loop_test.Test.{Test}
 use Rattle.spec_run_loop.specs.declared.error.RunError.{RunError, TheVariants.{Memory}}
 use Rattle.loop_core_split.specs.{declared.plan.Plan.{Plan}, Plans.{IsPlan}}
 use Rattle.spec_run_main.specs.{declared.report.Report.{Report}, Reports.{IsReportByTest}}

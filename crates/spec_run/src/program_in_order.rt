@@ -1,7 +1,7 @@
 //! Running a program with its loops in order.
 
 ghost use Rattle.std.specs.Prelude.{◌≡◌, ◌≢◌, IfOk, OnErr, Err};
-ghost use Rattle.spec_run.specs.InOrder.{IsReportInOrder};
+ghost use Rattle.spec_run_main.specs.Reports.{IsReportInOrder};
 
 use crate::in_order::InOrder;
 use array_maps::Maps;
@@ -22,7 +22,8 @@ pub fn run_in_order(
     maps: &mut Maps,
     argument: u64,
 ) -> Result<Report, RunError>
-    ensures ran { IfOk result (λ report. IsReportInOrder program.now argument maps.old maps.new report) }
+    ensures ran { IfOk result (λ report. IsReportInOrder program.now argument maps.old maps.new report.ret
+        report.loops.items) }
     ensures refused { OnErr result (maps.new ≡ maps.old) }
     ensures sizes { maps.old.sizes ≢ program.now.sizes → result ≡ Err RunError.Sizes }
     ensures only { result ≡ Err RunError.Sizes → maps.old.sizes ≢ program.now.sizes }

@@ -1,5 +1,5 @@
+pub mod LoopEnds
 pub mod Turns
 pub mod CallLists
 pub mod ReportLines
-pub mod LoopEnds
 pub mod Reported

@@ -10,14 +10,14 @@ use Rattle.bpf_step_model.specs.{Run.{RunSegment, run}, LoopInOrder.{Looped, loo
 use Rattle.bpf_step_model.specs.ProgramInOrder.{LoopMade, Finished, with_loop, resumed, after_loop, after_stop}
 use Rattle.bpf_step_model.specs.ProgramInOrder.{after_segment, main_from, program_in_order, valid_call, refused_call}
 use Rattle.bpf_verify_sound.specs.Soundness.{IsSoundProgram, AreMapWords, OverApproximatesCall, EachProgramEnds}
-use Rattle.bpf_verify_sound.specs.Soundness.{LoopEnds, ProgramEnds, EachCountIsSmall, most_from, most_after}
+use Rattle.bpf_verify_sound.specs.Soundness.{LoopEnds, EachCountIsSmall, most_from, most_after}
 use Rattle.bpf_step.specs.{declared.main_function.Turned.{Turned}, Mains.{MainOf, MainIsAt, Waits}}
 use Rattle.bpf_step.specs.Turns.{IsFilled, StopsAs, RanMain}
-use Rattle.bpf_step.proofs.Limits.{few_slots, few_steps, few_counts, map_words}
+use Rattle.bpf_step.proofs.Limits.{few_slots, few_steps, few_counts, map_words, iterations_end}
 use Rattle.bpf_step.specs.declared.main_function.Turned.TheVariants as turned
 use Rattle.loop_core_sequential.{specs.Loops.{RanLoopInOrder}, proofs.MapEffects.{map_effect, sizes_kept}}
 use Rattle.loop_core_sequential.proofs.SameOutcomes.{filled_calls_are_one_loop}
-use Rattle.spec_run_main.specs.Calls.{IsMadeAs}
+use Rattle.spec_run_main.{specs.{Calls.{IsMadeAs}, Reports.{EndsWithItsLoops}}, proofs.LoopEnds.{ends_with_its_loops}}
 
 -- the words of maps
 abbrev pub words_of : MapList → List ℕ
@@ -29,11 +29,13 @@ pub record Laws (program : Program) : Type 0 where
   pub counts : EachCountIsSmall
   pub sound : IsSoundProgram program
 
--- the program ends over words of its maps
+-- the program ends over words of its maps, and so does each iteration of its loop calls
 pub program_ends : {program : Program} → Laws program → (argument : ℕ) → argument < 2 ^ 64 → (words : List ℕ)
-    → AreMapWords program words → ProgramEnds program (program_in_order program 4096 argument words)
+    → AreMapWords program words → EndsWithItsLoops program (program_in_order program 4096 argument words)
 program_ends {program} laws argument small words fit =
-    laws.loops.programs program laws.sound 4096 (few_slots program laws.sound.accepted) argument small words fit
+    ends_with_its_loops program (iterations_end laws.loops laws.counts program laws.sound)
+    (program_in_order program 4096 argument words)
+    (laws.loops.programs program laws.sound 4096 (few_slots program laws.sound.accepted) argument small words fit)
 
 -- before a turn the whole is told by what main still does
 pub record StillRuns {R : Type 0} (told : BoundedResult Finished → BoundedResult R) (whole : BoundedResult R)

@@ -1,5 +1,4 @@
-pub mod InPlace
 pub mod Calls
-pub mod Programs
 pub mod Lines
 pub mod Reports
+pub mod Programs

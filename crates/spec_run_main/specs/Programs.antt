@@ -3,8 +3,7 @@ use Rattle.std.specs.Prelude.{◌≡◌, ℕ, List}
 use Rattle.array_maps.specs.MapList.{MapList}
 use Rattle.bpf_insn_types.specs.Program.{Program}
 use Rattle.bpf_step_model.specs.{Run.{Ended}, ProgramInOrder.{LoopMade, program_in_order}}
-use Rattle.bpf_verify_sound.specs.Soundness.{ProgramEnds}
-use Rattle.bpf_step.specs.Iterations.{EachIterationEnds}
+use Rattle.spec_run_main.specs.Reports.{EndsWithItsLoops}
 
 -- main ran from its argument and the old maps to its end, returned this and left the new maps; its loop calls are
 -- recorded
@@ -19,8 +18,5 @@ pub record RanProgram (AreRecorded : List LoopMade → Type 0) (program : Progra
   pub recorded : AreRecorded calls
   -- the new maps are of the old ones' sizes
   pub kept : new.sizes ≡ old.sizes
-  -- the program ends, and each valid loop call that it makes is within the abstract states
-  pub ends : ProgramEnds program (program_in_order program 4096 argument old.words)
-  -- each iteration of a call within the abstract states, on any words of the maps, isn't stuck: it ends within its
-  -- callback's count with 0 or 1
-  pub iterations : EachIterationEnds program
+  -- the program ends, and so does each iteration of each valid loop call that it makes, on any words of the maps
+  pub ends : EndsWithItsLoops program (program_in_order program 4096 argument old.words)

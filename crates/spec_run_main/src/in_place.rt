@@ -2,7 +2,7 @@
 
 ghost use Rattle.std.specs.Prelude.{◌≡◌, ◌+◌, ◌-◌, ◌<◌, ◌≤◌, ◌++◌, ◌∷◌, [], length, take};
 ghost use Rattle.bpf_verify_sound.specs.Soundness.{most_from};
-ghost use Rattle.spec_run_main.specs.InPlace.{RanInOrder};
+ghost use Rattle.spec_run_main.specs.Reports.{IsReportInOrder};
 
 use crate::driver::run_main;
 use crate::runner::LoopRunner;
@@ -94,7 +94,7 @@ pub fn run_in_place(
 ) -> RanInPlace
     requires sizes { maps.old.sizes ≡ program.now.sizes }
     requires room { most_from program.now 0 ≤ length lines.old }
-    ensures ran { RanInOrder program.now argument maps.old maps.new result.ret (take result.calls lines.new) }
+    ensures ran { IsReportInOrder program.now argument maps.old maps.new result.ret (take result.calls lines.new) }
     ensures room { length lines.new ≡ length lines.old }
 {
     let mut runner = InPlace { lines, calls: 0 };

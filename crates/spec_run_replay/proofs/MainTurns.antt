@@ -6,9 +6,10 @@ use Rattle.bpf_step_model.specs.{declared.refused_call.RefusedCall.{RefusedCall}
 use Rattle.bpf_step_model.specs.Run.{BoundedResult, Ended, Stuck, Unfinished, mapped, followed}
 use Rattle.bpf_step_model.specs.{LoopInOrder.{Looped, loop_in_order}, ProgramInOrder.{valid_call, refused_call}}
 use Rattle.bpf_step_model.specs.ProgramInOrder.{Finished, with_loop, after_loop, main_from, program_in_order}
-use Rattle.bpf_verify_sound.specs.Soundness.{OverApproximatesCall, ProgramEnds, most_from}
+use Rattle.bpf_verify_sound.specs.Soundness.{OverApproximatesCall, most_from}
 use Rattle.bpf_step.specs.{Mains.{MainOf}, Turns.{IsFilled}}
 use Rattle.bpf_step.specs.declared.main_function.Turned.TheVariants as turned
+use Rattle.spec_run_main.specs.Reports.{EndsWithItsLoops}
 use Rattle.spec_run_main.proofs.Turns.{StillRuns, NextTurn, exits, refuses, refusal_lessens, at_call, call_sizes}
 use Rattle.spec_run_replay.specs.{FirstLoop.{ValidLoop, first_of, first_loop}, FoundLoop.{CameToLoop}}
 use Rattle.spec_run_replay.specs.declared.first_loop.NumberedCall.{NumberedCall}
@@ -41,7 +42,7 @@ valid_first number go_on call next words Stuck valid is = absurd cc
 valid_first number go_on call next words Unfinished valid is = absurd cc
 
 -- a program that ends has a first valid loop call, or none
-first_ended : (program : Program) (e : BoundedResult Finished) → ProgramEnds program e
+first_ended : (program : Program) (e : BoundedResult Finished) → EndsWithItsLoops program e
     → (valid : Option ValidLoop) × (mapped (first_of 0) e ≡ Ended valid)
 first_ended program (Ended f) ends = (first_of 0 f, refl)
 first_ended program Stuck ends = absurd ends
@@ -53,13 +54,19 @@ pub record StillSeeks (program : Program) (argument : ℕ) (main : MainOf) (firs
     pub still : StillRuns (mapped (first_of number)) (first_loop program 4096 argument first.words) program main first
         now
     pub few : number + most_from program main.slot ≤ 4096
+    pub ends : EndsWithItsLoops program (program_in_order program 4096 argument first.words)
 
 module _ {program : Program} {argument : ℕ} {main after : MainOf} {first now new : MapList} {number : ℕ}
     (seeks : StillSeeks program argument main first now number) (same : after.program ≡ main.program) where
   -- main ends without a valid loop call
   pub ends_without : {ret : ℕ} → NextTurn main now (turned.Exit ret) after new
       → CameToLoop program argument first new None
-  ends_without {ret} next = record { valid = None; first = (exits seeks.still same next).0; is = tt }
+  ends_without {ret} next = record {
+    valid = None;
+    first = (exits seeks.still same next).0;
+    is = tt;
+    ends = seeks.ends;
+  }
 
   -- a call was refused, and main goes on
   pub goes_on : {slot : ℕ} {call : RefusedCall} → NextTurn main now (turned.Refused slot call) after new
@@ -71,16 +78,16 @@ module _ {program : Program} {argument : ℕ} {main after : MainOf} {first now n
         still = refuses seeks.still same next (mapped (first_of (number + 1)))
             (one_refused number slot call new.words);
         few = omega (arith, fewer, few);
+        ends = seeks.ends;
       }
 
   -- it made its first valid loop call
-  pub calls : ProgramEnds program (program_in_order program 4096 argument first.words) → {call : LoopCall}
-      → NextTurn main now (turned.Loop call) after new
+  pub calls : {call : LoopCall} → NextTurn main now (turned.Loop call) after new
       → (found : NumberedCall) → found.number ≡ number → found.call ≡ call
       → CameToLoop program argument first new (Some found)
-  calls ends {call} next found is_number is_call =
+  calls {call} next found is_number is_call =
       let this = at_call seeks.still same next in
-      let first = first_ended program (program_in_order program 4096 argument first.words) ends in
+      let first = first_ended program (program_in_order program 4096 argument first.words) seeks.ends in
       let is = valid_first number (main_from program 4096 this.turns) this.made this.m new.words
       (loop_in_order program 4096 this.made new.words) first.0 (sym this.rest ∙ first.1) in
       record {
@@ -94,4 +101,5 @@ module _ {program : Program} {argument : ℕ} {main after : MainOf} {first now n
           fit = this.is.fit;
           sizes = call_sizes seeks.still next;
         };
+        ends = seeks.ends;
       }

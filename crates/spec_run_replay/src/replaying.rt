@@ -1,13 +1,13 @@
 //! Replaying the first valid loop call of a program.
 
 ghost use Rattle.std.specs.Prelude.{◌≡◌, IfOk};
-ghost use Rattle.bpf_step.specs.Iterations.{EachIterationEnds};
+ghost use Rattle.bpf_step_model.specs.ProgramInOrder.{program_in_order};
+ghost use Rattle.spec_run_main.specs.Reports.{EndsWithItsLoops};
 ghost use Rattle.spec_run_replay.specs.ProgramReplay.{ReplaysFrom, ReplaysUnlessMemory};
 
 use crate::first_loop::first_loop;
 use array_maps::Maps;
 use bpf_verify::Verified;
-use bpf_verify_sound::{law_of_accepted_programs, law_of_accepted_runs};
 use loop_core_model::{Event, LoopReport, ReplayFault, Test};
 use loop_core_replay::{ReplayError, replay_loop};
 use loop_core_sequential::law_of_filled_calls;
@@ -51,16 +51,6 @@ pub enum NoReplay {
     Memory,
 }
 
-/// For the proof: each iteration ends within its callback's count.
-fn iterations_end(program: &Verified)
-    ensures { EachIterationEnds program.now }
-{
-    law_of_accepted_runs();
-    law_of_accepted_programs();
-    // For the proof: the program is accepted.
-    let _unit = program.unit();
-}
-
 /// Runs the program in order on the maps, its argument in R1, up to its first valid loop call; and replays
 /// that loop with these bounds of blocks and these events, judged by the test. The maps are of the
 /// program's sizes.
@@ -81,9 +71,8 @@ pub fn replay(
     ensures replayed { ReplaysUnlessMemory (ReplaysFrom test program.now argument maps.words bounds.items events.now)
         result }
     ensures sizes { IfOk result (λ r. r.maps.sizes ≡ program.now.sizes) }
-    ensures ends { EachIterationEnds program.now }
+    ensures ends { EndsWithItsLoops program.now (program_in_order program.now 4096 argument maps.words) }
 {
-    iterations_end(program);
     let mut maps = maps;
     let Some(first) = first_loop(program, &mut maps, argument) else {
         return Err(NoReplay::Refused(ReplayRefusal::NoLoop));

@@ -13,7 +13,4 @@ returns g c =
     let program = c.args.program.now in
     let lines = subst (λ test. AreLines (loop_report test program 4096) ran.calls c.run_main.new.runner.lines.items)
     ran.recorded.0 ran.recorded.2 in
-    report_of (loop_report c.args.test program 4096) (record {
-      ret = c.in_ok-ret.ret;
-      loops = c.run_main.new.runner.lines;
-    }) ran lines refl c.requires.sizes
+    report_of (loop_report c.args.test program 4096) ran lines refl c.requires.sizes

@@ -15,8 +15,7 @@ returns c =
     let so_far = subst (λ most. AreExplainedSoFar c.args.test program most wants ran.calls left.lines.items
     left.loops.items) ran.recorded.1 by_test in
     record {
-      report = report_of (loop_report c.args.test program 4096) (record { ret = c.in_ok-ret.ret; loops = left.lines })
-          ran so_far.reported refl c.requires.sizes;
+      report = report_of (loop_report c.args.test program 4096) ran so_far.reported refl c.requires.sizes;
       lines = so_far.lines_are;
       explained = subst (λ e. IsEachExplained c.args.test program c.args.most wants e left.loops.items) (sym ran.gives)
           so_far.explained;

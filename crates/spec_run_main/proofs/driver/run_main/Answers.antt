@@ -1,7 +1,7 @@
 use Rattle.std.proofs.Common.{rules, ◌++◌, ◌∷◌, [], ◌∙◌, ◌≤◌, sym, subst, arith}
 use Rattle.bpf_step_model.specs.{Run.{mapped}, ProgramInOrder.{program_in_order, valid_call, refused_call}}
 use Rattle.bpf_verify_sound.specs.Soundness.{most_from}
-use Rattle.bpf_step.proofs.Limits.{few_steps, iterations_end}
+use Rattle.bpf_step.proofs.Limits.{few_steps}
 use Rattle.spec_run_main.proofs.CallLists.{behind, none_before, one_more, all_made}
 use Rattle.spec_run_main.proofs.Turns.{Laws, program_ends, words_fit, starts, few_left, exits, refuses, refusal_lessens}
 use Rattle.spec_run_main.proofs.Turns.{call_sizes, loops, loop_lessens}
@@ -96,6 +96,4 @@ returns-in-Exit g c =
       recorded = before.recorded;
       kept = end.1;
       ends = program_ends before.still.laws c.args.argument (search rules) c.args.maps.now.words fit;
-      iterations = iterations_end before.still.laws.loops before.still.laws.counts c.args.program.now
-          before.still.laws.sound;
     }

@@ -18,12 +18,13 @@ loop-call-init c =
     let program = c.args.program.now in
     let maps = c.args.maps.now in
     let few = few_steps program c.new-main.result.slot c.unit-unit.ensures.accepted in
+    let known = laws ((goal.at.loop-call-init c).After-words_fit) in
+    let fit = words_fit program maps c.requires c.sizes-sizes.ensures.words c.words_fit.ensures in
     record {
       still = starts (mapped (first_of 0)) (first_loop program 4096 c.args.argument maps.words) program c.args.argument
-          c.new-main.result maps (laws ((goal.at.loop-call-init c).After-words_fit)) c.new-main.ensures.program
-          c.new-main.ensures.at c.requires
-          (words_fit program maps c.requires c.sizes-sizes.ensures.words c.words_fit.ensures) refl;
+          c.new-main.result maps known c.new-main.ensures.program c.new-main.ensures.at c.requires fit refl;
       few = omega (arith, few);
+      ends = program_ends known c.args.argument (search rules) maps.words fit;
     }
 
 pub next-requires-clause-served : goal.next-requires-clause-served
@@ -40,9 +41,5 @@ returns-in-Exit c = ends_without c.loop-call.invariant c.next.ensures.program c.
 
 pub returns-in-Loop : goal.returns-in-Loop
 returns-in-Loop c =
-    let at = (goal.at.returns-in-Loop c).After-words_fit in
-    let program = c.args.program.now in
-    let fit = words_fit program c.args.maps.now c.requires c.sizes-sizes.ensures.words c.words_fit.ensures in
-    calls c.loop-call.invariant c.next.ensures.program
-    (program_ends (laws at) c.args.argument (search rules) c.args.maps.now.words fit) c.in-Loop.ensures.ran
+    calls c.loop-call.invariant c.next.ensures.program c.in-Loop.ensures.ran
     (record { number = c.loop-call.number; call = c.in-Loop.call }) refl refl
