@@ -49,7 +49,7 @@ fn insn_fits(insn: Insn)
 }
 
 /// Each number of each instruction is one of its type.
-pub(crate) fn insns_fit(insns: &[Insn])
+pub fn insns_fit(insns: &[Insn])
     ensures { AreInsns insns.now }
 {
     for insn in insns {

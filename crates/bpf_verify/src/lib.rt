@@ -25,5 +25,6 @@ pub use accepting::verify;
 pub use bpf_verify_model::Rule;
 pub use callback_rows::CallbackRows;
 pub use error::VerifyError;
+pub use fields::insns_fit;
 pub use states::states_before;
 pub use verified::Verified;

@@ -39,9 +39,7 @@ goes-on program (Asks element request there) next words between accesses goes s 
           (left_by (action_of request goes.0) (slice_index words element)) fit
           (subst (λ (word : ℕ). left_by (action_of request goes.0) word < 2 ^ 64) (sym at) (s goes.0 fits).1)),
     )
-goes-on program (Loops call there) next words between accesses goes s fit = absurd goes
-goes-on program (Refuses call there) next words between accesses goes s fit = absurd goes
-goes-on program (Exits ret) next words between accesses goes s fit = absurd goes
+goes-on program _ next words between accesses goes s fit = absurd goes
 
 pub steps-run : ResultsFit → (program : Program) → AreInsns program.insns → (count : ℕ) (passed : List Machine)
     (m : Machine) → RunsTo program passed m → (words : List ℕ) → AreWords words

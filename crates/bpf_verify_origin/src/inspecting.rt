@@ -6,13 +6,12 @@ ghost use Rattle.bpf_verify_model.specs.Accepted.{WithinLimits, first_fault};
 ghost use Rattle.bpf_verify_origin.specs.{Edges.{slots_before}, Inspected.{broken_rule}};
 
 use crate::fault::Fault;
-use crate::fields::insns_fit;
 use crate::finding::insns_by_slot;
 use crate::inflows::inflows;
 use crate::inspection::Inspection;
 use crate::sourcing::sources;
 use bpf_insn_types::{Insn, Unit, elements_of, slot_count};
-use bpf_verify::{VerifyError, states_before, verify};
+use bpf_verify::{VerifyError, insns_fit, states_before, verify};
 use std::alloc::{AllocError, Global};
 
 /// How many slots a unit has, if it is within the limits.

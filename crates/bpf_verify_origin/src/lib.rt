@@ -13,7 +13,6 @@
 #![tactic(auto)]
 
 mod fault;
-mod fields;
 mod finding;
 mod inflow;
 mod inflows;

@@ -5,7 +5,7 @@ ghost use Rattle.std.specs.List.{All};
 ghost use Rattle.array_maps.specs.Accesses.{left_by};
 ghost use Rattle.loop_core_model.specs.Effects.{action_on, words_after_any_effect, words_after_each_lane};
 ghost use Rattle.loop_core_model.specs.Effects.{words_after_lane_effects};
-ghost use Rattle.lane_rows.specs.{Rows.{is_in, line_word}, declared.places.Places.{Places}};
+ghost use Rattle.lane_rows.specs.{Rows.{is_in}, declared.places.Places.{Places}};
 ghost use Rattle.lane_stamps.specs.Sites.{HasRows, IsWithin, LiesBelow, deed_by, effect_at, effect_if, element_named};
 ghost use Rattle.lane_stamps.specs.{Sites.{half_named, is_of_halves, log_of, shown}, Stamps.{GoTogether}};
 ghost use Rattle.lane_stamps.specs.declared.kind.Kind.TheVariants.{Apply};
@@ -17,7 +17,7 @@ use crate::kind::Kind;
 use crate::reading::{is_there, place_on};
 use crate::site::{Lanes, Site};
 use array_maps::{Op, combine};
-use lane_rows::{Line, Mask, PlaceLine, Places};
+use lane_rows::{Mask, PlaceLine, Places, spell};
 
 /// What is left of a word.
 #[inline(always)]
@@ -348,17 +348,6 @@ fn apply_operator(
     }
 }
 
-/// The words of a line, lane by lane: each is the sum of the one before and the stride, which is faster than a product.
-fn spell(line: &Line, words: &mut [u64; 256])
-    ensures { (lane : ℕ) → lane < 256 → slice_index words.new lane ≡ line_word line.now lane }
-{
-    let mut word = line.base;
-    for lane in 0..256 {
-        words[lane] = word;
-        word = word.wrapping_add(line.stride);
-    }
-}
-
 /// Applies what all lanes do at a site, in their order.
 fn apply_site(site: &Site, lanes: Lanes<'_>, count: usize, words: &mut [u64])
     requires room { count ≤ 256 }
@@ -376,7 +365,7 @@ fn apply_site(site: &Site, lanes: Lanes<'_>, count: usize, words: &mut [u64])
         None => apply_kind(site.kind, mask, places, &values.lanes, count, words),
         Some(line) => {
             let mut spelled = [0; 256];
-            spell(&line, &mut spelled);
+            spell(line, &mut spelled, count);
             apply_kind(site.kind, mask, places, &spelled, count, words);
         }
     }

@@ -1,13 +1,13 @@
--- Lanes that never conflict fail no flow test.
+-- Lanes that never conflict fail no test.
 use Rattle.std.proofs.Common.{◌≡◌, ℕ, zero, suc, ◌+◌, ◌<◌, ◌≤◌, Bool, true, false, ◌&&◌, if◌then◌else◌, inl, inr}
 use Rattle.std.proofs.{Common.{List, [], ◌∷◌, map, length, refl, sym, ap, subst, ◌∙◌, arith}, lemmas.List.{length-map}}
 use Rattle.std.specs.{Prelude.{is_none, slice_index_or, slice_get, Some, None}, List.{list_all, range_with_len}}
 use Rattle.std.proofs.lemmas.List.{Folds.{list_all-append}, FromFn.{length-range_with_len}}
 use Rattle.array_maps.specs.declared.access.Op.{Op}
 use Rattle.array_maps.specs.Accesses.{Action, Read, Write, ReadWrite, Reduce, Access, actions_at}
-use Rattle.loop_core_model.{specs.declared.loop_test.Test.TheVariants.{Flow}, proofs.FailingPairs.{fails_by_pair}}
+use Rattle.loop_core_model.{specs.declared.loop_test.Test.{Test, TheVariants.{Lrpd, Flow}}, proofs.FailingPairs.{fails_by_pair}}
 use Rattle.loop_core_model.specs.Actions.{writes, exposed, is_same, reduces_by, joined, only_operator}
-use Rattle.loop_core_model.specs.Conflict.{fails_flow, conflicts, at_element, FailingPair}
+use Rattle.loop_core_model.specs.Conflict.{fails_flow, fails_lrpd, fails, conflicts, at_element, FailingPair}
 use Rattle.loop_core_model.proofs.OneElement.{and_true_left, and_true_right, same_op}
 use Rattle.loop_core_model.specs.Effects.{action_on, accesses_on}
 use Rattle.row_list.specs.{declared.row_op.RowOp.{RowOp}, Rows.{AreValues, RowAccess, deed_of, effects_by, row_access}}
@@ -20,6 +20,15 @@ pub idle_flow : (iterations : List (List Action)) → joined iterations ≡ [] �
 idle_flow [] h = refl
 idle_flow ([] ∷ rest) h = idle_flow rest h
 idle_flow ((action ∷ actions) ∷ rest) h = absurd (cc)
+
+idle_lrpd : (iterations : List (List Action)) → joined iterations ≡ [] → fails_lrpd iterations ≡ false
+idle_lrpd [] h = refl
+idle_lrpd ([] ∷ rest) h = idle_lrpd rest h
+idle_lrpd ((action ∷ actions) ∷ rest) h = absurd (cc)
+
+idle : (test : Test) (iterations : List (List Action)) → joined iterations ≡ [] → fails test iterations ≡ false
+idle Lrpd iterations h = idle_lrpd iterations h
+idle Flow iterations h = idle_flow iterations h
 
 -- reduces by one operator, of which there are some, are reduction-only
 reduction : (op : Op) (action : Action) (actions : List Action) → list_all (reduces_by op) (action ∷ actions) ≡ true
@@ -44,12 +53,12 @@ and_both : (a b : Bool) → a ≡ true → b ≡ true → (a && b) ≡ true
 and_both a b x y = rw (x, y) refl
 
 -- so no element conflicts where all iterations do nothing or reduce by it
-by_actions : (op : Op) (iterations : List (List Action)) (actions : List Action)
-    → joined iterations ≡ actions → list_all (reduces_by op) actions ≡ true → conflicts Flow iterations ≡ false
-by_actions op iterations [] are h =
-    and_second (is_none (only_operator (joined iterations))) (fails_flow iterations) (idle_flow iterations are)
-by_actions op iterations (action ∷ actions) are h =
-    and_first (is_none (only_operator (joined iterations))) (fails_flow iterations)
+pub by_actions : (test : Test) (op : Op) (iterations : List (List Action)) (actions : List Action)
+    → joined iterations ≡ actions → list_all (reduces_by op) actions ≡ true → conflicts test iterations ≡ false
+by_actions test op iterations [] are h =
+    and_second (is_none (only_operator (joined iterations))) (fails test iterations) (idle test iterations are)
+by_actions test op iterations (action ∷ actions) are h =
+    and_first (is_none (only_operator (joined iterations))) (fails test iterations)
     (ap (λ (all : List Action). is_none (only_operator all)) are ∙ reduction op action actions h)
 
 -- iterations by what they make
@@ -145,7 +154,7 @@ module _ (list : List RowOp) (n : ℕ) (caller words : List ℕ) (values : ℕ �
       (sym (ap writes (w ∙ of_sites e pair.writer)) ∙ pair.writing))
       (reader (values pair.reader) words e (sites_of list) words
       (sym (ap exposed (r ∙ of_sites e pair.reader)) ∙ pair.reading)) in
-      by_actions only.op (at_these lane_accesses e 0 count) (joined (at_these lane_accesses e 0 count)) refl
+      by_actions Flow only.op (at_these lane_accesses e 0 count) (joined (at_these lane_accesses e 0 count)) refl
       (joined_reduce lane_accesses e only.op count 0 (λ i low high. only.each i (omega (arith, high, few))))
     where
       nth_first : (k : ℕ) → k < count

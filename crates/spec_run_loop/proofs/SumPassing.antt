@@ -3,60 +3,17 @@ use Rattle.std.proofs.Common.{◌≡◌, ℕ, zero, suc, ◌+◌, ◌<◌, ◌�
 use Rattle.std.{proofs.Common.{◌∷◌, length, Some, None, refl, ap, ◌∙◌, subst, arith}, specs.Prelude.{is_none}}
 use Rattle.std.{specs.List.{AllByRecursion, list_all}, proofs.lemmas.List.Folds.{list_all-append}}
 use Rattle.array_maps.specs.declared.access.Op.{Op}
-use Rattle.array_maps.specs.Accesses.{Action, Read, Write, ReadWrite, Reduce, Access, actions_at}
+use Rattle.array_maps.specs.Accesses.{Access, actions_at}
 use Rattle.bpf_step_model.specs.{Run.{BoundedResult, Ended, mapped, followed}, Iteration.{Iterated, iteration}}
 use Rattle.bpf_verify_sound.specs.Soundness.{AreMapWords, callback_count}
 use Rattle.bpf_step.specs.Iterations.{EachIterationEnds}
-use Rattle.loop_core_model.specs.{declared.loop_test.Test.{Test, TheVariants.{Lrpd, Flow}}, Report.{judged, verdict}}
-use Rattle.loop_core_model.specs.{Actions.{is_same, reduces_by, joined, only_operator}, Scan.{up_to_break, scan}}
-use Rattle.loop_core_model.specs.Conflict.{fails_lrpd, fails_flow, fails, conflicts, at_element, conflicting}
+use Rattle.loop_core_model.specs.{declared.loop_test.Test.{Test}, Report.{judged, verdict}}
+use Rattle.loop_core_model.specs.{Actions.{reduces_by, joined}, Scan.{up_to_break, scan}}
+use Rattle.loop_core_model.specs.Conflict.{conflicts, at_element, conflicting}
 use Rattle.loop_core_model.{specs.LeastBreak.{in_front_of, accesses_of_each}, proofs.PlaneLaws.{filter-none}}
-use Rattle.loop_core_model.proofs.{OneElement.{and_true_left, and_true_right, same_op}, ScanLaws.{counted_are_scanned}}
+use Rattle.{loop_core_model.proofs.ScanLaws.{counted_are_scanned}, loop_inspector.proofs.Conflicts.{by_actions}}
 use Rattle.spec_run_loop.specs.{SumLaw.{AllReduce}, SumLoops.{SumLoopOf, IsSumLoop, AlwaysPasses}}
 use Rattle.spec_run_loop.proofs.{Reduces.{and_both, reduces_at}, Ranges.{ends_known}}
-
--- iterations that do nothing at an element fail no test there
-idle_lrpd : (iterations : List (List Action)) → joined iterations ≡ [] → fails_lrpd iterations ≡ false
-idle_lrpd [] h = refl
-idle_lrpd ([] ∷ rest) h = idle_lrpd rest h
-idle_lrpd ((action ∷ actions) ∷ rest) h = absurd (cc)
-
-idle_flow : (iterations : List (List Action)) → joined iterations ≡ [] → fails_flow iterations ≡ false
-idle_flow [] h = refl
-idle_flow ([] ∷ rest) h = idle_flow rest h
-idle_flow ((action ∷ actions) ∷ rest) h = absurd (cc)
-
-idle : (test : Test) (iterations : List (List Action)) → joined iterations ≡ [] → fails test iterations ≡ false
-idle Lrpd iterations h = idle_lrpd iterations h
-idle Flow iterations h = idle_flow iterations h
-
--- reduces by one operator, of which there are some, are reduction-only
-reduction : (op : Op) (action : Action) (actions : List Action) → list_all (reduces_by op) (action ∷ actions) ≡ true
-    → is_none (only_operator (action ∷ actions)) ≡ false
-reduction op (Read saw) actions h = absurd (cc)
-reduction op (Write left) actions h = absurd (cc)
-reduction op (ReadWrite saw left) actions h = absurd (cc)
-reduction op (Reduce by operand) actions h =
-    let same : op ≡ by = same_op op by (and_true_left (is_same op by) _ h) in
-    let rest : list_all (reduces_by by) actions ≡ true =
-    subst (λ (o : Op). list_all (reduces_by o) actions ≡ true) same (and_true_right (is_same op by) _ h) in
-    ap (λ (b : Bool). is_none (if b then Some by else None)) rest
-
--- so no element conflicts where all iterations do nothing or reduce by it
-and_first : (a b : Bool) → a ≡ false → (a && b) ≡ false
-and_first a b x = rw x refl
-
-and_second : (a b : Bool) → b ≡ false → (a && b) ≡ false
-and_second true b y = y
-and_second false b y = refl
-
-by_actions : (test : Test) (op : Op) (iterations : List (List Action)) (actions : List Action)
-    → joined iterations ≡ actions → list_all (reduces_by op) actions ≡ true → conflicts test iterations ≡ false
-by_actions test op iterations [] are h =
-    and_second (is_none (only_operator (joined iterations))) (fails test iterations) (idle test iterations are)
-by_actions test op iterations (action ∷ actions) are h =
-    and_first (is_none (only_operator (joined iterations))) (fails test iterations)
-    (ap (λ (all : List Action). is_none (only_operator all)) are ∙ reduction op action actions h)
 
 -- at an element all iterations' actions are reduces
 joined_reduce : (op : Op) (e : ℕ) (runs : List (List Access)) → AllByRecursion (AllReduce op) runs
