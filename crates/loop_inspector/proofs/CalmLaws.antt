@@ -4,13 +4,15 @@ use Rattle.std.proofs.Common.{List, [], ◌∷◌, length, slice_index_or, sym, 
 use Rattle.std.{specs.{Prelude.{slice_get, Some}, List.{AllZip}}, proofs.lemmas.Option.{slice_get_within}}
 use Rattle.array_maps.specs.MapList.{AreWords}
 use Rattle.lane_stamps.specs.declared.site.Site.{Site as Ranked}
-use Rattle.row_list.specs.{declared.row_op.RowOp.{RowOp}, Rows.{AreValues, effects_by, is_in}, Agreement.{SeesBefore}}
-use Rattle.row_facts.specs.declared.{fact.Fact.{Fact}, meeting.Meeting.{Meeting}, site.{Place.{Place}, Site.{Site}}}
-use Rattle.row_facts.specs.{Facts.{AreFacts, IsSure}, Sites.{IsSite, byte_at, sites_of}, SiteKinds.{HasSite, IsKindOf}}
+use Rattle.row_list.specs.{declared.row_op.{Place.{Place}, RowOp.{RowOp}}, Rows.{AreValues, byte_at, effects_by, is_in}}
+use Rattle.row_list.specs.Agreement.{SeesBefore}
+use Rattle.row_facts.specs.declared.{fact.Fact.{Fact}, meeting.Meeting.{Meeting}, site.Site.{Site}}
+use Rattle.row_facts.specs.{Facts.{AreFacts, IsSure}, Sites.{IsSite, sites_of}, SiteKinds.{HasSite, IsKindOf}}
 use Rattle.row_facts.specs.Meetings.{ReduceAlike, Touches as TouchesHalf, leaves, loads}
 use Rattle.row_facts.specs.Elements.{Touches, reads}
 use Rattle.row_facts.proofs.SiteLaws.{known, some-same}
-use Rattle.loop_inspector.specs.{Reach.{AreAlone, Misses}, Open.{IsApartAt, IsInSome, NoneLoadsOwn}, Inspections.{IsSurvey}}
+use Rattle.loop_inspector.specs.{Reach.{AreAlone, Misses}, Open.{IsApartAt, IsInSome, NoneLoadsOwn}}
+use Rattle.loop_inspector.specs.Inspections.{IsSurvey}
 use Rattle.loop_inspector.specs.declared.survey.Survey.{Survey}
 use Rattle.loop_inspector.proofs.OwnLaws.{sees_first}
 
@@ -56,7 +58,8 @@ each_site list accesses sites all zip k op there =
 
 -- so it is of a list that is surveyed
 pub none_own : (list : List RowOp) (n : ℕ) (survey : Survey) → n ≤ 2 ^ 23 → IsSurvey list n survey
-    → NoneLoadsOwn list survey.sites.items → ((k : ℕ) (op : RowOp) → slice_get (sites_of list) k ≡ Some op → HasSite op) → LoadsNoneOfOwn list n
+    → NoneLoadsOwn list survey.sites.items
+    → ((k : ℕ) (op : RowOp) → slice_get (sites_of list) k ≡ Some op → HasSite op) → LoadsNoneOfOwn list n
 none_own list n survey few is own has = record {
   each = λ index caller words values below fit valued. sees_first values words list fit has (pairs index caller words
       values below valued);

@@ -4,8 +4,8 @@ use Rattle.std.proofs.Common.{length, map, take, sym, ap, subst, inl, inr, arith
 use Rattle.std.specs.Prelude.{slice_get, Some}
 use Rattle.std.proofs.lemmas.{Grind.{common_steps}, List.{length_push}, Option.{slice_get-map, slice_get_within}}
 use Rattle.std.{specs.Option.{option_map}, proofs.lemmas.List.Elements.{filter-append}}
-use Rattle.row_list.specs.declared.row_op.RowOp.{RowOp}
-use Rattle.row_facts.{specs.{declared.site.Site.{Site}, Sites.{is_access, sites_of}}, proofs.FactLaws.{get-more}}
+use Rattle.row_list.specs.{declared.row_op.RowOp.{RowOp}, Places.{is_access}}
+use Rattle.row_facts.{specs.{declared.site.Site.{Site}, Sites.{sites_of}}, proofs.FactLaws.{get-more}}
 use Rattle.row_facts.proofs.SiteLaws.{some-same}
 use Rattle.loop_inspector.proofs.SpanLaws.{get-kept, get-last}
 use Rattle.loop_inspector.specs.{declared.reach.Span.{Span}, Slices.{AreCuts, AreOpens, IsClosed, IsCut}}

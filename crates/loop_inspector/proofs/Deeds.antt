@@ -6,16 +6,18 @@ use Rattle.std.proofs.lemmas.{Bool.{or_cases, eqb-true}, Nat.{mod_below}}
 use Rattle.array_maps.specs.declared.access.{Op.{Op, TheVariants.{Add}}, Half.TheVariants.{Low, High}, Part.{Part}}
 use Rattle.array_maps.specs.{declared.access.Part.TheVariants.{Whole, Half as Of}}
 use Rattle.array_maps.specs.Accesses.{Action, actions_at}
-use Rattle.bpf_insn_types.specs.{declared.insn.{SimpleOp.{SimpleOp}, Width.TheVariants.{W32, W64}}, Words.{word_of}}
+use Rattle.bpf_insn_types.specs.declared.insn.{SimpleOp.{SimpleOp}, Width.{Width, TheVariants.{W32, W64}}}
+use Rattle.bpf_insn_types.specs.Words.{word_of}
 use Rattle.bpf_step_model.specs.Step.{store_of, update_of, map_operator, half_operator}
-use Rattle.bpf_step_model.specs.AreaWords.{byte_named, part_named}
-use Rattle.loop_core_model.specs.Actions.{is_write, writes, is_plain_write, exposed, is_same, reduces_by}
-use Rattle.loop_core_model.{specs.{Kinds.{kind_leaves}, Effects.{accesses_on}}}
+use Rattle.bpf_step_model.specs.AreaWords.{part_named}
+use Rattle.loop_core_model.specs.Actions.{is_write, writes, is_plain_write, exposed, reduces_by}
+use Rattle.loop_core_model.{specs.{Kinds.{kind_leaves}, Effects.{accesses_on}}, proofs.OneElement.{is_same-refl}}
 use Rattle.loop_core_model.specs.Effects.{words_after_effect, Effect, deed_loads, kind_of_deed, action_on}
 use Rattle.row_list.specs.{declared.row_op.RowOp.{RowOp, TheVariants.{Load, Store, Reduce, Fetch}}, Rows.{row_effects}}
 use Rattle.row_list.specs.Rows.{effects_by, RowAccess, is_in, row_access, deed_of, effects_if, access_effects}
-use Rattle.row_facts.specs.{declared.site.Place.{Place}, Sites.{place_in, byte_at, is_access, sites_of}}
-use Rattle.row_facts.specs.{Meetings.{loads, leaves, ReducesBy, ReduceAlike}, Elements.{Touches, reads}}
+use Rattle.row_list.specs.{declared.row_op.Place.{Place}, Places.{place_in, is_access}, Rows.{byte_at}}
+use Rattle.row_facts.specs.Sites.{bytes_in, sites_of}
+use Rattle.row_facts.specs.{Meetings.{loads, leaves, ReducesBy, ReduceAlike}, Elements.{Touches, is_half, reads}}
 
 -- an access as an effect
 abbrev pub effect_of : RowAccess → (words : List ℕ) → Effect
@@ -59,6 +61,12 @@ store_loads_none : (part : Part) (n word : ℕ) → deed_loads (deed_of (store_o
 store_loads_none Whole n word = refl
 store_loads_none (Of half) n word = refl
 
+-- a store of a whole word doesn't read its element
+store_reads : (width : Width) (byte n word now : ℕ)
+    → is_plain_write (action_on (deed_of (store_of (part_named width byte) n) word) now) ≡ false → is_half width ≡ true
+store_reads W64 byte n word now h = absurd (cc)
+store_reads W32 byte n word now h = refl
+
 update_loads_none : (part : Part) (op : SimpleOp) (n word : ℕ) → deed_loads (deed_of (update_of part op n) word) ≡ false
 update_loads_none Whole op n word = refl
 update_loads_none (Of half) op n word = refl
@@ -79,9 +87,9 @@ same_access x y e = cc
 
 pub is_access_of : (op : RowOp) (values : List ℕ) (access : RowAccess) → row_access op values ≡ Some access
     → IsAccess op values access
-is_access_of (Load mask width extension address offset) values access e =
-    subst (IsAccess (Load mask width extension address offset) values) (same_access _ access e) (record {
-      place = record { mask = mask; width = width; address = address; offset = offset };
+is_access_of (Load place extension) values access e =
+    subst (IsAccess (Load place extension) values) (same_access _ access e) (record {
+      place = place;
       is = refl;
       mask = refl;
       byte = refl;
@@ -90,20 +98,21 @@ is_access_of (Load mask width extension address offset) values access e =
       kept = λ word h. absurd (cc);
       loading = λ word h. refl;
     })
-is_access_of (Store mask W64 address offset value) values access e =
-    subst (IsAccess (Store mask W64 address offset value) values) (same_access _ access e) (record {
-      place = record { mask = mask; width = W64; address = address; offset = offset };
+is_access_of (Store place value) values access e =
+    subst (IsAccess (Store place value) values) (same_access _ access e) (record {
+      place = place;
       is = refl;
       mask = refl;
       byte = refl;
-      reading = λ word now h. absurd (cc);
+      reading = λ word now h. store_reads place.width (byte_at values place) (slice_index values value) word now h;
       leaving = λ word now h. refl;
       kept = λ word h. refl;
-      loading = λ word h. absurd (cc);
+      loading = λ word h. absurd (let never = sym h
+          ∙ store_loads_none (part_named place.width (byte_at values place)) (slice_index values value) word in cc);
     })
-is_access_of (Store mask W32 address offset value) values access e =
-    subst (IsAccess (Store mask W32 address offset value) values) (same_access _ access e) (record {
-      place = record { mask = mask; width = W32; address = address; offset = offset };
+is_access_of (Reduce place op value) values access e =
+    subst (IsAccess (Reduce place op value) values) (same_access _ access e) (record {
+      place = place;
       is = refl;
       mask = refl;
       byte = refl;
@@ -111,26 +120,11 @@ is_access_of (Store mask W32 address offset value) values access e =
       leaving = λ word now h. refl;
       kept = λ word h. refl;
       loading = λ word h. absurd (let never = sym h
-          ∙ store_loads_none (part_named W32 (byte_named (slice_index values address) offset)) (slice_index values
-          value)
-          word in cc);
+          ∙ update_loads_none (part_named place.width (byte_at values place)) op (slice_index values value) word in cc);
     })
-is_access_of (Reduce mask width op address offset value) values access e =
-    subst (IsAccess (Reduce mask width op address offset value) values) (same_access _ access e) (record {
-      place = record { mask = mask; width = width; address = address; offset = offset };
-      is = refl;
-      mask = refl;
-      byte = refl;
-      reading = λ word now h. refl;
-      leaving = λ word now h. refl;
-      kept = λ word h. refl;
-      loading = λ word h. absurd (let never = sym h
-          ∙ update_loads_none (part_named width (byte_named (slice_index values address) offset)) op
-          (slice_index values value) word in cc);
-    })
-is_access_of (Fetch mask width op address offset value compare) values access e =
-    subst (IsAccess (Fetch mask width op address offset value compare) values) (same_access _ access e) (record {
-      place = record { mask = mask; width = width; address = address; offset = offset };
+is_access_of (Fetch place op value compare) values access e =
+    subst (IsAccess (Fetch place op value compare) values) (same_access _ access e) (record {
+      place = place;
       is = refl;
       mask = refl;
       byte = refl;
@@ -311,74 +305,61 @@ module _ (values words : List ℕ) (e : ℕ) where
   all_pass test (op ∷ sites) now each =
       pass_more test op sites now (each 0 op refl) (λ on. all_pass test sites on (λ k o there. each (suc k) o there))
 
+-- the operator by which accesses of a width reduce
+abbrev operator_at : Width → SimpleOp → Op
+operator_at W64 op = map_operator op
+operator_at W32 op = half_operator op
+
 -- the operator by which a site reduces
 pub operator_of : RowOp → Op
-operator_of (Reduce mask W64 op address offset value) = map_operator op
-operator_of (Reduce mask W32 op address offset value) = half_operator op
+operator_of (Reduce place op value) = operator_at place.width op
 operator_of _ = Add
-
-map_same : (op : SimpleOp) → is_same (map_operator op) (map_operator op) ≡ true
-map_same SimpleOp.Add = refl
-map_same SimpleOp.Or = refl
-map_same SimpleOp.And = refl
-map_same SimpleOp.Xor = refl
-
-half_same : (op : SimpleOp) → is_same (half_operator op) (half_operator op) ≡ true
-half_same SimpleOp.Add = refl
-half_same SimpleOp.Or = refl
-half_same SimpleOp.And = refl
-half_same SimpleOp.Xor = refl
 
 half_acts : (low : Bool) (op : SimpleOp) (n word on : ℕ)
     → reduces_by (half_operator op) (action_on (deed_of (update_of (if low then Of Low else Of High) op n) word) on) ≡
     true
-half_acts true op n word on = half_same op
-half_acts false op n word on = half_same op
+half_acts true op n word on = is_same-refl (half_operator op)
+half_acts false op n word on = is_same-refl (half_operator op)
+
+part_acts : (width : Width) (byte : ℕ) (op : SimpleOp) (n word on : ℕ)
+    → reduces_by (operator_at width op) (action_on (deed_of (update_of (part_named width byte) op n) word) on) ≡ true
+part_acts W64 byte op n word on = is_same-refl (map_operator op)
+part_acts W32 byte op n word on = half_acts (byte % 8 == 0) op n word on
+
+same_width : (one other : Width) → bytes_in one ≡ bytes_in other → one ≡ other
+same_width W32 W32 is = refl
+same_width W64 W64 is = refl
+same_width W32 W64 is = absurd (let never : 4 ≡ 8 = is in omega (arith, never))
+same_width W64 W32 is = absurd (let never : 8 ≡ 4 = is in omega (arith, never))
 
 -- sites that reduce by an operator do so
-whole_acts : (op : SimpleOp) (at : RowOp) (values : List ℕ) (access : RowAccess) → ReducesBy 8 op at
-    → row_access at values ≡ Some access → (word on : ℕ)
-    → reduces_by (map_operator op) (action_on (deed_of access.request word) on) ≡ true
-whole_acts op (Reduce mask W64 by address offset value) values access alike e word on =
-    subst (λ (a : RowAccess). reduces_by (map_operator op) (action_on (deed_of a.request word) on) ≡ true)
+reduce_acts : (width : Width) (op : SimpleOp) (at : RowOp) (values : List ℕ) (access : RowAccess)
+    → ReducesBy (bytes_in width) op at → row_access at values ≡ Some access → (word on : ℕ)
+    → reduces_by (operator_at width op) (action_on (deed_of access.request word) on) ≡ true
+reduce_acts width op (Reduce place by value) values access alike e word on =
+    subst (λ (a : RowAccess). reduces_by (operator_at width op) (action_on (deed_of a.request word) on) ≡ true)
     (same_access _ access e)
-    (ap (λ (o : SimpleOp). is_same (map_operator op) (map_operator o)) alike.1 ∙ map_same op)
-whole_acts op (Reduce mask W32 by address offset value) values access alike e word on =
-    absurd (let never : 4 ≡ 8 = alike.0 in omega (arith, never))
-whole_acts op _ values access alike e word on = absurd alike
-
-halves_act : (op : SimpleOp) (at : RowOp) (values : List ℕ) (access : RowAccess) → ReducesBy 4 op at
-    → row_access at values ≡ Some access → (word on : ℕ)
-    → reduces_by (half_operator op) (action_on (deed_of access.request word) on) ≡ true
-halves_act op (Reduce mask W64 by address offset value) values access alike e word on =
-    absurd (let never : 8 ≡ 4 = alike.0 in omega (arith, never))
-halves_act op (Reduce mask W32 by address offset value) values access alike e word on =
-    subst (λ (a : RowAccess). reduces_by (half_operator op) (action_on (deed_of a.request word) on) ≡ true)
-    (same_access _ access e)
-    (subst (λ (o : SimpleOp). reduces_by (half_operator o) (action_on (deed_of
-    (update_of (part_named W32 (byte_named (slice_index values address) offset)) by (slice_index values value)) word)
-    on)
-    ≡ true) alike.1
-    (half_acts (byte_named (slice_index values address) offset % 8 == 0) by (slice_index values value) word on))
-halves_act op _ values access alike e word on = absurd alike
+    (subst (λ (o : Op). reduces_by o (action_on (deed_of
+    (update_of (part_named place.width (byte_at values place)) by (slice_index values value)) word) on) ≡ true)
+    (ap (λ (w : Width). operator_at w by) (same_width place.width width alike.0) ∙ ap (operator_at width) alike.1)
+    (part_acts place.width (byte_at values place) by (slice_index values value) word on))
+reduce_acts width op _ values access alike e word on = absurd alike
 
 -- sites that reduce alike do so by the operator of the first
 pub alike_acts : (by at : RowOp) (values : List ℕ) (access : RowAccess) → ReduceAlike by at
     → row_access at values ≡ Some access → (word on : ℕ)
     → reduces_by (operator_of by) (action_on (deed_of access.request word) on) ≡ true
 unfolding operator_of
-alike_acts (Reduce mask W64 op address offset value) at values access alike e word on =
-    whole_acts op at values access alike e word on
-alike_acts (Reduce mask W32 op address offset value) at values access alike e word on =
-    halves_act op at values access alike e word on
+alike_acts (Reduce place op value) at values access alike e word on =
+    reduce_acts place.width op at values access alike e word on
 alike_acts _ at values access alike e word on = absurd alike
 
 -- what isn't an access has no effect
 pub no_effects : (op : RowOp) (values words : List ℕ) → is_access op ≡ false → row_effects op values words ≡ []
-no_effects (Load mask width extension address offset) values words h = absurd (cc)
-no_effects (Store mask width address offset value) values words h = absurd (cc)
-no_effects (Reduce mask width op address offset value) values words h = absurd (cc)
-no_effects (Fetch mask width op address offset value compare) values words h = absurd (cc)
+no_effects (Load place extension) values words h = absurd (cc)
+no_effects (Store place value) values words h = absurd (cc)
+no_effects (Reduce place op value) values words h = absurd (cc)
+no_effects (Fetch place op value compare) values words h = absurd (cc)
 no_effects _ values words h = refl
 
 by_site : (op : RowOp) (list sites : List RowOp) (values words : List ℕ) (b : Bool) → is_access op ≡ b

@@ -1,21 +1,22 @@
 -- Lanes that load no half that they left themselves.
 use Rattle.std.proofs.Common.{◌≡◌, ◌≢◌, ℕ, suc, ◌+◌, ◌*◌, ◌/◌, ◌%◌, ◌^◌, ◌<◌, Bool, true, false, ◌==◌, inl, inr}
 use Rattle.std.proofs.Common.{if◌then◌else◌, ◌⊎◌, List, [], ◌∷◌, ◌++◌, slice_index, refl, sym, ap, ◌∙◌, subst, arith}
-use Rattle.std.{specs.{Prelude.{slice_get, Some}, List.{AllByRecursion}}, proofs.lemmas.Bool.{cases_eq}}
+use Rattle.std.{specs.{Prelude.{slice_get, Option, Some, None}, List.{AllByRecursion}}, proofs.lemmas.Bool.{cases_eq}}
 use Rattle.array_maps.specs.declared.access.{Half.{Half, TheVariants.{Low, High}}, Op.TheVariants.{AddH}, Part.{Part}}
-use Rattle.array_maps.specs.{declared.access.Part.TheVariants.{Whole, Half as Of}, Accesses.{combined}, MapList.{AreWords}}
+use Rattle.array_maps.specs.{declared.access.Part.TheVariants.{Whole, Half as Of}, Accesses.{combined}}
+use Rattle.array_maps.specs.MapList.{AreWords}
 use Rattle.array_maps.specs.Halves.{half_of, halves_added, with_half}
 use Rattle.bpf_insn_types.specs.declared.insn.{SimpleOp.{SimpleOp}, Width.{Width, TheVariants.{W32, W64}}}
-use Rattle.bpf_step_model.specs.{Step.{store_of, update_of}, AreaWords.{byte_named, part_named}}
+use Rattle.bpf_step_model.specs.{Step.{Request, store_of, update_of}, AreaWords.{part_named}}
 use Rattle.loop_core_model.specs.Kinds.{kind_leaves}
 use Rattle.loop_core_model.specs.Effects.{Apply, Deed, Effect, deed_part, half_number, kind_of_deed}
 use Rattle.loop_core_model.specs.Effects.{words_after_effect}
 use Rattle.loop_core_model.proofs.Sparing.{FitsFor, Kept, Spares, alone_spares, at_place, fits_for, half_spares, keeps}
 use Rattle.loop_core_model.proofs.Sparing.{word_fits}
-use Rattle.row_list.specs.{declared.row_op.RowOp.{RowOp, TheVariants.{Load, Store, Reduce, Fetch}}, Rows.{row_effects}}
-use Rattle.row_list.specs.Rows.{RowAccess, deed_of, effects_by, is_in, row_access}
-use Rattle.row_list.specs.Agreement.{SeesBefore}
-use Rattle.row_facts.specs.{Sites.{sites_of}, SiteKinds.{HasSite}}
+use Rattle.row_list.specs.declared.row_op.{Place.{Place}, RowOp.{RowOp, TheVariants.{Load, Store, Reduce, Fetch}}}
+use Rattle.row_list.specs.Rows.{RowAccess, byte_at, deed_of, effects_by, is_in, row_access, row_effects}
+use Rattle.row_list.specs.{Places.{place_in}, Agreement.{SeesBefore}}
+use Rattle.row_facts.specs.{Sites.{sites_of}, SiteKinds.{HasSite, IsAddition}}
 use Rattle.row_facts.specs.Meetings.{IsHalfOf, Touches, leaves, loads}
 use Rattle.loop_inspector.proofs.Deeds.{HasEffect, by_sites, effect_of, effect_or_none, is_access_of, same_access}
 
@@ -127,7 +128,8 @@ named_half byte true is =
     none ∙ ap (λ (low : Bool). 2 * (byte / 8) + (if low then 0 else 1)) (sym is)
 named_half byte false is = ap (λ (low : Bool). 2 * (byte / 8) + (if low then 0 else 1)) (sym is)
 
-covers_half : (width : Width) (byte half : ℕ) → Covers (part_named width byte) (byte / 8) half → IsHalfOf width byte half
+covers_half : (width : Width) (byte half : ℕ) → Covers (part_named width byte) (byte / 8) half
+    → IsHalfOf width byte half
 covers_half W64 byte half covers = covers
 covers_half W32 byte half covers = go (byte % 8 == 0) refl covers
   where
@@ -136,11 +138,12 @@ covers_half W32 byte half covers = go (byte % 8 == 0) refl covers
     go true is covers = covers ∙ named_half byte true is
     go false is covers = covers ∙ named_half byte false is
 
-width_in : RowOp → Width
-width_in (Load mask width extension address offset) = width
-width_in (Store mask width address offset value) = width
-width_in (Reduce mask width op address offset value) = width
-width_in _ = W64
+abbrev width_of : Option Place → Width
+width_of (Some place) = place.width
+width_of None = W64
+
+abbrev width_in : RowOp → Width
+width_in op = width_of (place_in op)
 
 module _ (values words : List ℕ) where
   -- what a lane does at an access spares parts of which it touches no half
@@ -162,12 +165,12 @@ module _ (values words : List ℕ) where
         → Spares e part (at_byte byte (deed_of (store_of (if low then Of Low else Of High) number) word))
     store_half byte number word true is none =
         let deed = deed_of (store_of (Of Low) number) word in
-        one_half byte deed true is (λ other differ. half_spares (at_byte byte deed) (byte / 8) Low other differ refl refl)
-        none
+        one_half byte deed true is
+        (λ other differ. half_spares (at_byte byte deed) (byte / 8) Low other differ refl refl) none
     store_half byte number word false is none =
         let deed = deed_of (store_of (Of High) number) word in
-        one_half byte deed false is (λ other differ. half_spares (at_byte byte deed) (byte / 8) High other differ refl refl)
-        none
+        one_half byte deed false is
+        (λ other differ. half_spares (at_byte byte deed) (byte / 8) High other differ refl refl) none
 
     add_half : (byte number word : ℕ) (low : Bool) → (byte % 8 == 0) ≡ low → Untouched W32 byte
         → Spares e part (at_byte byte (deed_of (update_of (if low then Of Low else Of High) SimpleOp.Add number) word))
@@ -178,70 +181,50 @@ module _ (values words : List ℕ) where
         one_half byte (Apply AddH (with_half High 0 number)) false is
         (λ other differ. add_spares (byte / 8) High other number differ) none
 
+    -- a store or a reduction that leaves this
+    abbrev SparesAt : (byte : ℕ) → Request → Type 0
+    SparesAt byte request = Spares e part (at_byte byte (deed_of request (slice_index words (byte / 8))))
+
+    stored : (width : Width) (byte number : ℕ) → Untouched width byte
+        → SparesAt byte (store_of (part_named width byte) number)
+    stored W64 byte number =
+        whole_spares (at_byte byte (deed_of (store_of Whole number) (slice_index words (byte / 8)))) e part
+    stored W32 byte number = store_half byte number (slice_index words (byte / 8)) (byte % 8 == 0) refl
+
+    reduced : (width : Width) (op : SimpleOp) (byte number : ℕ) → IsAddition width op → Untouched width byte
+        → SparesAt byte (update_of (part_named width byte) op number)
+    reduced W64 op byte number has =
+        whole_spares (at_byte byte (deed_of (update_of Whole op number) (slice_index words (byte / 8)))) e part
+    reduced W32 SimpleOp.Add byte number has =
+        add_half byte number (slice_index words (byte / 8)) (byte % 8 == 0) refl
+    reduced W32 _ byte number has = absurd has
+
     abbrev SparedBy : RowOp → RowAccess → Type 0
     SparedBy op access = Untouched (width_in op) access.byte → Spares e part (effect_of access words)
 
     spared : (op : RowOp) (access : RowAccess) → row_access op values ≡ Some access → HasSite op → leaves op ≡ true
         → SparedBy op access
-    unfolding width_in
-    spared (Store mask W64 address offset value) access is has left =
-        let byte = byte_named (slice_index values address) offset in
-        subst (SparedBy (Store mask W64 address offset value)) (same_access _ access is)
-        (whole_spares (at_byte byte (deed_of (store_of Whole (slice_index values value)) (slice_index words (byte / 8)))) e
-        part)
-    spared (Store mask W32 address offset value) access is has left =
-        let byte = byte_named (slice_index values address) offset in
-        subst (SparedBy (Store mask W32 address offset value)) (same_access _ access is)
-        (store_half byte (slice_index values value) (slice_index words (byte / 8)) (byte % 8 == 0) refl)
-    spared (Reduce mask W64 op address offset value) access is has left =
-        let byte = byte_named (slice_index values address) offset in
-        subst (SparedBy (Reduce mask W64 op address offset value)) (same_access _ access is)
-        (whole_spares (at_byte byte (deed_of (update_of Whole op (slice_index values value)) (slice_index words
-        (byte / 8)))) e part)
-    spared (Reduce mask W32 SimpleOp.Add address offset value) access is has left =
-        let byte = byte_named (slice_index values address) offset in
-        subst (SparedBy (Reduce mask W32 SimpleOp.Add address offset value)) (same_access _ access is)
-        (add_half byte (slice_index values value) (slice_index words (byte / 8)) (byte % 8 == 0) refl)
-    spared (Reduce mask W32 SimpleOp.Or address offset value) access is has left = absurd has
-    spared (Reduce mask W32 SimpleOp.And address offset value) access is has left = absurd has
-    spared (Reduce mask W32 SimpleOp.Xor address offset value) access is has left = absurd has
-    spared (Fetch mask width op address offset value compare) access is has left = absurd has
+    spared (Store place value) access is has left =
+        subst (SparedBy (Store place value)) (same_access _ access is)
+        (stored place.width (byte_at values place) (slice_index values value))
+    spared (Reduce place op value) access is has left =
+        subst (SparedBy (Reduce place op value)) (same_access _ access is)
+        (reduced place.width op (byte_at values place) (slice_index values value) has)
+    spared (Fetch place op value compare) access is has left = absurd has
     spared _ access is has left = absurd (cc)
 
   -- an access touches its halves
-  abbrev TouchedBy : RowOp → (half : ℕ) → RowAccess → Type 0
-  TouchedBy op half access = is_in values access.mask ≡ true → IsHalfOf (width_in op) access.byte half
-      → Touches op values half
-
-  touched : (op : RowOp) (access : RowAccess) (half : ℕ) → row_access op values ≡ Some access → HasSite op
-      → TouchedBy op half access
-  unfolding width_in
-  touched (Load mask width extension address offset) access half is has =
-      subst (TouchedBy (Load mask width extension address offset) half) (same_access _ access is)
-      (λ there covers. record {
-        place = record { mask = mask; width = width; address = address; offset = offset };
-        is = refl;
-        there = there;
-        covers = covers;
-      })
-  touched (Store mask width address offset value) access half is has =
-      subst (TouchedBy (Store mask width address offset value) half) (same_access _ access is)
-      (λ there covers. record {
-        place = record { mask = mask; width = width; address = address; offset = offset };
-        is = refl;
-        there = there;
-        covers = covers;
-      })
-  touched (Reduce mask width op address offset value) access half is has =
-      subst (TouchedBy (Reduce mask width op address offset value) half) (same_access _ access is)
-      (λ there covers. record {
-        place = record { mask = mask; width = width; address = address; offset = offset };
-        is = refl;
-        there = there;
-        covers = covers;
-      })
-  touched (Fetch mask width op address offset value compare) access half is has = absurd has
-  touched _ access half is has = absurd (cc)
+  touched : (op : RowOp) (access : RowAccess) (half : ℕ) → row_access op values ≡ Some access
+      → is_in values access.mask ≡ true → IsHalfOf (width_in op) access.byte half → Touches op values half
+  touched op access half is there covers =
+      let one = is_access_of op values access is in
+      record {
+        place = one.place;
+        is = one.is;
+        there = ap (is_in values) one.mask ∙ there;
+        covers = subst (λ (width : Width). IsHalfOf width (byte_at values one.place) half) (ap width_of one.is)
+            (subst (λ (byte : ℕ). IsHalfOf (width_in op) byte half) (sym one.byte) covers);
+      }
 
   -- what is loaded is of the width of the access
   abbrev part_at : RowAccess → Part
@@ -252,20 +235,18 @@ module _ (values words : List ℕ) where
 
   loads_part : (op : RowOp) (access : RowAccess) (half : ℕ) → row_access op values ≡ Some access → HasSite op
       → loads op ≡ true → LoadsPart op half access
-  unfolding width_in
-  loads_part (Load mask width extension address offset) access half is has loaded =
-      subst (LoadsPart (Load mask width extension address offset) half) (same_access _ access is)
-      (covers_half width (byte_named (slice_index values address) offset) half)
-  loads_part (Fetch mask width op address offset value compare) access half is has loaded = absurd has
+  loads_part (Load place extension) access half is has loaded =
+      subst (LoadsPart (Load place extension) half) (same_access _ access is)
+      (covers_half place.width (byte_at values place) half)
+  loads_part (Fetch place op value compare) access half is has loaded = absurd has
   loads_part _ access half is has loaded = absurd (cc)
 
   -- what leaves nothing keeps all words
   keeps_all : (op : RowOp) (access : RowAccess) → row_access op values ≡ Some access → HasSite op → leaves op ≡ false
       → kind_leaves (kind_of_deed (effect_of access words).deed) ≡ false
-  keeps_all (Load mask width extension address offset) access is has none =
-      subst (λ (a : RowAccess). kind_leaves (kind_of_deed (effect_of a words).deed) ≡ false) (same_access _ access is) refl
-  keeps_all (Store mask width address offset value) access is has none = absurd (cc)
-  keeps_all (Reduce mask width op address offset value) access is has none = absurd (cc)
+  keeps_all (Load place extension) access is has none =
+      subst (λ (a : RowAccess). kind_leaves (kind_of_deed (effect_of a words).deed) ≡ false) (same_access _ access is)
+      refl
   keeps_all _ access is has none = absurd (cc)
 
   -- a lane's load sees what was there before
@@ -289,14 +270,14 @@ module _ (values words : List ℕ) where
         let kept = before.sees there loaded in
         let on = spared (there.access.byte / 8) (part_at there.access) by has.access has.is site is
         (λ half covers touches. apart.never half is loaded
-        (touched at there.access half there.is before.site there.there
+        (touched at there.access half there.is there.there
         (loads_part at there.access half there.is before.site loaded covers))
-        (touched by has.access half has.is site has.there touches)) now kept.1 in
+        (touched by has.access half has.is has.there touches)) now kept.1 in
         (on.0 ∙ kept.0, on.1);
   }
   sees_after now by at has site apart false is before =
-      subst (λ (w : List ℕ). SeesAt w at) (sym (keeps (effect_of has.access words) (keeps_all by has.access has.is site is)
-      now)) before
+      subst (λ (w : List ℕ). SeesAt w at)
+      (sym (keeps (effect_of has.access words) (keeps_all by has.access has.is site is) now)) before
 
   all_after : (now : List ℕ) (by : RowOp) (sites : List RowOp) (has : HasEffect by values words) → HasSite by
       → AllByRecursion (IsApart by) sites → AllByRecursion (SeesAt now) sites
@@ -354,7 +335,7 @@ module _ (values words : List ℕ) where
   all_apart [] own = tt
   all_apart (by ∷ sites) own = (
     by_number (IsApart by) sites (λ k at there. record {
-      never = λ half left loaded touch touched. own (suc k) 0 at by half (omega arith) there refl loaded left touch touched;
+      never = λ half left loaded touch other. own (suc k) 0 at by half (omega arith) there refl loaded left touch other;
     }),
     all_apart sites (λ first second at o half before here there. own (suc first) (suc second) at o half
         (omega (arith, before)) here there),

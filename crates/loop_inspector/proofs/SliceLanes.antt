@@ -1,7 +1,7 @@
 -- The lanes of a slice are those of its list.
 use Rattle.std.proofs.Common.{◌≡◌, ℕ, suc, ◌/◌, ◌^◌, ◌<◌, Bool, true, false, ◌==◌, ◌⊎◌, inl, inr, List, [], ◌∷◌, ◌++◌}
 use Rattle.std.proofs.Common.{arith, length, map, get_or, slice_index, refl, sym, ap, ap₂, ◌∙◌, subst}
-use Rattle.std.specs.Prelude.{ℤ, slice_get, Option, Some, None}
+use Rattle.std.specs.Prelude.{slice_get, Option, Some, None}
 use Rattle.std.proofs.lemmas.{Option.{slice_get_within, slice_get-get_or}, List.{map-append}}
 use Rattle.array_maps.specs.{MapList.{AreWords}, Accesses.{Access, Action, actions_at, words_after_all}}
 use Rattle.array_maps.specs.declared.access.Part.{Part, TheVariants.{Whole, Half as Of}}
@@ -10,13 +10,14 @@ use Rattle.bpf_step_model.specs.Step.{Request, store_of, update_of}
 use Rattle.bpf_step_model.specs.AreaWords.{byte_named, part_named}
 use Rattle.loop_core_model.specs.{declared.access.Access.{Access as Kind}, Effects.{Effect, accesses_on, kind_of_deed}}
 use Rattle.loop_core_model.proofs.Turns.{actions_at-append}
-use Rattle.row_list.specs.declared.row_op.RowOp.{RowOp, TheVariants.{Number, Store, Reduce}}
-use Rattle.row_list.specs.Rows.{AreValues, IsRowValue, row_effects, effects_by, effects_if, deed_of, is_in}
+use Rattle.row_list.specs.declared.row_op.{Place.{Place}, RowOp.{RowOp, TheVariants.{Number, Store, Reduce}}}
+use Rattle.row_list.specs.Rows.{AreValues, IsRowValue, byte_at, row_effects, effects_by, effects_if, deed_of, is_in}
 use Rattle.row_list.proofs.EffectLaws.{accesses_both}
-use Rattle.row_facts.specs.{declared.site.Site.{Site}, Sites.{is_access}, Elements.{Touches}, Ordered.{IsOrdered}}
+use Rattle.row_list.specs.Places.{is_access, taken_by}
+use Rattle.row_facts.specs.{declared.site.Site.{Site}, Elements.{Touches}, Ordered.{IsOrdered}}
 use Rattle.loop_marks.{specs.Touches.{Touch, touch_by, touch_of, touches_of}, proofs.VisitLaws.{touches_on}}
 use Rattle.loop_inspector.specs.{declared.reach.Span.{Span}, Reach.{Misses}, Open.{IsInSome}}
-use Rattle.loop_inspector.specs.Slices.{taken_by, with_number, IsNeeded, IsChangeAt, IsClosed, IsCut, AreCuts}
+use Rattle.loop_inspector.specs.Slices.{with_number, IsNeeded, IsChangeAt, IsClosed, IsCut, AreCuts}
 use Rattle.loop_inspector.proofs.{FrameNumbers.{AreBytes}, SameLanes.{all_by, same_value, same_effects}}
 use Rattle.loop_inspector.proofs.Values.{values_with, are_values_with, same_given}
 use Rattle.loop_inspector.proofs.Deeds.{HasEffect, effect_of, effect_or_none, touches_here, no_effects, with_first}
@@ -117,29 +118,28 @@ touches_at op values words = map touch_by (row_effects op values words)
 
 module _ (needed : List Bool) (words values cut_values : List ℕ)
     (same : (k : ℕ) → IsNeeded needed k → slice_index values k ≡ slice_index cut_values k) where
-  change_at : (mask address number value : ℕ) (offset : ℤ) (request : (byte n : ℕ) → Request)
-      → IsNeeded needed mask × IsNeeded needed address
-      → ((byte n m : ℕ) → SameKind (request byte n) (request byte m))
-      → touched (is_in cut_values mask) mask (byte_named (slice_index cut_values address) offset)
-      (request (byte_named (slice_index cut_values address) offset) (slice_index cut_values number)) words
-      ≡ touched (is_in values mask) mask (byte_named (slice_index values address) offset)
-      (request (byte_named (slice_index values address) offset) (slice_index values value)) words
-  change_at mask address number value offset request needs alike =
-      let byte = byte_named (slice_index values address) offset in
+  change_at : (place : Place) (number value : ℕ) (request : Part → ℕ → Request)
+      → IsNeeded needed place.mask × IsNeeded needed place.address
+      → ((part : Part) (n m : ℕ) → SameKind (request part n) (request part m))
+      → touched (is_in cut_values place.mask) place.mask (byte_at cut_values place)
+      (request (part_named place.width (byte_at cut_values place)) (slice_index cut_values number)) words
+      ≡ touched (is_in values place.mask) place.mask (byte_at values place)
+      (request (part_named place.width (byte_at values place)) (slice_index values value)) words
+  change_at place number value request needs alike =
+      let byte = byte_at values place in
+      let part = part_named place.width byte in
       let n = slice_index cut_values number in
-      sym (ap₂ (λ (m a : ℕ). touched (m == 1) mask (byte_named a offset) (request (byte_named a offset) n) words)
-      (same mask needs.0) (same address needs.1))
-      ∙ touch_alike (is_in values mask) mask byte (request byte n) (request byte (slice_index values value)) words
-      (alike byte n (slice_index values value))
+      let m = slice_index values value in
+      let named : ℕ → ℕ = λ address. byte_named address place.offset in
+      sym (ap₂ (λ (i a : ℕ). touched (i == 1) place.mask (named a) (request (part_named place.width (named a)) n) words)
+      (same place.mask needs.0) (same place.address needs.1))
+      ∙ touch_alike (is_in values place.mask) place.mask byte (request part n) (request part m) words (alike part n m)
 
   change_touches : (op : RowOp) (number : ℕ) → IsChangeAt needed op
       → touches_at (with_number op number) cut_values words ≡ touches_at op values words
-  change_touches (Store mask width address offset value) number needs =
-      change_at mask address number value offset (λ byte n. store_of (part_named width byte) n) needs
-      (λ byte n m. stores_alike (part_named width byte) n m)
-  change_touches (Reduce mask width op address offset value) number needs =
-      change_at mask address number value offset (λ byte n. update_of (part_named width byte) op n) needs
-      (λ byte n m. updates_alike (part_named width byte) op n m)
+  change_touches (Store place value) number needs = change_at place number value store_of needs stores_alike
+  change_touches (Reduce place op value) number needs =
+      change_at place number value (λ part n. update_of part op n) needs (λ part n m. updates_alike part op n m)
   change_touches _ number needs = absurd needs
 
 -- accesses that touch this, and are all those of effects at open elements

@@ -7,20 +7,20 @@ use Rattle.std.proofs.lemmas.Bool.{cases_lt, Decides.{nat_tests}}
 use Rattle.std.proofs.lemmas.List.{get_or_append_left, get_or-append_right, get_or-drop, length-append}
 use Rattle.array_maps.specs.{MapList.{AreWords}, declared.access.{Half.TheVariants.{Low, High}, Part.{Part}}}
 use Rattle.array_maps.specs.{declared.access.Part.TheVariants.{Whole, Half as Of}, Halves.{half_of, part_of}}
-use Rattle.bpf_insn_types.specs.declared.insn.AtomicOp.{AtomicOp, TheVariants.{Simple, Fetch as FetchOp, Xchg, Cmpxchg}}
+use Rattle.bpf_insn_types.specs.declared.insn.AtomicOp.{AtomicOp, TheVariants.{Simple}}
 use Rattle.bpf_insn_types.specs.declared.{insn.SimpleOp.{SimpleOp}, extension.Extension.{Extension}}
 use Rattle.bpf_insn_types.specs.{declared.extension.Extension.TheVariants.{Zeros, Signs}, WordBounds.{ResultsFit}}
 use Rattle.bpf_insn_types.{specs.Words.{holds}, proofs.WordLaws.{modulus-most}}
 use Rattle.bpf_step_model.specs.{Step.{store_of, update_of, request_of, extended}, Run.{part_bytes}}
-use Rattle.bpf_step_model.specs.AreaWords.{byte_named, part_named, looked_up_word, area_word}
+use Rattle.bpf_step_model.specs.AreaWords.{part_named, looked_up_word, area_word}
 use Rattle.loop_core_model.proofs.Sparing.{word_fits}
-use Rattle.row_list.specs.declared.row_op.RowOp.{RowOp}
+use Rattle.row_list.specs.{declared.row_op.RowOp.{RowOp}, Places.{taken_by}}
 use Rattle.row_list.specs.declared.row_op.RowOp.TheVariants.{All, Number, Caller, Index, Alu, Neg, Movsx, Endian, Found}
 use Rattle.row_list.specs.declared.row_op.RowOp.TheVariants.{Holds, Without, Either, Choice, Load, Store, Reduce, Fetch}
 use Rattle.row_list.specs.Rows.{RowAccess, bit, is_in, returned, row_value, row_access, IsReturned, IsRowValue}
-use Rattle.row_list.specs.Rows.{AreValues}
+use Rattle.row_list.specs.Rows.{AreValues, byte_at}
 use Rattle.row_facts.specs.Ordered.{TakesBelow, IsOrdered}
-use Rattle.loop_inspector.{specs.Slices.{taken_by}, proofs.FrameNumbers.{AreBytes, frame_number}}
+use Rattle.loop_inspector.proofs.FrameNumbers.{AreBytes, frame_number}
 use Rattle.loop_inspector.proofs.SameLanes.{Lane, same_lane, takes_below, all_by}
 
 -- what an access returns, or a value
@@ -83,9 +83,7 @@ updated_small (Of half) op n word = omega arith
 fetched_small : (part : Part) (op : AtomicOp) (n m word : ℕ) → word < 2 ^ 64
     → returned (request_of part op 0 n m) word < 2 ^ 64
 fetched_small part (Simple op) n m word h = updated_small part op n word
-fetched_small part (FetchOp op) n m word h = part_small part word h
-fetched_small part Xchg n m word h = part_small part word h
-fetched_small part Cmpxchg n m word h = part_small part word h
+fetched_small part _ n m word h = part_small part word h
 
 -- a list with one value more
 pushed : (before : List ℕ) (more : ℕ) → length (before ++ more ∷ []) ≡ length before + 1
@@ -147,20 +145,20 @@ module _ (fits : ResultsFit) (index : ℕ) (caller words : List ℕ) where
   made_small bytes fit low k (Choice mask first second) values below small =
       chosen_small (is_in values mask) (slice_index values first) (slice_index values second) (small first) (small
       second)
-  made_small bytes fit low k (Load mask width extension address offset) values below small =
-      loaded_small (part_named width (byte_named (slice_index values address) offset)) extension
-      (slice_index words (byte_named (slice_index values address) offset / 8))
-      (word_fits words (byte_named (slice_index values address) offset / 8) fit)
-  made_small bytes fit low k (Store mask width address offset value) values below small =
-      stored_small (part_named width (byte_named (slice_index values address) offset)) (slice_index values value)
-      (slice_index words (byte_named (slice_index values address) offset / 8))
-  made_small bytes fit low k (Reduce mask width op address offset value) values below small =
-      updated_small (part_named width (byte_named (slice_index values address) offset)) op (slice_index values value)
-      (slice_index words (byte_named (slice_index values address) offset / 8))
-  made_small bytes fit low k (Fetch mask width op address offset value compare) values below small =
-      fetched_small (part_named width (byte_named (slice_index values address) offset)) op (slice_index values value)
-      (slice_index values compare) (slice_index words (byte_named (slice_index values address) offset / 8))
-      (word_fits words (byte_named (slice_index values address) offset / 8) fit)
+  made_small bytes fit low k (Load place extension) values below small =
+      let byte = byte_at values place in
+      loaded_small (part_named place.width byte) extension (slice_index words (byte / 8))
+      (word_fits words (byte / 8) fit)
+  made_small bytes fit low k (Store place value) values below small =
+      let byte = byte_at values place in
+      stored_small (part_named place.width byte) (slice_index values value) (slice_index words (byte / 8))
+  made_small bytes fit low k (Reduce place op value) values below small =
+      let byte = byte_at values place in
+      updated_small (part_named place.width byte) op (slice_index values value) (slice_index words (byte / 8))
+  made_small bytes fit low k (Fetch place op value compare) values below small =
+      let byte = byte_at values place in
+      fetched_small (part_named place.width byte) op (slice_index values value) (slice_index values compare)
+      (slice_index words (byte / 8)) (word_fits words (byte / 8) fit)
 
   -- values of a list, after others, where some are given
   module _ (given : ℕ → Bool) (others : List ℕ) where

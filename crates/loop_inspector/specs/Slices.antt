@@ -1,32 +1,11 @@
 -- Slices of lists: what says where iterations access open elements, and what they return.
-use Rattle.std.specs.Prelude.{◌≡◌, ℕ, ◌⊎◌, Bool, true, List, [], ◌∷◌, Some, length, slice_get}
+use Rattle.std.specs.Prelude.{◌≡◌, ℕ, ◌⊎◌, Bool, true, List, Some, length, slice_get}
 use Rattle.std.specs.List.{AllByRecursion}
-use Rattle.row_list.specs.declared.row_op.RowOp.{RowOp}
-use Rattle.row_list.specs.declared.row_op.RowOp.TheVariants.{All, Number, Caller, Index, Alu, Neg, Movsx, Endian, Found}
-use Rattle.row_list.specs.declared.row_op.RowOp.TheVariants.{Holds, Without, Either, Choice, Load, Store, Reduce, Fetch}
-use Rattle.row_facts.specs.{declared.site.Site.{Site}, Sites.{is_access}, Lists.{AreListSites}}
+use Rattle.row_list.specs.declared.row_op.RowOp.{RowOp, TheVariants.{Number, Store, Reduce}}
+use Rattle.row_list.specs.Places.{is_access, taken_by}
+use Rattle.row_facts.specs.{declared.site.Site.{Site}, Lists.{AreListSites}}
 use Rattle.loop_inspector.specs.declared.{reach.Span.{Span}, slice.Slice.{Slice}}
 use Rattle.loop_inspector.specs.{Reach.{Misses}, Open.{IsInSome}}
-
--- the values that an operation takes
-abbrev pub taken_by : RowOp → List ℕ
-taken_by All = []
-taken_by (Number n) = []
-taken_by (Caller size extension position) = []
-taken_by Index = []
-taken_by (Alu width op first second) = first ∷ second ∷ []
-taken_by (Neg width value) = value ∷ []
-taken_by (Movsx width bits value) = value ∷ []
-taken_by (Endian order bits value) = value ∷ []
-taken_by (Found first count key) = key ∷ []
-taken_by (Holds mask width compare first second) = mask ∷ first ∷ second ∷ []
-taken_by (Without mask other) = mask ∷ other ∷ []
-taken_by (Either first second) = first ∷ second ∷ []
-taken_by (Choice mask first second) = mask ∷ first ∷ second ∷ []
-taken_by (Load mask width extension address offset) = mask ∷ address ∷ []
-taken_by (Store mask width address offset value) = mask ∷ address ∷ value ∷ []
-taken_by (Reduce mask width op address offset value) = mask ∷ address ∷ value ∷ []
-taken_by (Fetch mask width op address offset value compare) = mask ∷ address ∷ value ∷ compare ∷ []
 
 -- a value is needed
 abbrev pub IsNeeded : List Bool → (k : ℕ) → Type 0
@@ -34,14 +13,14 @@ IsNeeded needed k = slice_get needed k ≡ Some true
 
 -- a store or a reduction of another number at the same place
 abbrev pub with_number : RowOp → (number : ℕ) → RowOp
-with_number (Store mask width address offset value) number = Store mask width address offset number
-with_number (Reduce mask width op address offset value) number = Reduce mask width op address offset number
+with_number (Store place value) number = Store place number
+with_number (Reduce place op value) number = Reduce place op number
 with_number op number = op
 
 -- an operation is a store or a reduction, and what says where it is made is needed
 abbrev pub IsChangeAt : List Bool → RowOp → Type 0
-IsChangeAt needed (Store mask width address offset value) = IsNeeded needed mask × IsNeeded needed address
-IsChangeAt needed (Reduce mask width op address offset value) = IsNeeded needed mask × IsNeeded needed address
+IsChangeAt needed (Store place value) = IsNeeded needed place.mask × IsNeeded needed place.address
+IsChangeAt needed (Reduce place op value) = IsNeeded needed place.mask × IsNeeded needed place.address
 IsChangeAt needed op = ⊥
 
 -- no byte of a site is of an open element

@@ -1,16 +1,11 @@
 -- The sites of a list, one more at a time.
-use Rattle.std.proofs.Common.{◌≡◌, ◌∙◌, ℕ, ◌+◌, ◌<◌, List, [], ◌∷◌, ◌++◌, true, false, length, get_or, take, refl, sym}
+use Rattle.std.proofs.Common.{◌≡◌, ◌∙◌, ℕ, ◌+◌, ◌<◌, List, [], ◌∷◌, ◌++◌, true, false, length, get_or, take, sym}
 use Rattle.std.{proofs.Common.{ap, subst}, specs.{Prelude.{drop, slice_index_or}, List.{AllZip, filter}}}
 use Rattle.std.proofs.lemmas.List.{append-nil, take_more, Elements.{filter-append}}
 use Rattle.lane_stamps.specs.{declared.site.Site.{Site}, Sites.{ranked_as, unranked}}
 use Rattle.row_list.specs.declared.row_op.RowOp.{RowOp, TheVariants.{All}}
-use Rattle.row_facts.specs.{Sites.{is_access, sites_of}, SiteKinds.{AreListed, IsKindOf}}
-
-filter_one : (op : RowOp) → is_access op ≡ true → filter is_access (op ∷ []) ≡ op ∷ []
-filter_one op e = rw e refl
-
-filter_none : (op : RowOp) → is_access op ≡ false → filter is_access (op ∷ []) ≡ []
-filter_none op e = rw e refl
+use Rattle.row_list.specs.Places.{is_access}
+use Rattle.row_facts.{specs.{Sites.{sites_of}, SiteKinds.{AreListed, IsKindOf}}, proofs.SiteLaws.{filter_none, filter_one}}
 
 zip_more : (ops : List RowOp) (sites : List Site) (op : RowOp) (site : Site) → AllZip IsKindOf ops sites → IsKindOf op site
     → AllZip IsKindOf (ops ++ op ∷ []) (sites ++ site ∷ [])

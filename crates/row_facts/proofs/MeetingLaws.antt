@@ -2,10 +2,10 @@
 use Rattle.std.proofs.Common.{◌≡◌, ℕ, ◌+◌, ◌^◌, ◌<◌, ◌≤◌, inl, inr, List, [], ◌∷◌, ◌++◌, length, true, sym, ap, subst}
 use Rattle.std.{proofs.{Common.{arith, ◌∙◌}, lemmas.Option.{slice_get_within}}, specs.Prelude.{slice_get, Some}}
 use Rattle.std.proofs.lemmas.{List.Elements.{Contains-append_left, Contains-push}, Bool.{cases_lt}}
-use Rattle.row_list.specs.{declared.row_op.RowOp.{RowOp}, Rows.{AreValues, is_in}}
-use Rattle.row_facts.specs.declared.{site.{Place.{Place}, Site.{Site}}, fact.Fact.{Fact}, meeting.Meeting.{Meeting}}
+use Rattle.row_list.specs.{declared.row_op.{Place.{Place}, RowOp.{RowOp}}, Rows.{AreValues, byte_at, is_in}}
+use Rattle.row_facts.specs.declared.{site.Site.{Site}, fact.Fact.{Fact}, meeting.Meeting.{Meeting}}
 use Rattle.row_facts.specs.{Apart.{IsAmong, AreBytesApart}, Facts.{IsSure, AreFacts}}
-use Rattle.row_facts.{specs.Sites.{IsSite, AreSites, bytes_in, byte_at}, proofs.SiteLaws.{known, some-same}}
+use Rattle.row_facts.{specs.Sites.{IsSite, AreSites, bytes_in}, proofs.SiteLaws.{known, some-same}}
 use Rattle.row_facts.specs.Meetings.{IsHalfOf, Touches, AreApart, IsListed, NeverMeet, AreMeetings, AreKept, AreDone}
 
 -- the byte that a lane names at a site, and the half that it touches

@@ -3,37 +3,38 @@ use Rattle.std.proofs.Common.{◌≡◌, ◌∙◌, ℕ, List, [], ◌∷◌, �
 use Rattle.std.specs.{Prelude.{slice_get, Option, Some, None, option_map}, List.{filter}}
 use Rattle.std.proofs.lemmas.List.{map-append, append-nil, Elements.{filter-append, All-push, All-nil}}
 use Rattle.std.proofs.lemmas.Option.{slice_get-map, slice_get_within, get_or_from_slice_get}
-use Rattle.row_list.specs.declared.row_op.RowOp.{RowOp, TheVariants.{Load, Store, Reduce, Fetch}}
-use Rattle.row_facts.specs.declared.{site.{Place.{Place}, Site.{Site}}, fact.Fact.{Fact}}
-use Rattle.row_facts.specs.Sites.{place_in, is_access, sites_of, IsSite, IsSiteOf, AreSites}
+use Rattle.row_list.specs.declared.row_op.{Place.{Place}, RowOp.{RowOp, TheVariants.{Load, Store, Reduce, Fetch}}}
+use Rattle.row_list.specs.Places.{place_in, is_access}
+use Rattle.row_facts.specs.declared.{site.Site.{Site}, fact.Fact.{Fact}}
+use Rattle.row_facts.specs.Sites.{sites_of, IsSite, IsSiteOf, AreSites}
 
 pub some-same : {X : Type 0} (x y : X) → Some x ≡ Some y → x ≡ y
 some-same x y e = cc
 
 -- what has a place is an access, and nothing else
 pub has-place : (op : RowOp) (place : Place) → place_in op ≡ Some place → is_access op ≡ true
-has-place (Load mask width extension address offset) place e = refl
-has-place (Store mask width address offset value) place e = refl
-has-place (Reduce mask width op address offset value) place e = refl
-has-place (Fetch mask width op address offset value compare) place e = refl
+has-place (Load at extension) place e = refl
+has-place (Store at value) place e = refl
+has-place (Reduce at op value) place e = refl
+has-place (Fetch at op value compare) place e = refl
 has-place _ place e = absurd (cc)
 
 pub no-place : (op : RowOp) → place_in op ≡ None → is_access op ≡ false
-no-place (Load mask width extension address offset) e = absurd (cc)
-no-place (Store mask width address offset value) e = absurd (cc)
-no-place (Reduce mask width op address offset value) e = absurd (cc)
-no-place (Fetch mask width op address offset value compare) e = absurd (cc)
+no-place (Load at extension) e = absurd (cc)
+no-place (Store at value) e = absurd (cc)
+no-place (Reduce at op value) e = absurd (cc)
+no-place (Fetch at op value compare) e = absurd (cc)
 no-place _ e = refl
 
 -- no site
 pub no-sites : (list : List RowOp) (facts : List Fact) → AreSites list facts [] []
 no-sites list facts = record { same = refl; each = All-nil (IsSite list facts) }
 
-filter-one : (op : RowOp) → is_access op ≡ true → filter is_access (op ∷ []) ≡ op ∷ []
-filter-one op e = rw e refl
+pub filter_one : (op : RowOp) → is_access op ≡ true → filter is_access (op ∷ []) ≡ op ∷ []
+filter_one op e = rw e refl
 
-filter-none : (op : RowOp) → is_access op ≡ false → filter is_access (op ∷ []) ≡ []
-filter-none op e = rw e refl
+pub filter_none : (op : RowOp) → is_access op ≡ false → filter is_access (op ∷ []) ≡ []
+filter_none op e = rw e refl
 
 -- one more
 pub more-sites : (list : List RowOp) (facts : List Fact) (ops : List RowOp) (sites : List Site) (op : RowOp) (site :
@@ -44,7 +45,7 @@ more-sites list facts ops sites op site are is new = record {
   same = map-append (λ (s : Site). s.op) sites (site ∷ [])
       ∙ ap (λ (xs : List RowOp). xs ++ site.op ∷ []) are.same
       ∙ ap (λ (o : RowOp). sites_of ops ++ o ∷ []) new.same
-      ∙ ap (λ (xs : List RowOp). sites_of ops ++ xs) (sym (filter-one op is))
+      ∙ ap (λ (xs : List RowOp). sites_of ops ++ xs) (sym (filter_one op is))
       ∙ sym (filter-append is_access ops (op ∷ []));
   each = All-push (IsSite list facts) sites site are.each new.is;
 }
@@ -53,7 +54,7 @@ more-sites list facts ops sites op site are is new = record {
 pub same-sites : (list : List RowOp) (facts : List Fact) (ops : List RowOp) (sites : List Site) (op : RowOp) →
     AreSites list facts ops sites → is_access op ≡ false → AreSites list facts (ops ++ op ∷ []) sites
 same-sites list facts ops sites op are is = record {
-  same = are.same ∙ sym (append-nil (sites_of ops)) ∙ ap (λ (xs : List RowOp). sites_of ops ++ xs) (sym (filter-none
+  same = are.same ∙ sym (append-nil (sites_of ops)) ∙ ap (λ (xs : List RowOp). sites_of ops ++ xs) (sym (filter_none
       op is))
       ∙ sym (filter-append is_access ops (op ∷ []));
   each = are.each;

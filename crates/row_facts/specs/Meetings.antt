@@ -2,31 +2,31 @@
 use Rattle.std.specs.Prelude.{◌≡◌, ℕ, ◌+◌, ◌*◌, ◌/◌, ◌%◌, ◌^◌, ◌<◌, ◌≤◌, ◌==◌, ◌⊎◌, if◌then◌else◌, Bool, true, false}
 use Rattle.std.specs.{Prelude.{List, slice_get, Some}, List.{Contains}}
 use Rattle.bpf_insn_types.specs.declared.insn.{SimpleOp.{SimpleOp}, Width.{Width, TheVariants.{W32, W64}}}
-use Rattle.row_list.specs.declared.row_op.RowOp.{RowOp, TheVariants.{Load, Store, Reduce, Fetch}}
-use Rattle.row_list.specs.Rows.{AreValues, is_in}
-use Rattle.row_facts.specs.declared.{fact.Fact.{Fact}, site.{Place.{Place}, Site.{Site}}, meeting.Meeting.{Meeting}}
-use Rattle.row_facts.specs.{Facts.{AreFacts}, Sites.{place_in, sites_of, byte_at, bytes_in, IsSite}}
+use Rattle.row_list.specs.declared.row_op.{Place.{Place}, RowOp.{RowOp, TheVariants.{Load, Store, Reduce, Fetch}}}
+use Rattle.row_list.specs.{Places.{place_in}, Rows.{AreValues, byte_at, is_in}}
+use Rattle.row_facts.specs.declared.{fact.Fact.{Fact}, site.Site.{Site}, meeting.Meeting.{Meeting}}
+use Rattle.row_facts.specs.{Facts.{AreFacts}, Sites.{sites_of, bytes_in, IsSite}}
 
 -- lanes go on with what they find there
 abbrev pub loads : RowOp → Bool
-loads (Load mask width extension address offset) = true
-loads (Fetch mask width op address offset value compare) = true
+loads (Load place extension) = true
+loads (Fetch place op value compare) = true
 loads _ = false
 
 -- they leave something there
 abbrev pub leaves : RowOp → Bool
-leaves (Store mask width address offset value) = true
-leaves (Reduce mask width op address offset value) = true
-leaves (Fetch mask width op address offset value compare) = true
+leaves (Store place value) = true
+leaves (Reduce place op value) = true
+leaves (Fetch place op value compare) = true
 leaves _ = false
 
 -- both reduce, by one operator at one width
 abbrev pub ReducesBy : (bytes : ℕ) (operator : SimpleOp) → RowOp → Type 0
-ReducesBy bytes operator (Reduce mask width op address offset value) = (bytes_in width ≡ bytes) × (op ≡ operator)
+ReducesBy bytes operator (Reduce place op value) = (bytes_in place.width ≡ bytes) × (op ≡ operator)
 ReducesBy bytes operator _ = ⊥
 
 abbrev pub ReduceAlike : RowOp → RowOp → Type 0
-ReduceAlike (Reduce mask width op address offset value) second = ReducesBy (bytes_in width) op second
+ReduceAlike (Reduce place op value) second = ReducesBy (bytes_in place.width) op second
 ReduceAlike _ second = ⊥
 
 -- a half of a map, counted over all maps, is one of those that an access at a byte is of: both of the element in which

@@ -19,11 +19,11 @@ TakesBelow k (Holds mask width compare first second) = (mask < k) × (first < k)
 TakesBelow k (Without mask other) = (mask < k) × (other < k)
 TakesBelow k (Either first second) = (first < k) × (second < k)
 TakesBelow k (Choice mask first second) = (mask < k) × (first < k) × (second < k)
-TakesBelow k (Load mask width extension address offset) = (mask < k) × (address < k)
-TakesBelow k (Store mask width address offset value) = (mask < k) × (address < k) × (value < k)
-TakesBelow k (Reduce mask width op address offset value) = (mask < k) × (address < k) × (value < k)
-TakesBelow k (Fetch mask width op address offset value compare) =
-    (mask < k) × (address < k) × (value < k) × (compare < k)
+TakesBelow k (Load place extension) = (place.mask < k) × (place.address < k)
+TakesBelow k (Store place value) = (place.mask < k) × (place.address < k) × (value < k)
+TakesBelow k (Reduce place op value) = (place.mask < k) × (place.address < k) × (value < k)
+TakesBelow k (Fetch place op value compare) =
+    (place.mask < k) × (place.address < k) × (value < k) × (compare < k)
 
 -- so of each operation, and its own position
 pub record IsOrdered (list : List RowOp) : Type 0 where

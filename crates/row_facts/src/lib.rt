@@ -30,5 +30,5 @@ pub use listing::list_sites;
 pub use meeting::{Meeting, leaves, loads, meetings, reads, reduce_alike};
 pub use narrowing::is_narrower;
 pub use ordering::is_ordered;
-pub use site::{Place, Site, sites};
+pub use site::{Site, sites};
 pub use transfer::facts;

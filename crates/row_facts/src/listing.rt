@@ -5,13 +5,13 @@ ghost use Rattle.lane_stamps.specs.Stamps.{AreRanked};
 ghost use Rattle.row_facts.specs.{Meetings.{AreMeetings}, Lists.{AreListSites}, SiteKinds.{AreListed, IsKindOf}};
 ghost use Rattle.row_list.specs.declared.row_op.RowOp.{RowOp};
 
-use crate::kinds::{is_access, kind_of};
+use crate::kinds::kind_of;
 use crate::listed::ListSites;
 use crate::marking::{are_marked, mark_meetings, mark_uneven};
-use crate::numbering::{number_of, place_of};
+use crate::numbering::number_of;
 use crate::{Meeting, meetings};
 use lane_stamps::{MOST_SITES, Site, rank_sites};
-use row_list::{RowList, RowOp};
+use row_list::{Place, RowList, RowOp};
 use std::alloc::{AllocError, Global};
 
 /// The number of a value's row.
@@ -31,8 +31,8 @@ fn value_row(list: &RowList, op: &RowOp) -> usize {
     }
 }
 
-/// The site of an access at these places, if it has one.
-fn site_of(list: &RowList, op: &RowOp, places: usize, watched: bool) -> Option<Site>
+/// The site of an access at a place, if it has one; `places` is the number of the places of its lanes.
+fn site_of(list: &RowList, op: &RowOp, place: &Place, places: usize, watched: bool) -> Option<Site>
     ensures { IfSome result (IsKindOf op.now) }
 {
     let kind = kind_of(op)?;
@@ -40,7 +40,7 @@ fn site_of(list: &RowList, op: &RowOp, places: usize, watched: bool) -> Option<S
         kind,
         rank: 0,
         watched,
-        mask: row_of(list, place_of(op).mask),
+        mask: row_of(list, place.mask),
         places,
         value: value_row(list, op),
     })
@@ -76,16 +76,16 @@ fn list_site(
         AreListed ops made.old.accesses.items made.old.sites.items →
         AreListed (ops ++ op.now ∷ []) made.new.accesses.items made.new.sites.items) }
 {
-    if !is_access(op) {
+    let Some(place) = op.place() else {
         add_places(&mut made.places, 0)?;
         return Ok(true);
-    }
+    };
     let count = made.sites.len();
     if count >= MOST_SITES {
         return Ok(false);
     }
-    let number = number_of(list, made, op);
-    let Some(site) = site_of(list, op, number, marks[count]) else {
+    let number = number_of(list, made, &place);
+    let Some(site) = site_of(list, op, &place, number, marks[count]) else {
         return Ok(false);
     };
     add_access(&mut made.accesses, *op)?;

@@ -54,7 +54,7 @@ pub fn reads(op: &RowOp) -> bool
     ensures { result ≡ reads op.now }
 {
     match *op {
-        RowOp::Store { width, .. } => match width {
+        RowOp::Store { place, .. } => match place.width {
             Width::W32 => true,
             Width::W64 => false,
         },
@@ -93,7 +93,9 @@ fn reduces_by(operation: &RowOp, bytes: u64, operator: SimpleOp) -> bool
     ensures { result ≡ true → ReducesBy bytes operator operation.now }
 {
     match *operation {
-        RowOp::Reduce { width, op, .. } => bytes_in(width) == bytes && is_same(op, operator),
+        RowOp::Reduce { place, op, .. } => {
+            bytes_in(place.width) == bytes && is_same(op, operator)
+        }
         _ => false,
     }
 }
@@ -103,7 +105,7 @@ pub fn reduce_alike(first: &RowOp, second: &RowOp) -> bool
     ensures { result ≡ true → ReduceAlike first.now second.now }
 {
     match *first {
-        RowOp::Reduce { width, op, .. } => reduces_by(second, bytes_in(width), op),
+        RowOp::Reduce { place, op, .. } => reduces_by(second, bytes_in(place.width), op),
         _ => false,
     }
 }

@@ -3,7 +3,8 @@
 ghost use Rattle.std.specs.Prelude.{◌≡◌, ℕ, ◌%◌, ◌^◌, ◌++◌, ◌∷◌, [], IfOk, OnOk, Some};
 ghost use Rattle.bpf_step_model.specs.AreaWords.{byte_named};
 ghost use Rattle.value_range.specs.Spans.{Contains};
-ghost use Rattle.row_facts.specs.{Facts.{IsSure}, Sites.{place_in, IsAddressIn, AreSites, IsSiteOf}};
+ghost use Rattle.row_list.specs.Places.{place_in};
+ghost use Rattle.row_facts.specs.{Facts.{IsSure}, Sites.{IsAddressIn, AreSites, IsSiteOf}};
 
 use crate::arithmetic::computed;
 use crate::fact::{Fact, number, unknown, within};
@@ -11,18 +12,9 @@ use crate::lines::cut;
 use crate::nonzero::is_nonzero;
 use crate::transfer::fact_at;
 use bpf_insn_types::{AluOp, Width};
-use row_list::RowOp;
+use row_list::{Place, RowOp};
 use std::alloc::{AllocError, Global};
 use value_range::{Operation, Range, alu, exact, top};
-
-/// Where an access is made: in the lanes of a mask, at an address and an offset.
-#[derive(Clone, Copy)]
-pub struct Place {
-    pub mask: usize,
-    pub width: Width,
-    pub address: usize,
-    pub offset: i16,
-}
 
 /// An access, where it is made, and what is known of the byte that the lanes name that make it.
 #[derive(Clone, Copy)]
@@ -30,48 +22,6 @@ pub struct Site {
     pub op: RowOp,
     pub place: Place,
     pub byte: Fact,
-}
-
-/// Where an operation accesses an element, if it does.
-fn place_in(op: &RowOp) -> Option<Place>
-    ensures { result ≡ place_in op.now }
-{
-    match *op {
-        RowOp::Load {
-            mask,
-            width,
-            address,
-            offset,
-            ..
-        }
-        | RowOp::Store {
-            mask,
-            width,
-            address,
-            offset,
-            ..
-        }
-        | RowOp::Reduce {
-            mask,
-            width,
-            address,
-            offset,
-            ..
-        }
-        | RowOp::Fetch {
-            mask,
-            width,
-            address,
-            offset,
-            ..
-        } => Some(Place {
-            mask,
-            width,
-            address,
-            offset,
-        }),
-        _ => None,
-    }
 }
 
 /// The lower halves of words of a range: all of them, but where the upper halves are the same.
@@ -149,7 +99,7 @@ pub fn sites(alloc: Global, ops: &[RowOp], facts: &[Fact]) -> Result<Vec<Site>, 
 {
     let mut sites = Vec::new(alloc);
     for op in ops {
-        match place_in(op) {
+        match op.place() {
             Some(place) => {
                 let site = site_at(alloc, ops, facts, op, place)?;
                 add(&mut sites, site)?;

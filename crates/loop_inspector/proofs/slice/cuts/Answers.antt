@@ -1,7 +1,7 @@
 use Rattle.std.proofs.Common.{◌≡◌, ℕ, ◌<◌, ◌≤◌, true, false, length, take, get_or, sym, ap, subst, inl, inr, arith}
 use Rattle.std.{proofs.lemmas.{List.{take_more, take_all, length-take-le}, Option.{slice_get-get_or}}}
 use Rattle.row_list.specs.declared.row_op.RowOp.{RowOp, TheVariants.{All}}
-use Rattle.row_facts.specs.Sites.{is_access}
+use Rattle.row_list.specs.Places.{is_access}
 use Rattle.loop_inspector.specs.Slices.{IsClosed, IsCut}
 use Rattle.loop_inspector.proofs.CutLaws.{cuts-more}
 use Rattle.loop_inspector.proofs.slice.cuts.Goals as goal

@@ -2,8 +2,8 @@ use Rattle.std.proofs.Common.{◌≡◌, ◌∙◌, ◌⊎◌, ◌+◌, Bool, tr
 use Rattle.std.proofs.Common.{arith}
 use Rattle.std.{specs.Prelude.{slice_get, Some}, proofs.lemmas.List.{take_more, length-take-le, length_push}}
 use Rattle.std.proofs.lemmas.Option.{slice_get_read, slice_get-get_or}
-use Rattle.row_list.specs.declared.row_op.RowOp.{RowOp, TheVariants.{All}}
-use Rattle.row_facts.specs.Sites.{is_access, sites_of}
+use Rattle.row_list.specs.{declared.row_op.RowOp.{RowOp, TheVariants.{All}}, Places.{is_access}}
+use Rattle.row_facts.specs.Sites.{sites_of}
 use Rattle.loop_inspector.specs.Slices.{IsClosed}
 use Rattle.loop_inspector.proofs.CutLaws.{site-at, site-is, opens-more, more-access, no-access}
 use Rattle.loop_inspector.proofs.slice.opens.Goals.{then-is_access+else-next-sites, else-is_access}

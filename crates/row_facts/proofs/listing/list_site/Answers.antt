@@ -1,9 +1,9 @@
 use Rattle.std.proofs.Common.{sym, ◌∙◌}
-use Rattle.row_facts.proofs.ListLaws.{listed_more}
+use Rattle.row_facts.proofs.{ListLaws.{listed_more}, SiteLaws.{has-place}}
 use Rattle.row_facts.proofs.listing.list_site.Goals as goal
 
 pub returns : goal.returns
 returns c = λ good ops are.
     rw (c.in_ok-add_access.ensures, c.in_ok-add_site.ensures)
-    (listed_more ops c.args.made.now.accesses.items c.args.made.now.sites.items c.args.op.now c.in-Some.site
-    (sym c.is_access.ensures ∙ c.if-not-is_access.false) c.in-Some.ensures are)
+    (listed_more ops c.args.made.now.accesses.items c.args.made.now.sites.items c.args.op.now c.in-Some-site_of.site
+    (has-place c.args.op.now c.in-Some.place (sym c.place.ensures ∙ c.in-Some.is)) c.in-Some-site_of.ensures are)
