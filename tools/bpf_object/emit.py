@@ -7,25 +7,21 @@ from collections import Counter
 from collections.abc import Iterator
 
 from .btf import SourceLine
-from .code import Function, Goto, Load, line_text, order_of, reads, successors
+from .code import Function, line_text
 from .layout import Layout
 from .lines import Line
-from .live import bits, is_pure, reads_of, writes_of
 from .loaded import Loaded
 from .lower import Lowering, callback_order
 from .memory import FLAG, Kind, Memory
 from .mend import Rewritten
 from .plans import Touch, Where
 from .room import SlotsOf
-from .sums import sum_up, summed_bytes
+from .sums import sum_up
 from .unit import printable
-from .webs import Webs, is_plain
+from .webs import Webs
 
 LABEL_LIMIT = 16  # characters of a function's name in labels
 FLAG_ELEMENT = 0  # the element of the trap that was taken
-ADDRESS_SLOTS = 3  # of the address of a byte of the map, from a number
-ALIGN_SLOTS = 3  # of a test whether an address is a multiple of the size
-BYTES_OF_HALF = 4
 
 
 class Slots:
@@ -46,9 +42,6 @@ class Emitted:
         self._names = label_names(rewritten.functions)
         self._parts: dict[int, list[Line]] = {}
         self._can_trap: dict[int, bool] = {}
-        summed = summed_bytes(rewritten)
-        functions = rewritten.functions.items()
-        self._least = {n: least_slots(function, summed if n else range(0)) for n, function in functions}
 
     @property
     def slots(self) -> int:
@@ -65,13 +58,11 @@ class Emitted:
 
     def is_within(self, limit: int) -> bool:
         """Whether it takes so many slots at most."""
-        return sum(self._least.values()) <= limit and self.slots <= limit
+        return self.slots <= limit
 
     def callbacks_within(self, limit: float) -> bool:
         """Whether its callbacks take fewer slots than that."""
-        callbacks = callback_order(self._rewritten)[:-1]
-        is_perhaps = sum(self._least[number] for number in callbacks) < limit
-        return is_perhaps and sum(self._slots_of(number) for number in callbacks) < limit
+        return sum(map(self._slots_of, callback_order(self._rewritten)[:-1])) < limit
 
     def _slots_of(self, number: int) -> int:
         return sum(line.slots for line in self._lines_of(number))
@@ -157,49 +148,6 @@ def _header(memory: Memory, layout: Layout, rewritten: Rewritten, has_traps: boo
         apart = f", an element for each {8 >> spot.scale} bytes" if spot.scale else ""
         header.append(f";   {printable(thing.name)} from element {spot.element}{apart}")
     return [*header, f"maps {layout.elements}"]
-
-
-def least_slots(function: Function, summed: range) -> int:
-    """The slots of the instructions whose results are read, and of each end with a choice.
-
-    A sum in some bytes of the map may become one instruction, where each load of a word belongs to a store there.
-    """
-    slots = 0
-    live_in: dict[int, int] = {}
-    loads: Counter[int] = Counter()
-    stores: Counter[int] = Counter()
-    for label in reversed(order_of(function)):
-        block = function.blocks[label]
-        slots += not isinstance(block.end, Goto)
-        live = bits(reads(block.end))
-        for following in successors(block.end):
-            live |= live_in[following]
-        for insn in reversed(block.insns):
-            written = writes_of(insn)
-            if not written & live and is_pure(insn):
-                continue
-            live = live & ~written | reads_of(insn)
-            if not isinstance(insn, Touch):
-                slots += 1
-                continue
-            slots += _least_of(insn)
-            if insn.plan.at in summed:
-                (loads if isinstance(insn.insn, Load) else stores)[insn.plan.at // 8] += 1
-        live_in[label] = live
-    return slots - 2 * sum(count for word, count in stores.items() if count == loads[word])
-
-
-def _least_of(touch: Touch) -> int:
-    """The slots of an access, by the shortest way that it can be written."""
-    plan, size = touch.plan, touch.insn.size
-    if plan.where is Where.FRAME or is_plain(touch):
-        return 1
-    is_part = size < BYTES_OF_HALF and not plan.is_alone
-    slots = 2 if is_part else 1
-    if plan.where is Where.FLAT:
-        slots += ADDRESS_SLOTS + (plan.low is not None) + (plan.high is not None) + plan.is_moved + (plan.scale > 0)
-        slots += ALIGN_SLOTS if plan.align else 0
-    return slots
 
 
 def rewrites_of(memory: Memory, rewritten: Rewritten, sources: dict[int, Function]) -> list[str]:
