@@ -24,12 +24,9 @@ class Scratch:
 
     def __init__(self, function: Function) -> None:
         self._function = function
-        lowest = FRAME_BYTES
-        for block in function.blocks.values():
-            for insn in block.insns:
-                if isinstance(insn, Touch) and insn.plan.where is Where.FRAME:
-                    lowest = min(lowest, FRAME_BYTES + insn.plan.at)
-        self.lowest = lowest // 8 * 8
+        plans = (insn.plan for insn in function.insns if isinstance(insn, Touch))
+        places = (plan.at for plan in plans if plan.where is Where.FRAME)
+        self.lowest = (min(places, default=0) + FRAME_BYTES) // 8 * 8
 
     def place(self, number: int) -> int:
         """The place of the frame for a register that is put aside, counted from 0."""

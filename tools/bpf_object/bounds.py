@@ -13,7 +13,7 @@ from .code import Number, Store, backward, loop_of, order_of, reads, successors,
 from .counted import ANY, Counted, Known, Place, Plain, Slot, combine, cut, join_known, number
 from .counted import Counter, Test, range_in, trips
 from .inline import live_in_of
-from .live import bits
+from .live import live_after
 from .ranges import OPPOSITE, TOP, exact, refine, top
 
 FRAME_THING = -1  # the frame, as what an address is in
@@ -115,13 +115,7 @@ class Bounds:
         """The places that some blocks write, of the registers and of what a state knows."""
         insns = [insn for label in labels for insn in self._function.blocks[label].insns]
         written: set[Place] = {register for insn in insns for register in writes(insn)}
-        slots = [place for place in state if isinstance(place, Slot)]
-        if any(isinstance(insn, Call) and insn.helper == LOOP for insn in insns):
-            return written | set(slots)
-        for insn in insns:
-            if isinstance(insn, (Store, Atomic)) and insn.base == FRAME:
-                written |= {place for place in slots if _meets(place, insn)}
-        return written
+        return written | {place for place in state for insn in insns if _is_written(place, insn)}
 
     def _step(self, insn: Insn, state: State) -> None:
         if isinstance(insn, Alu):
@@ -146,16 +140,10 @@ class Bounds:
         return combine(insn.op, insn.width, _held(insn.dst, state), b)
 
     def _write_frame(self, insn: Insn, state: State) -> None:
-        """A store in the frame; a loop call may write all of it."""
-        if isinstance(insn, Call) and insn.helper == LOOP:
-            gone = [place for place in state if isinstance(place, Slot)]
-        elif isinstance(insn, (Store, Atomic)) and insn.base == FRAME:
-            gone = [place for place in state if isinstance(place, Slot) and _meets(place, insn)]
-        else:
-            return
-        for place in gone:
+        for place in [place for place in state if _is_written(place, insn)]:
             del state[place]
-        if isinstance(insn, Store) and insn.size >= 4 and insn.offset + insn.size <= self._lowest:
+        is_store = isinstance(insn, Store) and insn.base == FRAME and insn.size >= 4
+        if is_store and insn.offset + insn.size <= self._lowest:
             stored = number(insn.imm) if insn.src is None else _held(insn.src, state)
             state[Slot(insn.offset, insn.size)] = stored if insn.size == 8 else cut(stored)
 
@@ -240,8 +228,11 @@ def _held(register: int, state: State) -> Known:
     return Plain(exact(0), FRAME_THING) if register == FRAME else state.get(register, ANY)
 
 
-def _meets(slot: Slot, insn: Store | Atomic) -> bool:
-    return slot.offset < insn.offset + insn.size and insn.offset < slot.offset + slot.size
+def _is_written(place: Place, insn: Insn) -> bool:
+    """Whether an instruction writes to a place of the frame; a loop call may write all of it."""
+    if not isinstance(place, Slot) or not isinstance(insn, (Store, Atomic)):
+        return isinstance(place, Slot) and isinstance(insn, Call) and insn.helper == LOOP
+    return insn.base == FRAME and place.offset < insn.offset + insn.size and insn.offset < place.offset + place.size
 
 
 def _join(states: list[State]) -> State | None:
@@ -270,9 +261,7 @@ def _lowest_in(block: Block, live_in: dict[int, int]) -> int:
         for register in writes(insn):
             held.pop(register, None)
         held.update(sums)
-    read = bits(reads(block.end))
-    for following in successors(block.end):
-        read |= live_in[following]
+    read = live_after(block, live_in)
     return min([lowest, *(byte for register, byte in held.items() if read >> register & 1)])
 
 

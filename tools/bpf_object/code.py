@@ -7,7 +7,7 @@ from __future__ import annotations
 
 from collections.abc import Iterator
 from dataclasses import dataclass, field
-from typing import NamedTuple, Union
+from typing import Any, NamedTuple, Union
 
 from .btf import SourceLine
 
@@ -209,6 +209,11 @@ class Function:
     step: int = 0  # its block that leads to what a round does
     parts: int = 0  # the inner loops that are left and gone on with round by round
     visits: dict[int, int] = field(default_factory=dict)  # how often first blocks of loops are come to, at most
+
+    @property
+    def insns(self) -> Iterator[Any]:
+        """The instructions of all blocks, without the blocks' ends."""
+        return (insn for block in self.blocks.values() for insn in block.insns)
 
     @property
     def size(self) -> int:

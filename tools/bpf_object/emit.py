@@ -186,10 +186,9 @@ def _of_loops(rewritten: Rewritten, sources: dict[int, Function]) -> Iterator[st
 def _at_lines(rewritten: Rewritten) -> Iterator[str]:
     found: set[tuple[str, int, str]] = set()
     for function in rewritten.functions.values():
-        for block in function.blocks.values():
-            for insn in block.insns:
-                if isinstance(insn, Touch) and insn.plan.where is not Where.FRAME:
-                    found |= {(*_place(insn.line), text) for text in _texts(insn, rewritten)}
+        for insn in function.insns:
+            if isinstance(insn, Touch) and insn.plan.where is not Where.FRAME:
+                found |= {(*_place(insn.line), text) for text in _texts(insn, rewritten)}
     for file, number, text in sorted(found):
         yield f"{file}:{number}: {text}" if file else text
 

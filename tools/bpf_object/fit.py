@@ -138,7 +138,7 @@ class _Fit:
             of_main = []
         if not of_main:
             return [max(counts)[1]] if counts else []
-        insns = sum(len(block.insns) + 1 for function in done.functions.values() for block in function.blocks.values())
+        insns = sum(function.size for function in done.functions.values())
         left: float = emitted.slots
         chosen: list[Loop] = []
         inside: set[int] = set()
@@ -172,7 +172,7 @@ class _Fit:
             raise NoRoom("a loop is too long")
         callbacks = {number for number, _ in cut if number}
         for header in headers:
-            callbacks |= callbacks_in(changed[0], loop_of(changed[0], header))
+            callbacks.update(callbacks_in(changed[0], loop_of(changed[0], header)))
         for number in sorted(callbacks & changed.keys()):
             found = inline_loop(changed, number)
             if found is None:

@@ -11,12 +11,12 @@ from dataclasses import replace
 
 from .btf import SourceLine
 from .code import FRAME, FRAME_BYTES, LOOP, RESULT, SAVED, Alu, Atomic, Block, Branch, Call, CallLocal, CodeOf, Exit
-from .code import Function, Goto, Load, Store, line_text, order_of, reads, renamed, successors, writes
+from .code import Function, Goto, Load, Store, line_text, order_of, reads, renamed, writes
+from .live import bits, live_after
 from .refusal import NoRoom, Refused
 
 SIZE_LIMIT = 20000  # instructions of a function, with all that is put in
 COUNT_LIMIT = 1 << 23  # iterations of a loop call
-ALL_REGISTERS = (1 << 11) - 1
 TOO_BIG, INVALID = -7, -22  # answers of a loop call that isn't done
 
 
@@ -24,12 +24,12 @@ def inline(functions: dict[int, Function]) -> dict[int, Function]:
     """Main and its callbacks, without calls among them."""
     inliner = _Inliner(functions)
     done = {0: inliner.whole(0, False)}
-    waiting = _callbacks(done[0])
+    waiting = callbacks_in(done[0], done[0].blocks)
     while waiting:
         number = waiting.pop(0)
         if number not in done:
             done[number] = inliner.whole(number, True)
-            waiting += _callbacks(done[number])
+            waiting += callbacks_in(done[number], done[number].blocks)
     return done
 
 
@@ -51,7 +51,7 @@ def inline_loop(functions: dict[int, Function], number: int) -> tuple[dict[int, 
             headers += _put_in_loops(done, label, number, functions[number])
     except Refused:
         return None
-    if number in _callbacks(done):
+    if number in callbacks_in(done, done.blocks):
         return None
     others = {other: function for other, function in functions.items() if other not in (0, number)}
     return {0: done, **others}, headers
@@ -65,14 +65,10 @@ def _put_in_loops(main: Function, label: int, number: int, body: Function) -> It
             yield _Site(main, label, at, body).put_in(True)
 
 
-def callbacks_in(function: Function, labels: Iterable[int]) -> set[int]:
+def callbacks_in(function: Function, labels: Iterable[int]) -> list[int]:
     """The callbacks that some blocks name."""
     insns = (insn for label in labels for insn in function.blocks[label].insns)
-    return {insn.function for insn in insns if isinstance(insn, CodeOf)}
-
-
-def _callbacks(function: Function) -> list[int]:
-    return [insn.function for block in function.blocks.values() for insn in block.insns if isinstance(insn, CodeOf)]
+    return [insn.function for insn in insns if isinstance(insn, CodeOf)]
 
 
 class _Inliner:
@@ -148,7 +144,7 @@ class _Site:
         self._body = body
         self._line: SourceLine | None = self._block.insns[at].line
         self._next = max(function.blocks) + 1
-        live = _live_before(function, label, at + 1, live_in_of(function))
+        live = _live_before(self._block, at + 1, live_in_of(function))
         targets = sorted(SAVED, key=lambda register: live >> register & 1)  # those that hold nothing first
         self._registers = {register: register for register in range(11)}
         self._registers.update(zip(sorted(_saved_used(body)), targets))
@@ -242,48 +238,25 @@ def _is_register(insn, field: str) -> bool:
 
 
 def _saved_used(function: Function) -> set[int]:
-    insns = [insn for block in function.blocks.values() for insn in block.insns]
-    return {register for insn in insns for register in writes(insn) if register in SAVED}
+    return {register for insn in function.insns for register in writes(insn) if register in SAVED}
 
 
 def live_in_of(function: Function) -> dict[int, int]:
     """The registers that are read from each block on, before they are written."""
-    live_in: dict[int, int] = dict.fromkeys(function.blocks, 0)
-    blocks = [(label, *_effect(function, label)) for label in order_of(function)[::-1]]
-    is_changed = True
-    while is_changed:
-        is_changed = False
-        for label, read, kept, followings in blocks:
-            live = 0
-            for following in followings:
-                live |= live_in[following]
-            live = read | live & kept
-            if live != live_in[label]:
-                live_in[label] = live
-                is_changed = True
+    live_in = dict.fromkeys(function.blocks, 0)
+    order = order_of(function)[::-1]
+    before = None
+    while before != live_in:
+        before = dict(live_in)
+        for label in order:
+            live_in[label] = _live_before(function.blocks[label], 0, live_in)
     return live_in
 
 
-def _effect(function: Function, label: int) -> tuple[int, int, tuple[int, ...]]:
-    """The registers that a block reads before it writes them, those that it leaves as they are, and where it leads."""
-    followings = successors(function.blocks[label].end)
-    read = _live_before(function, label, 0, dict.fromkeys(followings, 0))
-    all_live = dict.fromkeys(followings, ALL_REGISTERS)
-    return read, _live_before(function, label, 0, all_live) if followings else 0, followings
-
-
-def _live_before(function: Function, label: int, at: int, live_in: dict[int, int]) -> int:
-    block = function.blocks[label]
-    live = 0
-    for following in successors(block.end):
-        live |= live_in[following]
-    for register in reads(block.end):
-        live |= 1 << register
+def _live_before(block: Block, at: int, live_in: dict[int, int]) -> int:
+    live = live_after(block, live_in)
     for insn in reversed(block.insns[at:]):
-        for register in writes(insn):
-            live &= ~(1 << register)
-        for register in reads(insn):
-            live |= 1 << register
+        live = live & ~bits(writes(insn)) | bits(reads(insn))
     return live
 
 

@@ -5,7 +5,7 @@ The functions here are those that `unroll` makes: no jump of them leads backward
 
 from __future__ import annotations
 
-from .code import Address, Alu, Atomic, Function, Load, Number, Store, order_of, reads, successors, writes
+from .code import Address, Alu, Atomic, Block, Function, Load, Number, Store, order_of, reads, successors, writes
 from .plans import LoopCall, Moved, Touch, Where
 
 Lives = dict[int, list[int]]  # of a block: the registers that are live behind each instruction, as bits
@@ -17,6 +17,14 @@ def bits(registers: tuple[int, ...]) -> int:
     for register in registers:
         found |= 1 << register
     return found
+
+
+def live_after(block: Block, live_in: dict[int, int]) -> int:
+    """The registers that the end of a block reads, or what it leads to."""
+    live = bits(reads(block.end))
+    for following in successors(block.end):
+        live |= live_in[following]
+    return live
 
 
 def reads_of(insn: object) -> int:
@@ -68,9 +76,7 @@ def without_dead(function: Function) -> tuple[Lives, int]:
     lives: Lives = {}
     for label in reversed(order_of(function)):
         block = function.blocks[label]
-        live = bits(reads(block.end))
-        for following in successors(block.end):
-            live |= live_in[following]
+        live = live_after(block, live_in)
         kept, behind = [], []
         for insn in reversed(block.insns):
             written = writes_of(insn)

@@ -14,7 +14,7 @@ from dataclasses import replace
 from .bounds import Visits
 from .code import FRAME, LOOP, REGISTERS, RESULT, Alu, Block, Branch, Call, CodeOf, End, Exit, Function, Goto, Kept
 from .code import Load, Stop, Store, loop_of, order_of, renamed, successors, writes
-from .inline import inline_callback, live_in_of, lowest_byte
+from .inline import callbacks_in, inline_callback, live_in_of, lowest_byte
 
 MOST_ROUNDS = 1 << 23  # that a loop call does
 
@@ -28,7 +28,7 @@ def outline(functions: dict[int, Function], header: int, visits: Visits) -> dict
     inner = labels - {header}
     if main.entry in inner or any(set(successors(main.blocks[label].end)) & inner for label in enters):
         return None
-    named = [insn.function for label in labels for insn in main.blocks[label].insns if isinstance(insn, CodeOf)]
+    named = callbacks_in(main, labels)
     if any(functions[callback].frame_of is None for callback in named):
         return None  # the user's own loop calls stay main's
     is_shared = main.kept is not None and not named

@@ -33,8 +33,7 @@ def too_long(slots: SlotsOf, functions: Iterable[Function]) -> str:
 
 def too_much(functions: list[Function]) -> str:
     """What is said of code that is too long to be written, by its instructions."""
-    blocks = [block for function in functions for block in function.blocks.values()]
-    found = _most(Counter(insn.line for block in blocks for insn in block.insns))
+    found = _most(Counter(insn.line for function in functions for insn in function.insns))
     told = f"the code takes more than {SLOTS_LIMIT} slots"
     if not found:
         return told
@@ -56,8 +55,8 @@ def _listed(parts: list[str]) -> str:
 
 
 def _help(lines: list[SourceLine], functions: Iterable[Function]) -> str:
-    touches = (insn for function in functions for block in function.blocks.values() for insn in block.insns)
-    is_vague = any(isinstance(insn, Touch) and insn.line in lines and _leads_anywhere(insn) for insn in touches)
+    insns = (insn for function in functions for insn in function.insns)
+    is_vague = any(isinstance(insn, Touch) and insn.line in lines and _leads_anywhere(insn) for insn in insns)
     return BY_NAME if is_vague else ONCE
 
 

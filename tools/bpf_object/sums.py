@@ -28,8 +28,7 @@ class Sum(NamedTuple):
 
 def sum_up(rewritten: Rewritten, number: int) -> None:
     """Rewrites the sums of a callback."""
-    summed = summed_bytes(rewritten)
-    words = range(summed.start, summed.stop, 8)
+    words = _words(rewritten)
     if not words:
         return
     function = rewritten.functions[number]
@@ -41,13 +40,13 @@ def sum_up(rewritten: Rewritten, number: int) -> None:
         block.insns = [insn for insn in block.insns if insn is not None]
 
 
-def summed_bytes(rewritten: Rewritten) -> range:
-    """The bytes of the map in which sums are looked for: main's frame, where no access may lead to any word of it."""
+def _words(rewritten: Rewritten) -> range:
+    """The words of the map in which sums are looked for: main's frame, where no access may lead to any word of it."""
     frame = rewritten.frames[0].number
     spot = rewritten.layout.spots[frame]
     if frame in rewritten.facts.varied:
         return range(0)
-    return range(spot.element * 8, spot.element * 8 + spot.size - spot.low)
+    return range(spot.element * 8, spot.element * 8 + spot.size - spot.low, 8)
 
 
 def _sums(blocks: dict[int, Block], lives: Lives, words: range) -> dict[int, list[Sum]]:
