@@ -3,7 +3,7 @@
 from __future__ import annotations
 
 from .code import FRAME, FRAME_BYTES, NUMBER_LIMIT, REGISTERS, Atomic, Function, Load, Store, line_text
-from .lines import Writer
+from .lines import Writer, access_text
 from .live import writes_of
 from .plans import Touch, Where
 from .ranges import LOW, Range, signed
@@ -128,16 +128,9 @@ class AccessLines:
             self._out.add(f"jlt64 r{register}, {known.lo}, {self._out.trap(self._impossible, None)}")
 
     def _plain(self, insn: Load | Store | Atomic, base: int, offset: int) -> None:
-        place, size = f"[r{base}{offset:+d}]", insn.size * 8
+        self._out.add(access_text(insn, f"[r{base}{offset:+d}]"))
         if isinstance(insn, Load):
-            self._out.add(f"ldx{size} r{insn.dst}, {place}")
             self._sign(insn, insn.dst)
-        elif isinstance(insn, Atomic):
-            self._out.add(f"atomic{size} {insn.op} {place}, r{insn.src}")
-        elif insn.src is None:
-            self._out.add(f"st{size} {place}, {insn.imm}")
-        else:
-            self._out.add(f"stx{size} {place}, r{insn.src}")
 
     def _sign(self, insn: Load, register: int) -> None:
         if insn.signed and insn.size < 8:
@@ -222,8 +215,7 @@ class AccessLines:
             self._out.add(f"jgt64 r{base}, {plan.high}, {self._out.trap(plan.bound_trap, base)}")
         if plan.align:
             rest = self._take()
-            self._out.add(f"mov64 r{rest}, r{base}")
-            self._out.add(f"and64 r{rest}, {-plan.align}")
+            self._out.add(f"mov64 r{rest}, r{base}", f"and64 r{rest}, {-plan.align}")
             self._out.add(f"jne64 r{rest}, r{base}, {self._out.trap(plan.trap, base)}")
             if rest not in self._aside:
                 self._free.insert(0, rest)
@@ -233,8 +225,7 @@ class AccessLines:
     def _address(self, base: int, is_free: bool) -> int:
         """A register with the address of the byte of the map that another one has as a number."""
         word = self._take()
-        self._out.add(f"ldmapval r{word}, 0, 0")
-        self._out.add(f"add64 r{word}, r{base}")
+        self._out.add(f"ldmapval r{word}, 0, 0", f"add64 r{word}, r{base}")
         if is_free and base not in self._aside and base != getattr(self._touch.insn, "dst", None):
             self._free.append(base)
         return word
@@ -269,12 +260,9 @@ class AccessLines:
                 self._out.add(f"st64 {place}, {number}")
             else:
                 copy = self._take()
-                self._out.add(f"mov32 r{copy}, {signed(number, 32)}")
-                self._out.add(f"stx64 {place}, r{copy}")
-        elif touch.is_cut:
-            self._out.add(f"stx64 {place}, r{insn.src}")
+                self._out.add(f"mov32 r{copy}, {signed(number, 32)}", f"stx64 {place}, r{copy}")
         else:
-            self._out.add(f"stx64 {place}, r{self._cut(insn)}")
+            self._out.add(f"stx64 {place}, r{insn.src if touch.is_cut else self._cut(insn)}")
 
     def _cut(self, insn: Store) -> int:
         """A register with the low bytes of what is stored; what is stored itself where it isn't read further on."""
@@ -304,9 +292,8 @@ class AccessLines:
 
     def _put(self, insn: Store, place: str, shift: int) -> None:
         half = self._take()
-        self._out.add(f"ldx32 r{half}, {place}")
         mask = signed(~(mask_of(insn.size) << shift), 32)
-        self._out.add(f"and32 r{half}, {mask}")
+        self._out.add(f"ldx32 r{half}, {place}", f"and32 r{half}, {mask}")
         if insn.src is None:
             number = signed((insn.imm & mask_of(insn.size)) << shift, 32)
             if number:
@@ -328,25 +315,15 @@ class AccessLines:
         if offset:
             self._out.add(f"add64 r{shift}, {offset}")
         self._out.add(f"lsh64 r{shift}, 3")
+        mask = mask_of(insn.size)
         if isinstance(insn, Load):
-            self._out.add(f"ldx64 r{word}, [r{word}+0]")
-            self._out.add(f"rsh64 r{word}, r{shift}")
-            self._out.add(f"and64 r{word}, {mask_of(insn.size)}")
+            self._out.add(f"ldx64 r{word}, [r{word}+0]", f"rsh64 r{word}, r{shift}", f"and64 r{word}, {mask}")
             self._sign(insn, word)
-        elif isinstance(insn, Store):
-            self._xor_in(insn, word, shift)
-
-    def _xor_in(self, insn: Store, word: int, shift: int) -> None:
-        """Changes the bytes by what they differ in from the new ones."""
-        change = self._take()
-        self._out.add(f"ldx64 r{change}, [r{word}+0]")
-        self._out.add(f"rsh64 r{change}, r{shift}")
-        self._out.add(f"xor64 r{change}, {insn.imm if insn.src is None else f'r{insn.src}'}")
-        self._out.add(f"and64 r{change}, {mask_of(insn.size)}")
-        self._out.add(f"lsh64 r{change}, r{shift}")
-        self._out.add(f"ldx64 r{shift}, [r{word}+0]")
-        self._out.add(f"xor64 r{shift}, r{change}")
-        self._out.add(f"stx64 [r{word}+0], r{shift}")
+        elif isinstance(insn, Store):  # the bytes are changed by what they differ in from the new ones
+            change, new = self._take(), insn.imm if insn.src is None else f"r{insn.src}"
+            self._out.add(f"ldx64 r{change}, [r{word}+0]", f"rsh64 r{change}, r{shift}", f"xor64 r{change}, {new}")
+            self._out.add(f"and64 r{change}, {mask}", f"lsh64 r{change}, r{shift}", f"ldx64 r{shift}, [r{word}+0]")
+            self._out.add(f"xor64 r{shift}, r{change}", f"stx64 [r{word}+0], r{shift}")
 
 
 def _is_known(touch: Touch, register: int) -> bool:
@@ -357,5 +334,3 @@ def _is_known(touch: Touch, register: int) -> bool:
 def mask_of(size: int) -> int:
     """All bits of some bytes."""
     return (1 << (8 * size)) - 1
-
-

@@ -5,7 +5,7 @@ from __future__ import annotations
 from typing import NamedTuple
 
 from .btf import SourceLine
-from .code import Alu
+from .code import Alu, Atomic, Load, Store
 from .ranges import signed
 
 LINES_OF_TWO_SLOTS = ("lddw", "ldmapval", "ldcode")
@@ -39,6 +39,16 @@ def alu_text(insn: Alu) -> str:
     return f"{name} r{insn.dst}, {insn.imm if insn.src is None else f'r{insn.src}'}"
 
 
+def access_text(insn: Load | Store | Atomic, place: str) -> str:
+    """The line of an access of a place; a load's sign is left out."""
+    size = insn.size * 8
+    if isinstance(insn, Load):
+        return f"ldx{size} r{insn.dst}, {place}"
+    if isinstance(insn, Atomic):
+        return f"atomic{size} {insn.op} {place}, r{insn.src}"
+    return f"st{size} {place}, {insn.imm}" if insn.src is None else f"stx{size} {place}, r{insn.src}"
+
+
 class Writer:
     """Collects the lines of one function."""
 
@@ -48,9 +58,9 @@ class Writer:
         self.line: SourceLine | None = None
         self._stubs: dict[tuple, str] = {}
 
-    def add(self, text: str) -> None:
-        """An instruction."""
-        self.lines.append(Line(text, self.line))
+    def add(self, *texts: str) -> None:
+        """Instructions."""
+        self.lines += [Line(text, self.line) for text in texts]
 
     def constant(self, register: int, number: int) -> None:
         """A number in a register."""
@@ -82,14 +92,9 @@ class Writer:
         last = list(self._stubs.items())[-1:]
         for (number, register), label in self._stubs.items():
             self.label(label)
-            self.add("mov64 r2, 0" if register is None else f"mov64 r2, r{register}")
-            self.add(f"mov64 r1, {number}")
+            self.add(f"mov64 r2, {0 if register is None else f'r{register}'}", f"mov64 r1, {number}")
             if last and label != last[0][1]:
                 self.add(f"ja {self.name}_trapped")
         if self._stubs:
             self.label(f"{self.name}_trapped")
-            self.add("ldmapval r3, 0, 0")
-            self.add("stx64 [r3+0], r1")
-            self.add("stx64 [r3+8], r2")
-            self.add(f"mov64 r0, {result}")
-            self.add("exit")
+            self.add("ldmapval r3, 0, 0", "stx64 [r3+0], r1", "stx64 [r3+8], r2", f"mov64 r0, {result}", "exit")

@@ -3,7 +3,7 @@
 from __future__ import annotations
 
 from .access_lines import AccessLines, Scratch
-from .code import Address, Alu, Branch, Exit, Goto, Number, Stop, successors
+from .code import Address, Alu, Branch, End, Exit, Goto, Number, successors
 from .lines import Line, Writer, alu_text
 from .live import without_dead, writes_of
 from .loaded import Trap
@@ -43,13 +43,12 @@ class Lowering:
                 self._insn(insn, live)
             for leading_to in successors(block.end):
                 self._kept.setdefault(leading_to, []).append(self._accesses.kept)
-            self._end(block.end, following)
+            write_end(self._out, block.end, following)
         tests_traps = any(line.text.endswith(f"{self._out.name}_ended") for line in self._out.lines)
         self._out.finish(1 if self._number else 0)
         if tests_traps:
             self._out.label(f"{self._out.name}_ended")
-            self._out.add("mov64 r0, 0")
-            self._out.add("exit")
+            self._out.add("mov64 r0, 0", "exit")
         can_trap[self._number] = self._out.can_trap
         return self._out.lines
 
@@ -80,8 +79,7 @@ class Lowering:
         entry = self._rewritten.entries[self._number]
         if self._number in self._rewritten.facts.hidden:
             spot = self._rewritten.layout.spots[self._rewritten.contexts[self._number].number]
-            self._out.add(f"ldmapval r2, 0, {spot.element * 8}")
-            self._out.add("ldx64 r2, [r2+0]")
+            self._out.add(f"ldmapval r2, 0, {spot.element * 8}", "ldx64 r2, [r2+0]")
         else:
             self._out.constant(2, entry.context.range.lo)
 
@@ -114,32 +112,27 @@ class Lowering:
         out = self._out
         if not insn.is_zero:
             spot = self._rewritten.layout.spots[self._rewritten.contexts[insn.function].number]
-            out.add(f"ldmapval r2, 0, {spot.element * 8}")
-            out.add("stx64 [r2+0], r3")
-        out.add(f"ldcode r2, {self._labels[insn.function]}")
-        out.add("mov64 r3, 0")
-        out.add("call 181")
+            out.add(f"ldmapval r2, 0, {spot.element * 8}", "stx64 [r2+0], r3")
+        out.add(f"ldcode r2, {self._labels[insn.function]}", "mov64 r3, 0", "call 181")
         if self._can_trap.get(insn.function):
-            out.add("ldmapval r1, 0, 0")
-            out.add("ldx64 r1, [r1+0]")
-            out.add(f"jne64 r1, 0, {out.name}_ended")
+            out.add("ldmapval r1, 0, 0", "ldx64 r1, [r1+0]", f"jne64 r1, 0, {out.name}_ended")
 
-    def _end(self, end: object, following: int | None) -> None:
-        out = self._out
-        out.line = getattr(end, "line", None)
-        if isinstance(end, Goto):
-            if end.target != following:
-                out.add(f"ja {out.block(end.target)}")
-        elif isinstance(end, Branch):
-            write_branch(out, end, following)
-        elif isinstance(end, Exit):
-            out.add("exit")
-        elif isinstance(end, Stop):
-            out.add(f"ja {out.trap(end.trap, end.register)}")
+def write_end(out: Writer, end: End, following: int | None) -> None:
+    """The end of a block, in front of the one that follows."""
+    out.line = end.line
+    if isinstance(end, Goto):
+        if end.target != following:
+            out.add(f"ja {out.block(end.target)}")
+    elif isinstance(end, Branch):
+        _write_branch(out, end, following)
+    elif isinstance(end, Exit):
+        out.add("exit")
+    else:
+        out.add(f"ja {out.trap(end.trap, end.register)}")
 
 
-def write_branch(out: Writer, end: Branch, following: int | None) -> None:
-    """The end of a block that has two successors, of which one may follow."""
+def _write_branch(out: Writer, end: Branch, following: int | None) -> None:
+    """Of two successors one may follow."""
     op, taken, other = end.op, end.taken, end.other
     if taken == following and op in INVERTED:
         op, taken, other = INVERTED[op], other, taken
@@ -152,5 +145,3 @@ def write_branch(out: Writer, end: Branch, following: int | None) -> None:
 def callback_order(rewritten: Rewritten) -> list[int]:
     """The functions with main last, since it has to know which callbacks can take a trap."""
     return [*(number for number in rewritten.functions if number), 0]
-
-

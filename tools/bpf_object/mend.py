@@ -157,4 +157,3 @@ class Mender:
             if function == number:
                 state.store(byte, 8, Value(exact(0)))
         return state
-

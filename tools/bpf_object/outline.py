@@ -177,4 +177,3 @@ class _Site:
 
 def _led(end: End, label: int, instead: int) -> End:
     return renamed(end, {to: instead if to == label else to for to in successors(end)})
-

@@ -7,13 +7,12 @@ from __future__ import annotations
 
 from dataclasses import dataclass
 
-from .code import Address, Alu, Atomic, Branch, Call, CodeOf, Exit, Function, Goto, Load, MapOf, Number, Store, backward
-from .code import order_of
+from .code import Address, Alu, Call, CodeOf, Function, MapOf, Number, backward, order_of
 from .elf import Object
 from .emit import label_names, text_of
-from .lines import Line, Writer, alu_text
+from .lines import Line, Writer, access_text, alu_text
 from .loaded import Loaded
-from .lower import write_branch
+from .lower import write_end
 from .maps import ArrayMap, maps_of
 from .memory import Kind, Memory
 from .refusal import Refused
@@ -50,13 +49,7 @@ class _Plain:
             for insn in block.insns:
                 out.line = insn.line
                 out.add(self._text(insn))
-            out.line = block.end.line
-            if isinstance(block.end, Exit):
-                out.add("exit")
-            elif isinstance(block.end, Goto) and block.end.target != following:
-                out.add(f"ja {out.block(block.end.target)}")
-            elif isinstance(block.end, Branch):
-                write_branch(out, block.end, following)
+            write_end(out, block.end, following)
         return out.lines
 
     def _text(self, insn) -> str:
@@ -70,14 +63,8 @@ class _Plain:
             return self._address(insn)
         if isinstance(insn, Call):
             return f"call {insn.helper}"
-        place, size = f"[r{insn.base}{insn.offset:+d}]", insn.size * 8
-        if isinstance(insn, Load):
-            return f"ldx{'s' if insn.signed else ''}{size} r{insn.dst}, {place}"
-        if isinstance(insn, Atomic):
-            return f"atomic{size} {insn.op} {place}, r{insn.src}"
-        if isinstance(insn, Store):
-            return f"st{size} {place}, {insn.imm}" if insn.src is None else f"stx{size} {place}, r{insn.src}"
-        raise Refused("a call of a function")
+        text = access_text(insn, f"[r{insn.base}{insn.offset:+d}]")
+        return text.replace("ldx", "ldxs") if getattr(insn, "signed", False) else text
 
     def _address(self, insn: MapOf | Address) -> str:
         thing = self.memory.things[insn.thing]

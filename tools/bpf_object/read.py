@@ -242,5 +242,3 @@ def _access(raw: Raw, line: SourceLine | None) -> Insn:
         return Store(size, raw.dst, raw.offset, raw.src, 0, line)
     op = EXCHANGES.get(raw.imm) or ATOMICS[raw.imm & ~FETCH] + ("_fetch" if raw.imm & FETCH else "")
     return Atomic(size, op, raw.dst, raw.offset, raw.src, line)
-
-

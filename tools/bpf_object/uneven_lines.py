@@ -27,15 +27,11 @@ class UnevenLines:
         out, shift = self._out, 8 * self._rest
         low = self._take()
         if self._rest + insn.size <= BYTES:
-            out.add(f"ldx64 r{low}, {self._first}")
-            out.add(f"rsh64 r{low}, {shift}")
+            out.add(f"ldx64 r{low}, {self._first}", f"rsh64 r{low}, {shift}")
         else:
             high = self._take()
-            out.add(f"ldx64 r{high}, {self._second}")
-            out.add(f"ldx64 r{low}, {self._first}")
-            out.add(f"rsh64 r{low}, {shift}")
-            out.add(f"lsh64 r{high}, {BITS - shift}")
-            out.add(f"or64 r{low}, r{high}")
+            out.add(f"ldx64 r{high}, {self._second}", f"ldx64 r{low}, {self._first}", f"rsh64 r{low}, {shift}")
+            out.add(f"lsh64 r{high}, {BITS - shift}", f"or64 r{low}, r{high}")
         cut(out, low, insn.size)
         return low
 
@@ -62,9 +58,7 @@ class UnevenLines:
         cut(out, change, size)
         if shift:
             out.add(f"lsh64 r{change}, {shift}")
-        out.add(f"ldx64 r{other}, {place}")
-        out.add(f"xor64 r{other}, r{change}")
-        out.add(f"stx64 {place}, r{other}")
+        out.add(f"ldx64 r{other}, {place}", f"xor64 r{other}, r{change}", f"stx64 {place}, r{other}")
 
 
 def cut(out: Writer, register: int, size: int) -> None:
@@ -74,5 +68,4 @@ def cut(out: Writer, register: int, size: int) -> None:
     elif size == 4:
         out.add(f"mov32 r{register}, r{register}")
     elif size < BYTES:
-        out.add(f"lsh64 r{register}, {BITS - 8 * size}")
-        out.add(f"rsh64 r{register}, {BITS - 8 * size}")
+        out.add(f"lsh64 r{register}, {BITS - 8 * size}", f"rsh64 r{register}, {BITS - 8 * size}")
