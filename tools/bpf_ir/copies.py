@@ -5,6 +5,7 @@ from __future__ import annotations
 import re
 from collections.abc import Callable
 from dataclasses import dataclass
+from functools import partial
 
 from .text import Body, Instruction, closing, split_operands
 
@@ -51,26 +52,26 @@ class Copies:
         make = MAKERS.get((call[1], len(operands))) or MAKERS.get((call[1], 0))
         if make is None:
             return False
-        is_intrinsic = "@llvm." in call[0]
-        if is_intrinsic and self._is_short(call[1], operands):
-            return False
-        step = self._step(call[1], operands) if is_intrinsic else 1
+        step = 1
+        if "@llvm." in call[0]:
+            pointers = operands[: 1 if call[1] == "memset" else 2]
+            length, aligns = operands[2].value, [pointer.align for pointer in pointers]
+            if _is_short(call[1], length, aligns):
+                return False
+            step = self._step(length, aligns)
         make(body, operands, step, instruction.result)
         return True
 
-    def _is_short(self, name: str, operands: list[Operand]) -> bool:
-        length = operands[2].value
-        if not LITERAL.fullmatch(length):
-            return False
-        align = min(operand.align for operand in (operands[:1] if name == "memset" else operands[:2]))
-        return int(length) <= min(align, WORD_BYTES) * (MOVES if name == "memmove" else STORES)
-
-    def _step(self, name: str, operands: list[Operand]) -> int:
+    def _step(self, length: str, aligns: list[int]) -> int:
         """The bytes that are copied at once."""
-        length = operands[2].value
         factor = int(length) & -int(length) if LITERAL.fullmatch(length) else self._multiples.get(length, 1)
-        aligns = [operand.align for operand in (operands[:1] if name == "memset" else operands[:2])]
         return min(WORD_BYTES, factor or WORD_BYTES, *aligns)
+
+
+def _is_short(name: str, length: str, aligns: list[int]) -> bool:
+    """Whether the back end copies so many bytes by itself."""
+    most = min(*aligns, WORD_BYTES) * (MOVES if name == "memmove" else STORES)
+    return bool(LITERAL.fullmatch(length)) and int(length) <= most
 
 
 def _operand(text: str) -> Operand:
@@ -81,14 +82,9 @@ def _operand(text: str) -> Operand:
     return Operand(type_, rest, int(align[1]) if align else 1)
 
 
-def _pointer(body: Body, pointer: Operand, index: str) -> str:
-    """The address of a byte behind a pointer to bytes."""
-    return body.make(f"getelementptr i8, {pointer.type} {pointer.value}, i64 {index}")
-
-
 def _access(body: Body, pointer: Operand, index: str, step: int) -> str:
     """The type and the name of the address of what is accessed at once."""
-    address = _pointer(body, pointer, index)
+    address = body.make(f"getelementptr i8, {pointer.type} {pointer.value}, i64 {index}")
     if pointer.type == "ptr" or step == 1:
         return f"{pointer.type} {address}"
     return f"i{8 * step}* {body.make(f'bitcast i8* {address} to i{8 * step}*')}"
@@ -102,6 +98,8 @@ def _length(body: Body, length: Operand) -> str:
 
 def _loop(body: Body, length: str, step: int, round_: Callable[[str], None]) -> None:
     """A loop over the bytes that are there; its round is given how many are behind it."""
+    if length == "0":
+        return
     before, loop, end = body.block, body.fresh(), body.fresh()
     at, following = f"%{body.fresh()}", f"%{body.fresh()}"
     if LITERAL.fullmatch(length):
@@ -116,36 +114,23 @@ def _loop(body: Body, length: str, step: int, round_: Callable[[str], None]) -> 
     body.begin(end)
 
 
-def _copy(body: Body, operands: list[Operand], step: int, result: str | None) -> None:
+def _copy(body: Body, operands: list[Operand], step: int, result: str | None, is_move: bool = False) -> None:
+    """A move goes from the last byte to the first where the target has the greater address."""
     to, source = operands[:2]
     length = _length(body, operands[2])
     bits = f"i{8 * step}"
+    if is_move:
+        is_greater = body.make(f"icmp ugt {to.type} {to.value}, {source.value}")
+        last = body.make(f"sub i64 {length}, {step}")
 
     def round_(at: str) -> None:
+        if is_move:
+            mirrored = body.make(f"sub i64 {last}, {at}")
+            at = body.make(f"select i1 {is_greater}, i64 {mirrored}, i64 {at}")
         value = body.make(f"load {bits}, {_access(body, source, at, step)}, align {step}")
         body.add(f"store {bits} {value}, {_access(body, to, at, step)}, align {step}")
 
-    if length != "0":
-        _loop(body, length, step, round_)
-    _give(body, to, result)
-
-
-def _move(body: Body, operands: list[Operand], step: int, result: str | None) -> None:
-    """From the last byte to the first where the target lies behind the source."""
-    to, source = operands[:2]
-    length = _length(body, operands[2])
-    is_behind = body.make(f"icmp ugt {to.type} {to.value}, {source.value}")
-    last = body.make(f"sub i64 {length}, {step}")
-    bits = f"i{8 * step}"
-
-    def round_(at: str) -> None:
-        mirrored = body.make(f"sub i64 {last}, {at}")
-        place = body.make(f"select i1 {is_behind}, i64 {mirrored}, i64 {at}")
-        value = body.make(f"load {bits}, {_access(body, source, place, step)}, align {step}")
-        body.add(f"store {bits} {value}, {_access(body, to, place, step)}, align {step}")
-
-    if length != "0":
-        _loop(body, length, step, round_)
+    _loop(body, length, step, round_)
     _give(body, to, result)
 
 
@@ -161,8 +146,7 @@ def _set(body: Body, operands: list[Operand], step: int, result: str | None) -> 
     def round_(at: str) -> None:
         body.add(f"store {bits} {value}, {_access(body, to, at, step)}, align {step}")
 
-    if length != "0":
-        _loop(body, length, step, round_)
+    _loop(body, length, step, round_)
     _give(body, to, result)
 
 
@@ -211,7 +195,7 @@ def _measure(body: Body, operands: list[Operand], step: int, result: str | None)
 
 MAKERS: dict[tuple[str, int], Callable[[Body, list[Operand], int, str | None], None]] = {
     ("memcpy", 0): _copy,
-    ("memmove", 0): _move,
+    ("memmove", 0): partial(_copy, is_move=True),
     ("memset", 0): _set,
     ("memcmp", 3): _compare,
     ("bcmp", 3): _compare,

@@ -2,6 +2,8 @@
 
 from __future__ import annotations
 
+from functools import partial
+
 from . import frames, functions
 from .atomics import rewrite_atomic
 from .copies import Copies
@@ -31,9 +33,9 @@ def _joined(lines: list[str]) -> str:
     return "".join(f"{line}\n" for line in lines)
 
 
-def with_small_frames(text: str) -> str:
-    """The same, with no variable in a frame that has an address."""
-    return behind_optimizer(text, 0)
-
-
-STEPS = {"functions": before_optimizer, "operations": behind_optimizer, "small-frames": with_small_frames}
+# With small frames no variable that has an address is in one.
+STEPS = {
+    "functions": before_optimizer,
+    "operations": behind_optimizer,
+    "small-frames": partial(behind_optimizer, largest=0),
+}

@@ -8,6 +8,7 @@ from __future__ import annotations
 
 import re
 from collections.abc import Callable
+from functools import partial
 
 from .text import Body, Instruction, split_operands
 
@@ -239,14 +240,6 @@ def _overflowing_product(body: Body, bits: int, operands: list[str], result: str
     return True
 
 
-def _unsigned_product(body: Body, bits: int, operands: list[str], result: str) -> bool:
-    return _overflowing_product(body, bits, operands, result, is_signed=False)
-
-
-def _signed_product(body: Body, bits: int, operands: list[str], result: str) -> bool:
-    return _overflowing_product(body, bits, operands, result, is_signed=True)
-
-
 def _leading_zeros(body: Body, bits: int, operands: list[str], result: str) -> bool:
     """All bits below the highest one are set, and counted."""
     if bits > WORD:
@@ -276,7 +269,7 @@ def _trailing_zeros(body: Body, bits: int, operands: list[str], result: str) -> 
 INTRINSICS: dict[str, Callable[[Body, int, list[str], str], bool]] = {
     "ctlz": _leading_zeros,
     "cttz": _trailing_zeros,
-    "umul.with.overflow": _unsigned_product,
-    "smul.with.overflow": _signed_product,
+    "umul.with.overflow": partial(_overflowing_product, is_signed=False),
+    "smul.with.overflow": partial(_overflowing_product, is_signed=True),
 }
 DECLARED = "declare i64 @llvm.ctpop.i64(i64)"

@@ -201,7 +201,10 @@ class Btf:
 
 def source_lines(data: memoryview, strings: Strings, section: str) -> dict[int, SourceLine]:
     """The source lines of a section's code, as .BTF.ext has them, by the bytes of the section that they begin at."""
-    return {at: _source_line(file, text, place, strings) for at, file, text, place in _lines(data, strings, section)}
+    return {
+        at: SourceLine(strings.at(file).rpartition("/")[2], place >> COLUMN_BITS, strings.at(text))
+        for at, file, text, place in _lines(data, strings, section)
+    }
 
 
 def _lines(data: memoryview, strings: Strings, section: str) -> Iterator[tuple[int, ...]]:
@@ -223,10 +226,6 @@ def _lines(data: memoryview, strings: Strings, section: str) -> Iterator[tuple[i
         if strings.at(name) == section:
             yield from (LINE.unpack_from(records, at) for at in range(0, len(records), record_size))
         offset += LINES_OF_SECTION.size + len(records)
-
-
-def _source_line(file: int, text: int, place: int, strings: Strings) -> SourceLine:
-    return SourceLine(strings.at(file).rpartition("/")[2], place >> COLUMN_BITS, strings.at(text))
 
 
 def _unpack(form: struct.Struct, data: memoryview, offset: int) -> tuple[int, ...]:

@@ -158,14 +158,13 @@ class Object:
     def parts(self) -> list[Part]:
         """What a program that runs has of it: two objects with the same parts do the same."""
         return [
-            (section.name, section.size, bytes(section.data), tuple(self._references(section)))
+            (section.name, section.size, bytes(section.data), tuple(map(self._reference, self.relocations(section))))
             for section in self.sections
             if section.is_code or section.is_data
         ]
 
-    def _references(self, section: Section) -> Iterator[tuple[int, int, str, int]]:
-        for one in self.relocations(section):
-            yield one.offset, one.type, self.describe(one.symbol), one.symbol.value
+    def _reference(self, one: Relocation) -> tuple[int, int, str, int]:
+        return one.offset, one.type, self.describe(one.symbol), one.symbol.value
 
     def _relocation(self, relocation_type: int, symbol: int, offset: int, target: Section) -> Relocation:
         if symbol >= len(self.symbols):

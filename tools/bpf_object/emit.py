@@ -24,15 +24,6 @@ LABEL_LIMIT = 16  # characters of a function's name in labels
 FLAG_ELEMENT = 0  # the element of the trap that was taken
 
 
-class Slots:
-    """What the slots of a unit are of."""
-
-    def __init__(self) -> None:
-        self.count = 0
-        self.lines: dict[int, SourceLine] = {}
-        self.loops: dict[int, SourceLine | None] = {}
-
-
 class Emitted:
     """A unit, and what it is made of. Its lines are written where they are asked for."""
 
@@ -56,10 +47,6 @@ class Emitted:
                 found[line.line] += line.slots
         return found
 
-    def is_within(self, limit: int) -> bool:
-        """Whether it takes so many slots at most."""
-        return self.slots <= limit
-
     def callbacks_within(self, limit: float) -> bool:
         """Whether its callbacks take fewer slots than that."""
         return sum(map(self._slots_of, callback_order(self._rewritten)[:-1])) < limit
@@ -81,7 +68,7 @@ class Emitted:
         """All that is known of it."""
         rewritten = self._rewritten
         lines = {number: self._lines_of(number) for number in callback_order(rewritten)}
-        text, slots = text_of([line for number in sorted(lines) for line in lines[number]])
+        text, sources, loops = text_of([line for number in sorted(lines) for line in lines[number]])
         has_traps = any(self._can_trap.values())
         header = _header(self._memory, rewritten.layout, rewritten, has_traps)
         return Loaded(
@@ -89,11 +76,11 @@ class Emitted:
             sizes=(rewritten.layout.elements,),
             initial=[rewritten.layout.initial()],
             variables=rewritten.layout.variables(),
-            lines=slots.lines,
-            loops=slots.loops,
+            lines=sources,
+            loops=loops,
             traps=rewritten.traps.all,
             trap_element=FLAG_ELEMENT if has_traps else None,
-            rewrites=rewrites_of(self._memory, rewritten, rewritten.sources),
+            rewrites=[*_of_things(self._memory, rewritten), *_of_loops(rewritten), *_at_lines(rewritten)],
             programs=programs,
             btf=self._memory.btf,
         )
@@ -110,26 +97,28 @@ def label_names(functions: dict[int, Function]) -> dict[int, str]:
     return names
 
 
-def text_of(lines: list[Line]) -> tuple[list[str], Slots]:
-    """The text of some lines, with their source lines, and what their slots are of."""
-    slots = Slots()
+def text_of(lines: list[Line]) -> tuple[list[str], dict[int, SourceLine], dict[int, SourceLine | None]]:
+    """The text of some lines, with their source lines; where these begin, and the loop calls, by their slots."""
+    slot = 0
+    sources: dict[int, SourceLine] = {}
+    loops: dict[int, SourceLine | None] = {}
     wanted = {line.text.rpartition(" ")[2] for line in lines if not line.is_label}
     text: list[str] = []
     shown: SourceLine | None = None
     for line in lines:
         if line.is_label:
-            if line.text[:-1] in wanted or slots.count == 0:
+            if line.text[:-1] in wanted or slot == 0:
                 text.append(line.text)
             continue
         if line.line and line.line != shown:
             shown = line.line
-            slots.lines[slots.count] = line.line
-            text.append(f"    ; slot {slots.count}, {printable(f'{shown.file}:{shown.number}: {shown.text}')}")
+            sources[slot] = line.line
+            text.append(f"    ; slot {slot}, {printable(f'{shown.file}:{shown.number}: {shown.text}')}")
         if line.text == "call 181":
-            slots.loops[slots.count] = line.line
+            loops[slot] = line.line
         text.append(f"    {line.text}")
-        slots.count += line.slots
-    return text, slots
+        slot += line.slots
+    return text, sources, loops
 
 
 def _header(memory: Memory, layout: Layout, rewritten: Rewritten, has_traps: bool) -> list[str]:
@@ -150,11 +139,6 @@ def _header(memory: Memory, layout: Layout, rewritten: Rewritten, has_traps: boo
     return [*header, f"maps {layout.elements}"]
 
 
-def rewrites_of(memory: Memory, rewritten: Rewritten, sources: dict[int, Function]) -> list[str]:
-    """A line for each rewrite: first those of whole variables and functions, then those at lines of C."""
-    return [*_of_things(memory, rewritten), *_of_loops(rewritten, sources), *_at_lines(rewritten)]
-
-
 def _of_things(memory: Memory, rewritten: Rewritten) -> Iterator[str]:
     yield "all variables and maps are in one map, and addresses in it are numbers where the verifier needs it"
     for thing in memory.things:
@@ -171,13 +155,13 @@ def _of_things(memory: Memory, rewritten: Rewritten) -> Iterator[str]:
             yield f"{thing.name} is handed on in the map, since it isn't the same in all calls"
 
 
-def _of_loops(rewritten: Rewritten, sources: dict[int, Function]) -> Iterator[str]:
+def _of_loops(rewritten: Rewritten) -> Iterator[str]:
     for loop, rounds in sorted(rewritten.copied.items()):
         number, header = loop
-        line = sources[number].blocks[header].line
+        line = rewritten.sources[number].blocks[header].line
         end = ", and a trap behind the last" if loop in rewritten.cut else ""
         yield f"{line_text(line)}the loop's rounds are copied, {rounds} of them{end}"
-    for number, function in sources.items():
+    for number, function in rewritten.sources.items():
         if number and function.kept is not None:
             parts = ", and so are those of a loop in it" if function.parts else ""
             yield f"{line_text(function.line)}the loop's rounds are iterations of a loop call{parts}"

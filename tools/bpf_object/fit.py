@@ -36,10 +36,10 @@ def fit(memory: Memory, functions: dict[int, Function], choices: Iterable[set[in
             done, emitted = fitting.run()
         except NoRoom as reason:
             first = first or reason
-            if not fitting.was_spread:
+            if not fitting.mender.was_spread:
                 break  # the next choice does the same
             continue
-        if fitting.is_enough(done) or not fitting.is_spread:
+        if fitting.is_enough(done) or not fitting.mender.is_spread:
             return emitted
         rounds = min(done.copied[loop] for loop in done.cut)
         if best is None or rounds > best[0]:
@@ -56,26 +56,15 @@ class _Fit:
         self._memory = memory
         self._functions = functions
         self._limited: set[Loop] = set()  # the loops of which fewer rounds are copied
-        self._sizes = sizes
         self._rounds: dict[Loop, int] = {}  # of the loops that end by themselves
         self._given = functions  # before any loop of main is made a callback
         self._bounds = Bounds(functions[0])  # of the loops of main as it is given
         self._headers: list[int] = []  # of the loops that are made callbacks, of which none is in another
         self._parted: set[int] = set()  # the headers of loops in callbacks that were parted
-        self._mender = Mender(memory, functions, sizes)
-
-    @property
-    def is_spread(self) -> bool:
-        """Whether any value has an element of its own."""
-        return self._mender.is_spread
-
-    @property
-    def was_spread(self) -> bool:
-        """Whether any had one at any time."""
-        return self._mender.was_spread
+        self.mender = Mender(memory, functions, sizes)
 
     def _attempt(self, rounds: dict[Loop, int]) -> tuple[Rewritten, Emitted]:
-        done = self._mender.run(BUDGET, rounds)
+        done = self.mender.run(BUDGET, rounds)
         return done, Emitted(self._memory, done)
 
     def run(self) -> tuple[Rewritten, Emitted]:
@@ -102,7 +91,7 @@ class _Fit:
                     raise NoRoom(too_much(reason.functions)) from None
                 self._limit(alike)
                 continue
-            if emitted.is_within(SLOTS_LIMIT):
+            if emitted.slots <= SLOTS_LIMIT:
                 return done, emitted
             self._rounds.update((loop, rounds) for loop, rounds in done.copied.items() if loop not in self._limited)
             longest = self._longest(done, emitted)
@@ -228,7 +217,7 @@ class _Fit:
 
     def _begin_with(self, functions: dict[int, Function]) -> None:
         self._functions = functions
-        self._mender.begin_with(functions)
+        self.mender.begin_with(functions)
         self._rounds.clear()
         self._limited.clear()
 
@@ -275,7 +264,7 @@ def _most_rounds(attempt: Try, limited: set[Loop], done: Rewritten, emitted: Emi
         except TooMany:
             over = rounds
             continue
-        if not found.is_within(SLOTS_LIMIT):
+        if found.slots > SLOTS_LIMIT:
             over = rounds
             continue
         known.append((rounds, found.slots))

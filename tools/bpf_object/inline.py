@@ -22,7 +22,7 @@ TOO_BIG, INVALID = -7, -22  # answers of a loop call that isn't done
 
 def inline(functions: dict[int, Function]) -> dict[int, Function]:
     """Main and its callbacks, without calls among them."""
-    inliner = _Inliner(functions)
+    inliner = Inliner(functions)
     done = {0: inliner.whole(0, False)}
     waiting = callbacks_in(done[0], done[0].blocks)
     while waiting:
@@ -31,11 +31,6 @@ def inline(functions: dict[int, Function]) -> dict[int, Function]:
             done[number] = inliner.whole(number, True)
             waiting += callbacks_in(done[number], done[number].blocks)
     return done
-
-
-def inline_callback(functions: dict[int, Function], number: int) -> Function:
-    """A callback of functions whose own calls were put in, with its loop calls put in."""
-    return _Inliner(functions).whole(number, True)
 
 
 def inline_loop(functions: dict[int, Function], number: int) -> tuple[dict[int, Function], list[int]] | None:
@@ -71,7 +66,9 @@ def callbacks_in(function: Function, labels: Iterable[int]) -> list[int]:
     return [insn.function for insn in insns if isinstance(insn, CodeOf)]
 
 
-class _Inliner:
+class Inliner:
+    """Puts the functions of a program in."""
+
     def __init__(self, functions: dict[int, Function]) -> None:
         self._functions = functions
         self._open: list[int] = []  # those that are being put in
@@ -83,15 +80,12 @@ class _Inliner:
             raise Refused(f"{line_text(source.line)}{source.name} calls itself")
         self._open.append(number)
         function = replace(source, blocks=dict(source.blocks))
-        calls = True
-        while calls:
-            calls = False
-            for label in order_of(function):
-                at = _call_at(function.blocks[label], is_callback)
-                if at is not None:
-                    self._put_in(function, label, at, is_callback)
-                    calls = True
-                    break
+        is_done = False
+        while not is_done:
+            call = next(_calls(function, is_callback), None)
+            is_done = call is None
+            if call:
+                self._put_in(function, *call, is_callback)
             if function.size > SIZE_LIMIT:
                 raise Refused(f"{line_text(source.line)}{source.name} is too long with all that it calls")
         self._open.pop()
@@ -100,19 +94,16 @@ class _Inliner:
     def _put_in(self, function: Function, label: int, at: int, is_callback: bool) -> None:
         block = function.blocks[label]
         insn = block.insns[at]
-        if isinstance(insn, CallLocal):
-            called = insn.function
-        else:
-            called = _loop_callback(block, at)
-        body = self.whole(called, is_callback)
-        _Site(function, label, at, body).put_in(isinstance(insn, Call))
+        called = insn.function if isinstance(insn, CallLocal) else _loop_callback(block, at)
+        _Site(function, label, at, self.whole(called, is_callback)).put_in(isinstance(insn, Call))
 
 
-def _call_at(block: Block, is_callback: bool) -> int | None:
-    for at, insn in enumerate(block.insns):
-        if isinstance(insn, CallLocal) or (is_callback and isinstance(insn, Call) and insn.helper == LOOP):
-            return at
-    return None
+def _calls(function: Function, is_callback: bool) -> Iterator[tuple[int, int]]:
+    """The calls in whose place functions are put, by their blocks and their places there."""
+    for label in order_of(function):
+        for at, insn in enumerate(function.blocks[label].insns):
+            if isinstance(insn, CallLocal) or is_callback and isinstance(insn, Call) and insn.helper == LOOP:
+                yield label, at
 
 
 def _loop_callback(block: Block, at: int) -> int:
@@ -200,8 +191,8 @@ class _Site:
         if isinstance(insn, (Load, Store, Atomic)):
             offset = insn.offset + (shift if insn.base == FRAME else 0)
             insn = insn._replace(base=names[insn.base], offset=offset)
-        fields = {field: names[getattr(insn, field)] for field in ("dst", "src") if _is_register(insn, field)}
-        found = insn._replace(**fields) if fields else insn
+        fields = {field: getattr(insn, field, None) for field in ("dst", "src")}
+        found = insn._replace(**{field: names[number] for field, number in fields.items() if number is not None})
         if isinstance(insn, Alu) and insn.src == FRAME:
             if insn.op != "mov" or insn.width != 64:
                 raise Refused(f"{line_text(insn.line)}an address of a frame is used in another way than clang does")
@@ -231,10 +222,6 @@ class _Site:
         label = self._new_label()
         self._function.blocks[label] = Block([Alu("mov", 64, RESULT, None, number, self._line)], Goto(rest, self._line))
         return label
-
-
-def _is_register(insn, field: str) -> bool:
-    return hasattr(insn, field) and getattr(insn, field) is not None
 
 
 def _saved_used(function: Function) -> set[int]:

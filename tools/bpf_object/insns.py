@@ -164,14 +164,10 @@ def _accesses() -> Iterator[tuple[int, Form]]:
         yield STX | ATOMIC | size, Form(lines, "imm")
 
 
-def _loads_of_two_slots() -> Iterator[tuple[int, Form]]:
-    lines = {
-        KIND_NUMBER: "lddw r{dst}, {number}",
-        KIND_CODE: "ldcode r{dst}, {far}",
-        KIND_MAP: "ldmap r{dst}, {imm}",
-        KIND_MAP_VALUE: "ldmapval r{dst}, {imm}, {next_imm}",
-    }
-    yield LDDW, Form(lines, "src")
-
-
-FORMS = dict([*_arithmetic(), *_jumps(), *_accesses(), *_loads_of_two_slots()])
+LOADS_OF_TWO_SLOTS = {
+    KIND_NUMBER: "lddw r{dst}, {number}",
+    KIND_CODE: "ldcode r{dst}, {far}",
+    KIND_MAP: "ldmap r{dst}, {imm}",
+    KIND_MAP_VALUE: "ldmapval r{dst}, {imm}, {next_imm}",
+}
+FORMS = dict([*_arithmetic(), *_jumps(), *_accesses(), (LDDW, Form(LOADS_OF_TWO_SLOTS, "src"))])

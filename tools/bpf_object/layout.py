@@ -19,7 +19,7 @@ from .refusal import Refused
 from .variables import Piece, Variable
 
 FRAMES_AT = 1 << 21  # addresses of frames that aren't in the map
-SCALES = {1: 3, 2: 2, 4: 1}  # by the size of the values
+SCALES = {1: 3, 2: 2, 4: 1, 8: 0}  # by the bytes of values that an element holds
 
 
 @dataclass(frozen=True)
@@ -67,18 +67,9 @@ class Layout:
     def _spot(self, thing: Thing) -> Spot:
         group = self._facts.group(thing.number)
         sizes = self._facts.sizes.get(thing.number, set())
-        if group in self._spread and sizes:
-            return self._spread_spot(thing, min(sizes))
-        self._leave_room(thing, ELEMENT_BYTES)
-        element = self._take(-(-thing.size // ELEMENT_BYTES))
-        stride = thing.size // thing.entries if thing.entries else 0
-        return Spot(thing.number, element * ELEMENT_BYTES, thing.size, element, stride=stride)
-
-    def _spread_spot(self, thing: Thing, unit: int) -> Spot:
-        size, stride = thing.size, 0
-        if thing.entries:
-            stride = -(-thing.value_size // unit) * unit
-            size = thing.entries * stride
+        unit = min(sizes) if group in self._spread and sizes else ELEMENT_BYTES
+        stride = -(-thing.value_size // unit) * unit
+        size = thing.entries * stride or thing.size
         self._leave_room(thing, unit)
         element = self._take(-(-size // unit))
         return Spot(thing.number, element * unit, size, element, scale=SCALES[unit], stride=stride)

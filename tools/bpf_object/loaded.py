@@ -6,6 +6,8 @@ from collections.abc import Sequence
 from dataclasses import dataclass, field
 
 from .btf import Btf, SourceLine
+from .code import line_text
+from .ranges import signed
 from .refusal import Refused
 from .variables import Variable
 
@@ -25,15 +27,14 @@ class Trap:
 
     def told_text(self) -> str:
         """The trap in words, without what was tested."""
-        return (f"{self.line.file}:{self.line.number}: " if self.line else "") + self.text
+        return line_text(self.line) + self.text
 
     def told(self, address: int) -> str:
         """The trap in words, with the index where the tested address tells it."""
         if not self.size:
             return self.told_text()
-        place = f"{self.line.file}:{self.line.number}: " if self.line else ""
-        number = (address - self.start + (1 << 63)) % (1 << 64) - (1 << 63)
-        return f"{place}index {number // self.size} of {self.name}[{self.count}]"
+        index = signed(address - self.start, 64) // self.size
+        return f"{line_text(self.line)}index {index} of {self.name}[{self.count}]"
 
 
 @dataclass(frozen=True)

@@ -4,6 +4,7 @@ from __future__ import annotations
 
 from dataclasses import dataclass, field
 from enum import Enum
+from typing import Any
 
 from .btf import Btf, SourceLine, Type
 from .elf import R_BPF_64_ABS64, STT_FUNC, STT_OBJECT, Object, Section
@@ -68,9 +69,9 @@ class Memory:
             if section.index in self._sections and section.name != DECLARED:
                 self._read_pointers(section)
 
-    def add(self, kind: Kind, name: str, size: int, function: int = -1) -> Thing:
-        """A thing that the object doesn't have."""
-        self.things.append(Thing(len(self.things), kind, name, size, function=function))
+    def add(self, kind: Kind, name: str, size: int, **more: Any) -> Thing:
+        """One thing more."""
+        self.things.append(Thing(len(self.things), kind, name, size, **more))
         return self.things[-1]
 
     def at(self, section: Section, byte: int) -> Thing | None:
@@ -91,11 +92,9 @@ class Memory:
         stride = -(-declared.value_size // ELEMENT_BYTES) * ELEMENT_BYTES
         if declared.entries * stride > ELEMENTS_LIMIT * ELEMENT_BYTES:
             raise Refused(f"map {declared.name} has {declared.entries} values of {declared.value_size} bytes: too many")
-        thing = self.add(Kind.MAP, declared.name, declared.entries * stride)
-        thing.section, thing.offset, thing.type = DECLARED, declared.offset, declared.type
-        thing.entries, thing.value_size = declared.entries, declared.value_size
-        thing.line = None
-        return thing
+        of_map = {"entries": declared.entries, "value_size": declared.value_size, "type": declared.type}
+        size = declared.entries * stride
+        return self.add(Kind.MAP, declared.name, size, section=DECLARED, offset=declared.offset, **of_map)
 
     def _read_section(self, section: Section) -> None:
         if section.size > ELEMENTS_LIMIT * ELEMENT_BYTES:
@@ -122,9 +121,7 @@ class Memory:
         return self._place(Kind.GAP, section.name, section, start // ELEMENT_BYTES * ELEMENT_BYTES, end, data)
 
     def _place(self, kind: Kind, name: str, section: Section, start: int, end: int, data: bytes) -> Thing:
-        thing = self.add(kind, name, end - start)
-        thing.section, thing.offset, thing.data = section.name, start, data[start:end]
-        return thing
+        return self.add(kind, name, end - start, section=section.name, offset=start, data=data[start:end])
 
     def _read_pointers(self, section: Section) -> None:
         for relocation in self._obj.relocations(section):

@@ -13,7 +13,7 @@ from .memory import ARGUMENT, Kind, Memory, Thing
 from .ranges import TOP, exact
 from .refusal import Refused
 from .unroll import Limits, Loop, TooMany, Unroller
-from .values import State, Value, entry_state
+from .values import State, Value
 
 TRIES = 64  # more than facts ever take
 TRIAL_BUDGET = 1 << 16  # instructions
@@ -73,9 +73,9 @@ class Mender:
         for number, function in functions.items():
             key = (number, function.name)
             if key not in self._known:
-                frame = self._memory.add(Kind.FRAME, function.name, FRAME_BYTES, number)
-                frame.line = function.line
-                self._known[key] = frame, self._memory.add(Kind.HIDDEN, f"ctx of {function.name}", 8, number)
+                frame = self._memory.add(Kind.FRAME, function.name, FRAME_BYTES, function=number, line=function.line)
+                context = self._memory.add(Kind.HIDDEN, f"ctx of {function.name}", 8, function=number)
+                self._known[key] = frame, context
         found = {number: self._known[number, function.name] for number, function in functions.items()}
         return {number: one[0] for number, one in found.items()}, {number: one[1] for number, one in found.items()}
 
@@ -149,7 +149,7 @@ class Mender:
                 self.facts.hide(number)
                 self.facts.use((self._contexts[number].number,))
                 context = Value(TOP, context.things)
-        state = entry_state(argument, context, 0, top_of_frame)
+        state = State([None, argument, context, *[None] * 7, top_of_frame], {}, 0)
         for function, register in self.facts.undefined:
             if function == number:
                 state.regs[register] = Value(exact(0))

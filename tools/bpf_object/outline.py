@@ -14,7 +14,7 @@ from dataclasses import replace
 from .bounds import Visits
 from .code import FRAME, LOOP, REGISTERS, RESULT, Alu, Block, Branch, Call, CodeOf, End, Exit, Function, Goto, Kept
 from .code import Load, Stop, Store, loop_of, order_of, renamed, successors, writes
-from .inline import callbacks_in, inline_callback, live_in_of, lowest_byte
+from .inline import Inliner, callbacks_in, live_in_of, lowest_byte
 
 MOST_ROUNDS = 1 << 23  # that a loop call does
 
@@ -39,7 +39,7 @@ def outline(functions: dict[int, Function], header: int, visits: Visits) -> dict
     done = dict(functions)
     done[number] = replace(site.body(), visits=visits)
     done[0] = site.main(number, enters, visits.get(header, MOST_ROUNDS))
-    done[number] = inline_callback(done, number)
+    done[number] = Inliner(done).whole(number, True)
     return done
 
 

@@ -28,8 +28,8 @@ def plain(obj: Object, memory: Memory, functions: dict[int, Function], programs:
         if next(backward(functions[number]), None) is not None:
             raise Refused("a jump leads backwards")
         lines += _Plain(memory, maps, names).lines(functions[number], names[number])
-    text, slots = text_of(lines)
-    return loaded_of(obj, memory.btf, maps, text, lines=slots.lines, loops=slots.loops, programs=programs)
+    text, sources, loops = text_of(lines)
+    return loaded_of(obj, memory.btf, maps, text, lines=sources, loops=loops, programs=programs)
 
 
 @dataclass

@@ -19,7 +19,6 @@ class UnevenLines:
         self._take = take
         self._first = f"[r{word}{offset:+d}]"
         self._second = f"[r{word}{offset + BYTES:+d}]"
-        self._word = word
         self._rest = rest
 
     def load(self, insn: Load) -> int:

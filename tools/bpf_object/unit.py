@@ -217,7 +217,7 @@ def loaded_of(obj: Object, btf: Btf | None, maps: list[ArrayMap], code: list[str
         unit="".join(f"{line}\n" for line in [*map_lines(obj, maps), *code]),
         sizes=tuple(array.elements for array in maps) or (1,),
         initial=[array.values for array in maps] or [[0]],
-        variables=variables_of(obj, btf, maps),
+        variables=[*_variables(obj, btf, maps)],
         btf=btf,
         **known,
     )
@@ -225,19 +225,12 @@ def loaded_of(obj: Object, btf: Btf | None, maps: list[ArrayMap], code: list[str
 
 def main_functions(obj: Object) -> list[str]:
     """The names of the functions that have a section of their own kind, as by `SEC`."""
-    names = []
-    for section in obj.sections:
-        if section.is_code and section.name != ".text":
-            names += [symbol.name for symbol in obj.symbols_in(section, STT_FUNC)]
-    return names
-
-
-def variables_of(obj: Object, btf: Btf | None, maps: list[ArrayMap]) -> list[Variable]:
-    """The global variables and the maps, where each section is a map of its own."""
-    return [*_variables(obj, btf, maps)]
+    sections = (section for section in obj.sections if section.is_code and section.name != TEXT)
+    return [symbol.name for section in sections for symbol in obj.symbols_in(section, STT_FUNC)]
 
 
 def _variables(obj: Object, btf: Btf | None, maps: list[ArrayMap]) -> Iterator[Variable]:
+    """The global variables and the maps, where each section is a map of its own."""
     first = 0
     types = {declared.name: declared.type for declared in declared_maps(obj, btf)}
     for array in maps:

@@ -78,13 +78,6 @@ class State:
         return self.written & mask == mask
 
 
-def entry_state(argument: Value, context: Value | None, written: int, frame_top: Value) -> State:
-    """What is known where a function begins."""
-    regs: list[Held] = [None] * 11
-    regs[1], regs[2], regs[10] = argument, context, frame_top
-    return State(regs, {}, written)
-
-
 def cut(value: Value, size: int) -> Value:
     """What some low bytes of a number are."""
     if size == 8 or value.range.hi < 1 << (8 * size):

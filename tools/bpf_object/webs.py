@@ -68,13 +68,10 @@ class Webs:
                 self._bad[roots[0]] |= self._bad[root]
         return roots[0]
 
-    def _spoil(self, webs: Defs) -> None:
-        self._bad[self._join(webs)] = True
-
-    def _new(self, is_bad: bool) -> int:
-        self._parent.append(len(self._parent))
-        self._bad.append(is_bad)
-        return len(self._parent) - 1
+    def _spoil_all(self, registers: int, regs: list[Defs]) -> None:
+        for register in range(REGISTERS):
+            if registers >> register & 1:
+                self._bad[self._join(regs[register])] = True
 
     def _follow(self) -> None:
         arriving: dict[int, list[list[Defs]]] = {}
@@ -87,8 +84,7 @@ class Webs:
                 self._insn(label, at, insn, regs)
             end = block.end
             if isinstance(end, (Branch, Exit)):
-                for register in reads(end):
-                    self._spoil(regs[register])
+                self._spoil_all(bits(reads(end)), regs)
             for following in successors(end):
                 arriving.setdefault(following, []).append(regs)
 
@@ -99,7 +95,7 @@ class Webs:
             regs[insn.dst] = frozenset((self._define(label, at, False),))
         elif isinstance(insn, Moved):
             if insn.insn.src is not None:
-                self._spoil(regs[insn.insn.src])
+                self._spoil_all(1 << insn.insn.src, regs)
             web = self._define(label, at, False)
             self._join(regs[insn.insn.dst] | {web})
             regs[insn.insn.dst] = frozenset((web,))
@@ -108,15 +104,13 @@ class Webs:
             self._join(regs[insn.src] | {web})
             regs[insn.dst] = frozenset((web,))
         else:
-            read = reads_of(insn)
-            for register in range(REGISTERS):
-                if read >> register & 1:
-                    self._spoil(regs[register])
+            self._spoil_all(reads_of(insn), regs)
             self._overwrite(label, at, writes_of(insn), regs)
 
     def _define(self, label: int, at: int, is_bad: bool) -> int:
-        web = self._new(is_bad)
-        self._defs[label, at] = web
+        self._defs[label, at] = web = len(self._parent)
+        self._parent.append(web)
+        self._bad.append(is_bad)
         return web
 
     def _overwrite(self, label: int, at: int, written: int, regs: list[Defs]) -> None:
@@ -130,14 +124,12 @@ class Webs:
         others = reads_of(touch._replace(is_native=True)) & ~(1 << base)
         if bits(reads(touch.insn)[1:]) >> base & 1:
             others |= 1 << base  # it is stored too
-        for register in range(REGISTERS):
-            if others >> register & 1:
-                self._spoil(regs[register])
+        self._spoil_all(others, regs)
         if touch.plan.where is not Where.FRAME:
             if is_plain(touch):
                 self._bases[label, at] = self._join(regs[base])
             elif touch.plan.where is Where.FLAT:
-                self._spoil(regs[base])
+                self._spoil_all(1 << base, regs)
         self._overwrite(label, at, writes_of(touch), regs)
 
 
