@@ -33,7 +33,7 @@ class Ran:
 
 @dataclass(frozen=True)
 class Fault:
-    """A call of the C library that fails, and how; `tools/faults/fail.c` says what the words mean."""
+    """A call of the C library that fails, and how; `tools/tests/faults/fail.c` says what the words mean."""
 
     call: str
     kind: str

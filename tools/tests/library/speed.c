@@ -1,7 +1,7 @@
 /*
  * What the calls of the library take, in nanoseconds each, the least of 21 rounds: speed
  *
- *     cc -O2 tools/library/speed.c -I FOLDER FOLDER/libbpfspec.a -o speed && ./speed
+ *     cc -O2 tools/tests/library/speed.c -I FOLDER FOLDER/libbpfspec.a -o speed && ./speed
  */
 #define _POSIX_C_SOURCE 199309L
 #include "timed.h"

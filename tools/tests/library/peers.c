@@ -1,7 +1,7 @@
 /*
  * What a load and a run take, by the library and by its peers, in rounds that go through all of them:
  *
- *     cc -O2 tools/library/peers.c -I FOLDER FOLDER/libbpfspec.a $(pkg-config --cflags libdpdk) -lrte_bpf -lrte_eal \
+ *     cc -O2 tools/tests/library/peers.c -I FOLDER FOLDER/libbpfspec.a $(pkg-config --cflags libdpdk) -lrte_bpf -lrte_eal \
  *         -o peers && ./peers ./bpfspec
  *
  * Peers are DPDK's interpreter and compiler (rte_bpf), the kernel's compiler, which wants root, and a process of the

@@ -13,7 +13,7 @@ import sys
 from collections.abc import Iterator
 from pathlib import Path
 
-TOP = Path(__file__).resolve().parent.parent.parent
+TOP = Path(__file__).resolve().parents[3]
 EXAMPLES = TOP / "examples"
 sys.path.insert(0, str(EXAMPLES / "c"))
 

@@ -1,0 +1,1 @@
+"""The tests, and what the checks of the gate share with them."""
