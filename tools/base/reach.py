@@ -4,11 +4,11 @@ from __future__ import annotations
 
 import re
 from collections.abc import Iterator
-from functools import lru_cache
+from functools import lru_cache, partial
 from pathlib import Path
 
 from .items import NAME, Item, names_in
-from .specs import Imports, Place, SpecFile, read_specs
+from .specs import STD, Imports, Place, read_specs
 from .types import SourceFile, find_type, imported_from, read_source
 
 VARIANTS = "TheVariants"
@@ -21,14 +21,8 @@ class Crates:
 
     def __init__(self, top: Path) -> None:
         self.folder = top / "crates"
-        self.specs = lru_cache(maxsize=None)(self._specs)
-        self.source = lru_cache(maxsize=None)(self._source)
-
-    def _specs(self, crate: str, file: str) -> SpecFile:
-        return read_specs(self.folder, crate, file)
-
-    def _source(self, crate: str, file: str) -> SourceFile:
-        return read_source(self.folder, crate, file)
+        self.specs = lru_cache(maxsize=None)(partial(read_specs, self.folder))
+        self.source = lru_cache(maxsize=None)(partial(read_source, self.folder))
 
     def reached(self, crate: str, function: str) -> list[Item]:
         """All definitions and types that the contract of a public function cites, and theirs in turn."""
@@ -92,9 +86,9 @@ class Crates:
 
     def _at(self, place: Place, name: str) -> Iterator[Item]:
         """The item of a name at a place."""
-        if place.is_of_std():
+        if place[0] == STD:
             return
-        crate, kind, *rest = place.parts
+        crate, kind, *rest = place
         if kind == "specs" and rest[:1] == ["declared"]:
             yield from self._declared(crate, [part for part in rest[1:] if part != VARIANTS])
         else:

@@ -15,15 +15,8 @@ CONSTRUCTOR = re.compile(r"  (?:pub )?([^\W\d]\w*'*) :")
 STD = "std"
 
 
-@dataclass(frozen=True)
-class Place:
-    """Where a name is looked for: the parts of a path as `array_maps.specs.MapList`, without `Rattle`."""
-
-    parts: tuple[str, ...]
-
-    def is_of_std(self) -> bool:
-        """Whether it is of the standard library."""
-        return self.parts[0] == STD
+# Where a name is looked for: the parts of a path as `array_maps.specs.MapList`, without `Rattle`.
+Place = tuple[str, ...]
 
 
 @dataclass
@@ -42,9 +35,9 @@ class Imports:
             there, _, here = path.partition(" as ")
             *parts, name = there.split(".")
             if whole:
-                self.places[here or name] = Place((*parts, name))
+                self.places[here or name] = (*parts, name)
             else:
-                self.names[here or name] = (Place(tuple(parts)), name)
+                self.names[here or name] = (tuple(parts), name)
 
 
 def _paths(text: str) -> Iterator[str]:
@@ -83,13 +76,9 @@ def read_specs(crates: Path, crate: str, file: str) -> SpecFile:
         found = DEFINES.match(block)
         if found:
             item = Item(crate, file, found.group(1), block)
-            names = [item.name, *CONSTRUCTOR.findall(block)] if _is_data(block) else [item.name]
-            items.update((name, item) for name in names)
+            constructors = CONSTRUCTOR.findall(block) if block.startswith("pub data") else []
+            items.update(dict.fromkeys([item.name, *constructors], item))
     return SpecFile(imports, items)
-
-
-def _is_data(block: str) -> bool:
-    return block.startswith("pub data")
 
 
 def _blocks(text: str) -> Iterator[str]:

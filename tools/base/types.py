@@ -31,8 +31,8 @@ def read_source(crates: Path, crate: str, file: str) -> SourceFile:
     path = crates / crate / file
     text = path.read_text(encoding="utf-8") if path.is_file() else ""
     imports = Imports()
-    for line in _whole_uses(text):
-        imports.read(line)
+    for found in re.findall(r"ghost use [^;]*;", text):
+        imports.read(" ".join(found.split()))
     items = {name: Item(crate, file, name, block) for name, block in _types(without_comments(text, "//"))}
     return SourceFile(imports, dict(_imported(crate, text)), items)
 
@@ -53,20 +53,11 @@ def imported_from(crates: Path, crate: str, name: str) -> str:
 
 
 def _imported(crate: str, text: str) -> Iterator[tuple[str, str]]:
+    modules = re.findall(r"^(?:pub )?mod (\w+);", text, re.MULTILINE)
     for path, names, name in RUST_USE.findall(text):
         source = path.split("::")[0]
         for each in (names or name).split(","):
-            yield each.strip(), crate if source == "crate" or path in _modules(text) else source
-
-
-def _modules(text: str) -> set[str]:
-    return set(re.findall(r"^(?:pub )?mod (\w+);", text, re.MULTILINE))
-
-
-def _whole_uses(text: str) -> Iterator[str]:
-    """Imports of definitions, each in one line."""
-    for found in re.finditer(r"ghost use [^;]*;", text):
-        yield " ".join(found.group().split())
+            yield each.strip(), crate if source == "crate" or path in modules else source
 
 
 def _types(text: str) -> Iterator[tuple[str, str]]:

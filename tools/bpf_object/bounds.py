@@ -9,7 +9,7 @@ from __future__ import annotations
 from typing import NamedTuple
 
 from .code import FRAME, FRAME_BYTES, LOOKUP, LOOP, Address, Alu, Atomic, Block, Branch, Call, Function, Insn, Load
-from .code import Number, Store, backward, loop_of, order_of, reads, successors, writes
+from .code import Number, Store, backward, finished, loop_of, order_of, reads, successors, writes
 from .counted import ANY, Counted, Known, Place, Plain, Slot, combine, cut, join_known, number
 from .counted import Counter, Test, range_in, trips
 from .inline import live_in_of
@@ -172,16 +172,11 @@ class Bounds:
 
     def _is_in_each_round(self, label: int, header: int) -> bool:
         """Whether all ways through a loop lead over a block of it."""
-        seen = {label}
-        waiting = [header] if header != label else []
-        while waiting:
-            for following in successors(self._function.blocks[waiting.pop()].end):
-                if following == header:
-                    return False
-                if following in self.loops[header].labels and following not in seen:
-                    seen.add(following)
-                    waiting.append(following)
-        return True
+        if header == label:
+            return True
+        labels, blocks = self.loops[header].labels, self._function.blocks
+        others = finished(header, lambda at: labels.intersection(successors(blocks[at].end)), {label})
+        return all(header not in successors(blocks[at].end) for at in others)
 
     def _lead(self, label: int, following: int, state: State) -> None:
         if self._place[following] > self._place[label]:

@@ -5,7 +5,8 @@ Registers are those of BPF. An address is that of a thing of `memory`, so that w
 
 from __future__ import annotations
 
-from collections.abc import Iterator
+from collections import deque
+from collections.abc import Callable, Iterable, Iterator
 from dataclasses import dataclass, field
 from typing import Any, NamedTuple, Union
 
@@ -274,21 +275,22 @@ def order_of(function: Function) -> list[int]:
 
     Of two successors the one that follows in the code, which isn't jumped to, comes first.
     """
-    done: list[int] = []
-    seen = {function.entry}
-    stack = [(function.entry, [*successors(function.blocks[function.entry].end)][::-1])]
+    return [*finished(function.entry, lambda label: successors(function.blocks[label].end), set())][::-1]
+
+
+def finished(start: int, following: Callable[[int], Iterable[int]], seen: set[int]) -> Iterator[int]:
+    """The labels that one leads to over such as weren't seen, each after those that it leads to."""
+    seen.add(start)
+    stack = [(start, iter(following(start)))]
     while stack:
-        label, waiting = stack[-1]
-        while waiting and waiting[-1] in seen:
-            waiting.pop()
-        if waiting:
-            following = waiting.pop()
-            seen.add(following)
-            stack.append((following, [*successors(function.blocks[following].end)][::-1]))
-        else:
-            done.append(label)
+        label, rest = stack[-1]
+        other = next((other for other in rest if other not in seen), None)
+        if other is None:
             stack.pop()
-    return done[::-1]
+            yield label
+        else:
+            seen.add(other)
+            stack.append((other, iter(following(other))))
 
 
 def backward(function: Function) -> Iterator[tuple[int, int]]:
@@ -308,12 +310,9 @@ def loop_of(function: Function, header: int) -> set[int]:
         for following in successors(function.blocks[label].end):
             leads.setdefault(following, []).append(label)
     labels = {header}
-    waiting = [label for label in leads.get(header, []) if place[label] >= place[header]]
-    while waiting:
-        label = waiting.pop()
-        if label not in labels:
-            labels.add(label)
-            waiting += leads.get(label, [])
+    for label in leads.get(header, []):
+        if place[label] >= place[header] and label not in labels:
+            deque(finished(label, lambda label: leads.get(label, []), labels), 0)
     return labels
 
 

@@ -2,10 +2,10 @@
 
 from __future__ import annotations
 
-from collections.abc import Iterable
+from collections.abc import Iterator
 from typing import NamedTuple
 
-from .code import Function, successors
+from .code import Function, finished, successors
 
 
 class Part(NamedTuple):
@@ -38,42 +38,16 @@ class Graph:
         """Whether a part leads to itself."""
         return len(part) > 1 or (part[0] in self._next[part[0]] and part[0] != header)
 
-    def _find(self, labels: frozenset[int], header: int | None) -> list[list[int]]:
-        """Tarjan's algorithm, without recursion."""
-        index: dict[int, int] = {}
-        low: dict[int, int] = {}
-        open_labels: list[int] = []
-        is_open: set[int] = set()
-        parts: list[list[int]] = []
-
-        def following(label: int) -> Iterable[int]:
-            return [n for n in self._next[label] if n in labels and n != header]
-
-        for root in sorted(labels):
-            if root in index:
-                continue
-            work = [(root, iter(following(root)))]
-            index[root] = low[root] = len(index)
-            open_labels.append(root)
-            is_open.add(root)
-            while work:
-                label, rest = work[-1]
-                for other in rest:
-                    if other not in index:
-                        index[other] = low[other] = len(index)
-                        open_labels.append(other)
-                        is_open.add(other)
-                        work.append((other, iter(following(other))))
-                        break
-                    if other in is_open:
-                        low[label] = min(low[label], index[other])
-                else:
-                    work.pop()
-                    if work:
-                        low[work[-1][0]] = min(low[work[-1][0]], low[label])
-                    if low[label] == index[label]:
-                        part = open_labels[open_labels.index(label) :]
-                        del open_labels[-len(part) :]
-                        is_open.difference_update(part)
-                        parts.append(part)
-        return parts[::-1]
+    def _find(self, labels: frozenset[int], header: int | None) -> Iterator[list[int]]:
+        """Kosaraju's algorithm: each part has first the label that was come to first."""
+        following = {label: [n for n in self._next[label] if n in labels and n != header] for label in labels}
+        leads: dict[int, list[int]] = {label: [] for label in labels}
+        for label, others in following.items():
+            for other in others:
+                leads[other].append(label)
+        seen: set[int] = set()
+        order = [label for root in sorted(labels) if root not in seen for label in finished(root, following.get, seen)]
+        taken: set[int] = set()
+        for root in reversed(order):
+            if root not in taken:
+                yield [*finished(root, leads.get, taken)][::-1]

@@ -2,7 +2,7 @@
 
 from __future__ import annotations
 
-from collections.abc import Iterator
+from collections.abc import Iterable, Iterator
 from itertools import groupby
 from typing import Any
 
@@ -82,39 +82,33 @@ def text_of(value: Value, kind: CType) -> str:
     return str(value)
 
 
+def _runs(texts: Iterable[str]) -> Iterator[tuple[str, int]]:
+    """Texts without those that repeat the one before, each with how often it is there in a row."""
+    return ((text, sum(1 for _ in group)) for text, group in groupby(texts))
+
+
 def _elements(values: list[Value], kind: CType) -> Iterator[str]:
-    for text, group in groupby(text_of(value, kind) for value in values):
-        count = sum(1 for _ in group)
-        if count >= REPEATS:
-            yield f"{text} <repeats {count} times>"
-        else:
-            yield from [text] * count
+    for text, count in _runs(text_of(value, kind) for value in values):
+        yield from [text] * count if count < REPEATS else [f"{text} <repeats {count} times>"]
 
 
 def _rows(values: list[Value], kind: CType) -> Iterator[str]:
     """The elements of an array in lines, each with the index that it begins at."""
     inner = kind.element if isinstance(kind, Array) else kind
-    texts = [text_of(value, inner) for value in values]
-    at = 0
-    while at < len(texts):
-        end = at + 1
-        while end < len(texts) and texts[end] == texts[at]:
-            end += 1
-        if end - at >= REPEATS:
-            yield f"  [{at}..{end - 1}] {texts[at]}"
-            at = end
+    at, line = 0, ""
+    for text, count in _runs(text_of(value, inner) for value in values):
+        if count >= REPEATS:
+            yield from filter(None, (line, f"  [{at}..{at + count - 1}] {text}"))
+            at, line = at + count, ""
             continue
-        line = f"  [{at}] {texts[at]}"
+        for at in range(at, at + count):
+            if line and isinstance(inner, Number) and len(line) + len(text) + 2 <= WIDTH:
+                line += f", {text}"
+            else:
+                yield from filter(None, (line,))
+                line = f"  [{at}] {text}"
         at += 1
-        is_flat = isinstance(inner, Number)
-        while is_flat and at < len(texts) and len(line) + len(texts[at]) + 2 <= WIDTH and not _repeats(texts, at):
-            line += f", {texts[at]}"
-            at += 1
-        yield line
-
-
-def _repeats(texts: list[str], at: int) -> bool:
-    return len(texts) - at >= REPEATS and all(text == texts[at] for text in texts[at : at + REPEATS])
+    yield from filter(None, (line,))
 
 
 def _members_by_name(kind: CType) -> Iterator[tuple[str, CType]]:

@@ -89,26 +89,10 @@ def _numbered_clang() -> str | None:
     return names[max(names)] if names else None
 
 
-def direct_step(files: Files, more: tuple[str, ...]) -> Step:
-    """What compiles a source at once."""
-    return Step((find_clang(), *FLAGS, *more, *_header_words(), "-c", files.source, "-o", files.target))
-
-
 def look_step(files: Files, more: tuple[str, ...]) -> Step:
     """What writes the IR that the back end would get, if a source is compiled at once."""
     words = (*FLAGS, *more, *_header_words(), "-S", "-emit-llvm", files.source, "-o", files.named("looked.ll"))
     return Step((find_clang(), *words))
-
-
-def ir_steps(files: Files, more: tuple[str, ...], lowering: str) -> Iterator[Step]:
-    """What compiles a source by its IR: front end, optimizer and back end, and before the last two what rewrites it."""
-    clang = find_clang()
-    read, callable_, optimized, lowered = map(files.named, ("x.ll", "callable.ll", "optimized.ll", "lowered.ll"))
-    yield Step((clang, *FRONT_END, *more, *_header_words(), files.source, "-o", read))
-    yield Step((LOWER, "functions"), read, callable_)
-    yield Step((clang, *OPTIMIZER, *more, callable_, "-o", optimized))
-    yield Step((LOWER, lowering), optimized, lowered)
-    yield Step((clang, *BACK_END, *more, lowered, "-o", files.target))
 
 
 @dataclass(frozen=True)
@@ -119,11 +103,17 @@ class Way:
     lowering: str | None = None
 
     def steps(self, files: Files) -> Iterator[Step]:
-        """What is run."""
+        """What is run: clang, or its front end, optimizer and back end, with what rewrites IR before the last two."""
+        clang, own = find_clang(), (*self.more, *_header_words())
         if self.lowering is None:
-            yield direct_step(files, self.more)
-        else:
-            yield from ir_steps(files, self.more, self.lowering)
+            yield Step((clang, *FLAGS, *own, "-c", files.source, "-o", files.target))
+            return
+        read, callable_, optimized, lowered = map(files.named, ("x.ll", "callable.ll", "optimized.ll", "lowered.ll"))
+        yield Step((clang, *FRONT_END, *own, files.source, "-o", read))
+        yield Step((LOWER, "functions"), read, callable_)
+        yield Step((clang, *OPTIMIZER, *self.more, callable_, "-o", optimized))
+        yield Step((LOWER, self.lowering), optimized, lowered)
+        yield Step((clang, *BACK_END, *self.more, lowered, "-o", files.target))
 
 
 def _header_words() -> tuple[str, ...]:

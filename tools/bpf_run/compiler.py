@@ -46,7 +46,7 @@ REASONS = (  # what the back end says of what isn't taken, and what to write
     (r"built-in function '(?P<name>\w+)'", "a call of {name} isn't taken: write a function of your own"),
 )
 SOURCES = (".c", ".i")
-MAGIC = b"\x7fELF"
+MAGIC = b"\x7fELF"  # of an object
 
 
 @dataclass(frozen=True)
@@ -60,11 +60,6 @@ class Compiled:
 
 class NotCompiled(Exception):
     """clang makes no object of a source; the text says why."""
-
-
-def is_object(data: bytes) -> bool:
-    """Whether bytes are an object's, and not a source's."""
-    return data.startswith(MAGIC)
 
 
 def test_source(path: str, data: bytes) -> None:
@@ -180,7 +175,7 @@ def _reason(said: str) -> str:
 def load_file(options: Options, clock: Clock, judge: Verify | None = None) -> tuple[Loaded, Way | None]:
     """The program, and the way that a source was compiled by: one to less code where there is no room for it."""
     data = read_file(options.file)
-    if is_object(data):
+    if data.startswith(MAGIC):
         return load(data, options.main, options.as_is, judge), None
     test_source(options.file, data)
     made = compiled(options.file, clock)

@@ -10,7 +10,7 @@ from explain.pages import Page
 from explain.reasons import unit_reasons
 from explain.records import Facts, Pair
 from explain.records import Loop as LoopFacts
-from explain.shown import escaped
+from explain.shown import counted, escaped
 
 from .report import AccessReport, ConflictReport, LoopReport, Program
 from .reports import Loop
@@ -113,15 +113,9 @@ def loop_line(loop: LoopReport) -> str:
     """A loop call in a line."""
     if loop.answer < 0:
         return f"loop at {loop.place}: refused, since {loop.refused}"
-    iterations = "1 iteration" if loop.answer == 1 else f"{loop.answer} iterations"
     verdict = loop.verdict
     if loop.conflicts:
-        verdict = conflict_words(loop.shown[0])
+        verdict = f"conflict at {loop.shown[0].name}{loop.shown[0].places}"
         others = loop.conflicts - 1
         verdict += f" and {others} more element{'s' * (others > 1)}" if others else ""
-    return f"loop at {loop.place}: {iterations}, {verdict}"
-
-
-def conflict_words(conflict: ConflictReport) -> str:
-    """A conflict by its name and lines."""
-    return f"conflict at {conflict.name}{conflict.places}"
+    return f"loop at {loop.place}: {counted(loop.answer, 'iteration')}, {verdict}"

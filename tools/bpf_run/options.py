@@ -63,7 +63,8 @@ def _argument_words(argument: int) -> list[str]:
 def read_options(words: list[str]) -> Options:
     """The options that words are; argparse reports what is wrong with them."""
     found = vars(_parser().parse_args([*_joined(words)]))
-    found["arguments"] = tuple(found.pop("arg", None) or [0])
+    argument = found.pop("arg", None) or 0
+    found["arguments"] = tuple(argument) if isinstance(argument, list) else (argument,)
     found["only"] = tuple(found.get("only") or ())
     names = Options.__dataclass_fields__
     return Options(**{name: found.get(name) for name in names})
@@ -100,8 +101,7 @@ def _add_options(command: argparse.ArgumentParser, name: str) -> None:
     if name in ("run", "explain", "unit"):
         command.add_argument("--load", metavar="FILE", help="initial values of variables, as --save writes them")
     if name in ("run", "explain"):
-        repeated = {"run": " (repeatable; variables carry over)"}.get(name, "")
-        action = "append" if name == "run" else _Last
+        repeated, action = (" (repeatable; variables carry over)", "append") if name == "run" else ("", "store")
         argument = _number(ARGUMENT_LEAST, ARGUMENT_END - 1, "doesn't fit 64 bits")
         about = f"main's argument, as 7, -1 or 0x10{repeated}"
         command.add_argument("--arg", metavar="N", type=argument, action=action, help=about)
@@ -122,11 +122,6 @@ def _add_options(command: argparse.ArgumentParser, name: str) -> None:
     if name == "explain":
         command.add_argument("--states", action="store_true", help="prints each instruction and its abstract state")
         command.add_argument("--all", action="store_true", help="prints up to 64 elements of each loop that conflicts")
-
-
-class _Last(argparse.Action):
-    def __call__(self, parser, space, value, option=None):  # type: ignore[no-untyped-def]
-        setattr(space, self.dest, [value])
 
 
 def _number(least: int, most: float, wrong: str) -> Callable[[str], int]:

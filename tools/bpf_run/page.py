@@ -49,7 +49,10 @@ def _page(report: Report, pictures: dict[int, str]) -> Iterator[str]:
         yield from _run(report, run)
     if report.loops and not report.runs:
         yield from _loops(report.loops)
-    yield from _sides(report)
+    yield '<div class="sides">'
+    yield from _source(report)
+    yield from _unit(report)
+    yield "</div>"
     yield from _drawn(report, pictures)
     if report.runs:
         yield from _variables(report.program, report.runs[0].before, report.runs[-1])
@@ -95,13 +98,6 @@ def _loops(loops: list[LoopReport]) -> Iterator[str]:
     yield "</ul>"
 
 
-def _sides(report: Report) -> Iterator[str]:
-    yield '<div class="sides">'
-    yield from _source(report)
-    yield from _unit(report)
-    yield "</div>"
-
-
 def _source(report: Report) -> Iterator[str]:
     """The lines of C; of each what is known at the instructions that it became."""
     known = defaultdict(list)
@@ -109,10 +105,12 @@ def _source(report: Report) -> Iterator[str]:
         at = place(report.program.line_at(line.slot))
         if at:
             known[at].append(f"{line.text}: {report.states.get(line.slot, '')}".rstrip(": "))
+    slot = report.refusal.slot if report.refusal else None
+    refused = None if slot is None else place(report.program.line_at(slot))
     yield '<section><h2>C</h2><div class="side source"><ol class="code">'
     for file, number, text in _source_lines(report.program):
         at = f"{file}:{number}"
-        yield _item(number, text, at if at in known else None, known.get(at, []), at == _refused_place(report))
+        yield _item(number, text, at if at in known else None, known.get(at, []), at == refused)
     yield "</ol></div></section>"
 
 
@@ -131,7 +129,7 @@ def _source_lines(program: Program) -> Iterator[tuple[str, int, str]]:
 
 
 def _unit(report: Report) -> Iterator[str]:
-    slots = report.program.unit.slot_of_line
+    slots = {line.number: line.slot for line in report.program.unit.lines}
     refused = report.refusal.slot if report.refusal else None
     yield '<section><h2>Unit</h2><div class="side unit"><ol class="code">'
     for number, text in enumerate(report.program.unit.text.splitlines(), 1):
@@ -150,12 +148,6 @@ def _item(number: object, text: str, at: str | None, known: list[str], is_refuse
     words += ' class="refused"' if is_refused else ""
     told = f'<span class="known">{escape(chr(10).join(known))}</span>' if known else ""
     return f'<li{words}><span class="number">{number}</span>{escape(text)}{told}</li>'
-
-
-def _refused_place(report: Report) -> str | None:
-    if report.refusal is None or report.refusal.slot is None:
-        return None
-    return place(report.program.line_at(report.refusal.slot))
 
 
 def _variables(program: Program, before: list[int], last: RunReport) -> Iterator[str]:

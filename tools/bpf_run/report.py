@@ -14,7 +14,7 @@ from .c_types import CType, Form, Number, type_of, type_of_variable
 from .c_values import Value, decoded, text_of
 from .most import Most
 from .reports import Refusal
-from .unit_text import UnitText, read_unit
+from .unit_text import UnitText
 
 ANSWER_BYTES = 8
 
@@ -46,11 +46,6 @@ class Program:
     @cached_property
     def _line_slots(self) -> list[int]:
         return sorted(self.loaded.lines)
-
-    @cached_property
-    def initial(self) -> list[int]:
-        """The words over all maps that the object has."""
-        return [word for words in self.loaded.initial for word in words]
 
     def line_at(self, slot: int) -> SourceLine | None:
         """The line of C of an instruction."""
@@ -162,11 +157,6 @@ class Report:
     runs: list[RunReport] = field(default_factory=list)
     loops: list[LoopReport] = field(default_factory=list)
     states: dict[int, str] = field(default_factory=dict)
-
-
-def make_program(file: str, main: str | None, loaded: Loaded) -> Program:
-    """A program of what the loader gave."""
-    return Program(file, main or loaded.programs[0], loaded, read_unit(loaded.unit))
 
 
 def place(line: SourceLine | None) -> str | None:

@@ -19,9 +19,9 @@ from .library import Machine, find_library
 from .most import NO_VALUES, most_of
 from .options import Options
 from .programs import Answer, Clock
-from .report import FunctionReport, LoopReport, Report, RunReport, make_program
+from .report import FunctionReport, LoopReport, Program, Report, RunReport
 from .reports import Function, Loop, Refusal, Run, read_run, read_verify
-from .unit_text import SHORT, VALUES, split, with_values
+from .unit_text import SHORT, VALUES, read_unit, split, with_values
 
 EXPLAIN_SECONDS = 60.0  # that a run's conflicts may take to be explained
 
@@ -43,7 +43,8 @@ class Session:
         self._bpfspec = find_program()
         self._library = find_library()
         self._verdicts: dict[str, list[Function] | Refusal] = {}
-        self.program = make_program(options.file, options.main, load_file(options, clock, self._judge)[0])
+        loaded, _ = load_file(options, clock, self._judge)
+        self.program = Program(options.file, options.main or loaded.programs[0], loaded, read_unit(loaded.unit))
         self.report = Report(self.program)
         self.words = state.loaded_words(self.program, options.load)
 
@@ -181,7 +182,8 @@ class Session:
     def _name(self, slot: int, number: int) -> str:
         if slot == 0:
             return self.program.name
-        return self.program.unit.label_at(slot) or f"function {number}"
+        label = next((line.label for line in self.program.unit.lines if line.slot == slot), None)
+        return label or f"function {number}"
 
     def _loops(self, loops: list[Loop], argument: int, values: str) -> Iterator[LoopReport]:
         """The loops of a run, with the accesses that show why they conflict, unless it takes too long to find them."""

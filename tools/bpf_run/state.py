@@ -18,7 +18,7 @@ STATE_LIMIT = 1 << 24  # bytes
 
 def loaded_words(program: Program, path: str | None) -> list[int]:
     """The words over all maps: those of the object, with the values of a file put into them."""
-    words = [*program.initial]
+    words = [word for words in program.loaded.initial for word in words]
     if path is None:
         return words
     for name, value in _read(path).items():
@@ -47,17 +47,12 @@ def save(program: Program, words: list[int], path: str) -> None:
     try:
         with os.fdopen(descriptor, "w") as file:
             file.write(text)
-        os.chmod(new, 0o666 & ~_umask())
+        os.umask(mask := os.umask(0))
+        os.chmod(new, 0o666 & ~mask)
         os.replace(new, target)
     except BaseException:
         os.unlink(new)
         raise
-
-
-def _umask() -> int:
-    mask = os.umask(0)
-    os.umask(mask)
-    return mask
 
 
 def _read(path: str) -> dict[str, object]:

@@ -4,6 +4,8 @@ from __future__ import annotations
 
 from collections.abc import Iterator
 
+from explain.shown import counted
+
 from .c_values import lines_of
 from .explained import loop_line
 from .report import Program, Report, RunReport, place
@@ -38,16 +40,15 @@ def verify_lines(report: Report) -> Iterator[str]:
     yield "accepted"
     for function in report.functions:
         at = place(function.line) or f"slot {function.slot}"
-        yield f"{function.name} at {at}: at most {_instructions(function.count)}"
+        yield f"{function.name} at {at}: at most {counted(function.count, 'instruction')}"
     if report.most:
         for loop in report.most.loops:
-            times = "iteration" if loop.iterations == 1 else "iterations"
-            yield f"loop at {report.program.place_at(loop.slot)}: at most {loop.iterations} {times}"
+            yield f"loop at {report.program.place_at(loop.slot)}: at most {counted(loop.iterations, 'iteration')}"
 
 
 def most_line(report: Report) -> str:
     """The most instructions of a run."""
-    return f"at most {_instructions(report.most.instructions if report.most else 0)}"
+    return f"at most {counted(report.most.instructions if report.most else 0, 'instruction')}"
 
 
 def limit_line(report: Report) -> str:
@@ -80,7 +81,3 @@ def explain_lines(report: Report) -> Iterator[str]:
     yield from report.reasons
     for run in report.runs:
         yield f"trap at {run.trap}"
-
-
-def _instructions(count: int) -> str:
-    return "1 instruction" if count == 1 else f"{count} instructions"

@@ -29,16 +29,8 @@ class UnitText:
     lines: tuple[UnitLine, ...]
 
     @property
-    def slot_of_line(self) -> dict[int, int]:
-        return {line.number: line.slot for line in self.lines}
-
-    @property
     def loop_slots(self) -> list[int]:
         return [line.slot for line in self.lines if line.text == LOOP]
-
-    def label_at(self, slot: int) -> str | None:
-        """The label of the instruction at a slot."""
-        return next((line.label for line in self.lines if line.slot == slot), None)
 
 
 def read_unit(text: str) -> UnitText:

@@ -22,7 +22,9 @@ Name = tuple[str, str, str]
 
 def hinted(text: str, repository: Repository, libraries: list[str]) -> str:
     """The module with these attributes on its functions."""
-    hints = {name: hint for crate in libraries for name, hint in _hints(repository.top / "crates" / crate)}
+    folders = {crate: repository.top / "crates" / crate / "src" for crate in libraries}
+    files = ((crate, path) for crate, folder in folders.items() for path in sorted(folder.rglob("*.rt")))
+    hints = {name: hint for crate, path in files for name, hint in _of_file(crate, path)}
     return DEFINED.sub(lambda found: f"{found[1]}{_of_function(found[2], hints)}{found[3]}", text)
 
 
@@ -33,11 +35,6 @@ def _of_function(path: str, hints: dict[Name, str]) -> str:
         if end >= 3 and (hint := hints.get((parts[0], parts[end - 2], parts[end - 1]))):
             return f" {hint}"
     return ""
-
-
-def _hints(crate: Path) -> Iterator[tuple[Name, str]]:
-    for path in sorted((crate / "src").rglob("*.rt")):
-        yield from _of_file(crate.name, path)
 
 
 def _of_file(crate: str, path: Path) -> Iterator[tuple[Name, str]]:

@@ -30,15 +30,6 @@ class Definitions:
     comments: dict[str, str] = field(default_factory=dict)  # by name, in order; empty where there is none
     imports: Imports = field(default_factory=Imports)
 
-    @property
-    def has_rows(self) -> bool:
-        """Whether it has worked values, which nothing else stands on."""
-        return self.file.endswith("Rows")
-
-    def cites(self, crates: Crates) -> Iterator[Item]:
-        """The definitions of other files that it imports."""
-        return crates.imported(self.imports)
-
     def only(self, names: set[Item]) -> dict[str, str]:
         """The comments of those of its definitions that are among the names, or that a comment below speaks of."""
         taken: dict[str, str] = {}

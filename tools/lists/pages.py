@@ -59,7 +59,8 @@ class Lists:
         names = {name for calls in self.calls.values() for call in calls for name in call.cites()}
         for crate, files in self.definitions.items():
             names.update(cited_by_types(self.crates, crate))
-            names.update(name for file in files if not file.has_rows for name in file.cites(self.crates))
+            standing = (file for file in files if not file.file.endswith("Rows"))  # those have worked values alone
+            names.update(name for file in standing for name in self.crates.imported(file.imports))
         return names.union(item for item in self.crates.reached(*HEADLINE) if not item.is_type)
 
     def definitions_page(self, root: str) -> list[str]:

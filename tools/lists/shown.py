@@ -2,16 +2,16 @@
 
 from __future__ import annotations
 
-import re
 from collections.abc import Callable, Iterable, Iterator
 from itertools import groupby
 
 from base.items import Item
+from pages.prose import slug
 
 from .calls import Call, Clause
 from .crates import Group
 from .definitions import Definitions
-from .promises import Edit, Promise
+from .promises import Promise
 
 
 def by_crate(groups: Iterable[Group], lines_of: Callable[[str], list[str]]) -> list[str]:
@@ -24,12 +24,7 @@ def by_crate(groups: Iterable[Group], lines_of: Callable[[str], list[str]]) -> l
         if below:
             titles.append(group.title)
             made += [f"## {group.title}", "", *below]
-    return [" · ".join(f"[{title}](#{_anchor(title)})" for title in titles), "", *made]
-
-
-def _anchor(title: str) -> str:
-    """What a link to a heading names."""
-    return re.sub(r"[^\w -]", "", title.lower()).replace(" ", "-")
+    return [" · ".join(f"[{title}](#{slug(title)})" for title in titles), "", *made]
 
 
 def shown_definitions(file: Definitions, comments: dict[str, str], root: str) -> list[str]:
@@ -81,12 +76,7 @@ def shown_promises(promises: Iterable[Promise]) -> list[str]:
     """A table under each heading that has edits: a row for each edit, in the order of the guarantees."""
     lines: list[str] = []
     for heading, below in groupby(promises, lambda promise: promise.heading):
-        rows = [_edit(edit) for promise in below for edit in promise.edits]
+        rows = [f"|{edit.promise}|`{edit.name}`|`{edit.crate}`|" for promise in below for edit in promise.edits]
         if rows:
             lines += [f"## {heading}", "", "|Guarantee|Mutant|Crate|", "|---|---|---|", *rows, ""]
     return lines
-
-
-def _edit(edit: Edit) -> str:
-    """An edit as a row of a table."""
-    return f"|{edit.promise}|`{edit.name}`|`{edit.crate}`|"

@@ -94,7 +94,12 @@ def anchors(page: str) -> set[str]:
     for line in prose_lines(page):
         found.update(ANCHOR.findall(line.text))
         if heading := HEADING.match(line.text):
-            slug = re.sub(r"[^\w -]", "", _shown(heading.group(1)).lower()).replace(" ", "-")
-            count = counts[slug] = counts.get(slug, -1) + 1
-            found.add(f"{slug}-{count}" if count else slug)
+            name = slug(_shown(heading.group(1)))
+            count = counts[name] = counts.get(name, -1) + 1
+            found.add(f"{name}-{count}" if count else name)
     return found
+
+
+def slug(title: str) -> str:
+    """What a link to a heading names."""
+    return re.sub(r"[^\w -]", "", title.lower()).replace(" ", "-")

@@ -4,6 +4,7 @@ from __future__ import annotations
 
 import re
 from dataclasses import dataclass
+from itertools import takewhile
 from pathlib import Path
 
 INDENT, COMMAND = "    ", "    $ "
@@ -43,22 +44,14 @@ def read_page(page: Path, text: str) -> list[Command | Source]:
         if line.startswith(COMMAND):
             found.append(Command(page, number + 1, line[len(COMMAND) :], _output(rest)))
         elif line == SOURCE_FENCE and (name := SOURCE_NAME.fullmatch(rest[0])):
-            found.append(Source(name.group(1), _until_fence(rest)))
+            found.append(Source(name.group(1), "".join(f"{line}\n" for line in rest[: rest.index(FENCE)])))
     return found
 
 
 def _output(lines: list[str]) -> str:
     """The indented lines up to the next command, or up to the first that isn't indented."""
-    output = ""
-    for line in lines:
-        if not line.startswith(INDENT) or line.startswith(COMMAND):
-            break
-        output += line[len(INDENT) :] + "\n"
-    return output
-
-
-def _until_fence(lines: list[str]) -> str:
-    return "".join(line + "\n" for line in lines[: lines.index(FENCE)])
+    of_command = takewhile(lambda line: line.startswith(INDENT) and not line.startswith(COMMAND), lines)
+    return "".join(f"{line[len(INDENT) :]}\n" for line in of_command)
 
 
 def _pattern(shown: str) -> str:

@@ -36,7 +36,9 @@ def _commands(top: Path, path: Path) -> list[str]:
     if name.endswith(OUT) and has_object:
         return _by_each_way(_input(top, path))
     if name.endswith(OUT):
-        return [f"./bpfspec {'replay' if _has_events(path.with_suffix(UNIT)) else 'order'}{_input(top, path)}"]
+        unit = path.with_suffix(UNIT)
+        has_events = unit.is_file() and unit.read_text(encoding="utf-8").splitlines().count(PARTED) > 1
+        return [f"./bpfspec {'replay' if has_events else 'order'}{_input(top, path)}"]
     if name.endswith(PICTURE):
         return [f"./bpfspec explain --picture{_input(top, path)}"]
     return []
@@ -44,10 +46,6 @@ def _commands(top: Path, path: Path) -> list[str]:
 
 def _by_each_way(given: str) -> list[str]:
     return [f"./bpfspec run --way {way}{given}" for way in WAYS]
-
-
-def _has_events(unit: Path) -> bool:
-    return unit.is_file() and unit.read_text(encoding="utf-8").splitlines().count(PARTED) > 1
 
 
 def _input(top: Path, path: Path) -> str:
