@@ -54,21 +54,19 @@ class AccessLines:
 
     def write(self, touch: Touch, live: int) -> None:
         """An access, with the registers that are live behind it."""
-        self._write(touch, live)
-        self.forget(writes_of(touch))
-
-    def _write(self, touch: Touch, live: int) -> None:
         insn, plan = touch.insn, touch.plan
-        if touch.is_native or plan.where is Where.FRAME:
-            base, offset = (FRAME, plan.at) if plan.where is Where.FRAME else (insn.base, insn.offset)
-            self._plain(insn, base, offset)
-            return
-        self._begin(touch, live)
-        if plan.where is Where.EXACT:
-            self._exact(touch)
+        if plan.where is Where.FRAME:
+            self._plain(insn, FRAME, plan.at)
+        elif touch.is_native:
+            self._plain(insn, insn.base, insn.offset)
         else:
-            self._flat(touch, live)
-        self._restore(touch)
+            self._begin(touch, live)
+            if plan.where is Where.EXACT:
+                self._exact(touch)
+            else:
+                self._flat(touch, live)
+            self._restore(touch)
+        self.forget(writes_of(touch))
 
     def _begin(self, touch: Touch, live: int) -> None:
         """Finds the registers that may be used: a load's own too, where it isn't its base."""

@@ -2,6 +2,7 @@
 
 from __future__ import annotations
 
+from dataclasses import dataclass
 from typing import NamedTuple, Optional
 
 from .access import Planner
@@ -20,12 +21,14 @@ BYTE_LIMIT = 524288  # that an address in a map may be moved up to
 ROOM_LIMIT = 1 << 16  # bytes in front of a thing that are left out for addresses
 HELPERS = {2: "bpf_map_update_elem", 3: "bpf_map_delete_elem", 5: "bpf_ktime_get_ns", 6: "bpf_trace_printk"}
 HELPERS.update({7: "bpf_get_prandom_u32", 12: "bpf_tail_call", 14: "bpf_get_current_pid_tgid"})
+
+
+@dataclass
 class Entry:
     """What a callback is given by all calls that name it."""
 
-    def __init__(self, count: Range, context: Value) -> None:
-        self.count = count
-        self.context = context
+    count: Range
+    context: Value
 
     def join(self, count: Range, context: Value) -> None:
         """Another call names it."""

@@ -172,13 +172,10 @@ def _at_lines(rewritten: Rewritten) -> Iterator[str]:
     for function in rewritten.functions.values():
         for insn in function.insns:
             if isinstance(insn, Touch) and insn.plan.where is not Where.FRAME:
-                found |= {(*_place(insn.line), text) for text in _texts(insn, rewritten)}
+                place = (insn.line.file, insn.line.number) if insn.line else ("", 0)
+                found |= {(*place, text) for text in _texts(insn, rewritten)}
     for file, number, text in sorted(found):
         yield f"{file}:{number}: {text}" if file else text
-
-
-def _place(line: SourceLine | None) -> tuple[str, int]:
-    return (line.file, line.number) if line else ("", 0)
 
 
 def _texts(touch: Touch, rewritten: Rewritten) -> Iterator[str]:

@@ -3,6 +3,7 @@
 from __future__ import annotations
 
 from collections.abc import Iterable
+from copy import deepcopy
 from dataclasses import dataclass, field
 
 from .values import VAGUE, Things
@@ -30,10 +31,7 @@ class Facts:
 
     def copy(self) -> Facts:
         """The facts as they are now, which don't grow with these."""
-        known = {name: value.copy() for name, value in vars(self).items() if isinstance(value, (set, dict))}
-        found = Facts(**{name: value for name, value in known.items() if not name.startswith("_")})
-        found._groups, found.version = known["_groups"], self.version
-        return found
+        return deepcopy(self)
 
     def forget(self, functions: set[int], things: set[int]) -> None:
         """Functions are other ones now, and things are gone."""

@@ -39,7 +39,7 @@ def fit(memory: Memory, functions: dict[int, Function], choices: Iterable[set[in
             if not fitting.mender.was_spread:
                 break  # the next choice does the same
             continue
-        if fitting.is_enough(done) or not fitting.mender.is_spread:
+        if fitting.is_enough(done) or not fitting.mender.spread:
             return emitted
         rounds = min(done.copied[loop] for loop in done.cut)
         if best is None or rounds > best[0]:

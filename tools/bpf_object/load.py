@@ -12,17 +12,14 @@ from .code import Function, line_text
 from .elf import Object
 from .fit import fit
 from .inline import inline
-from .loaded import Loaded, Trap
+from .loaded import Loaded
 from .memory import Memory
 from .plain import plain
-from .program import Fault, Verify
+from .program import Verify
 from .program import verify as ask
 from .read import Reader
 from .refusal import Refused
 from .unit import load_as_is, main_functions, types_of
-from .variables import Variable
-
-__all__ = ["Loaded", "Refused", "Trap", "Variable", "load"]
 
 # What no object should lead to, since all is tested before it is used; still no object gets a trace.
 UNFORESEEN = (struct.error, ArithmeticError, LookupError, MemoryError, RecursionError)
@@ -97,10 +94,6 @@ def _planned(memory: Memory, functions: dict[int, Function], programs: list[str]
     loaded = fit(memory, functions, SPREAD_SIZES).loaded(programs)
     fault = judge(loaded.unit)
     if fault is not None:
-        raise Refused(_told(fault, loaded))
+        line = next((loaded.lines[slot] for slot in range(fault.slot, -1, -1) if slot in loaded.lines), None)
+        raise Refused(f"{line_text(line)}refused {fault.rule} at slot {fault.slot} of the rewritten program")
     return loaded
-
-
-def _told(fault: Fault, loaded: Loaded) -> str:
-    line = next((loaded.lines[slot] for slot in range(fault.slot, -1, -1) if slot in loaded.lines), None)
-    return f"{line_text(line)}refused {fault.rule} at slot {fault.slot} of the rewritten program"

@@ -123,7 +123,9 @@ def _declared(btf: Btf, name: str, offset: int, structure: Type) -> Declared:
     key_size = _part_size(btf, members, "key")
     if key_size != KEY_BYTES:
         raise Refused(f"has keys of {key_size} bytes, and only those of {KEY_BYTES} are taken")
-    entries = _tested_elements(btf.array_length(_member(members, "max_entries")))
+    entries = btf.array_length(_member(members, "max_entries"))
+    if not 0 < entries <= ELEMENTS_LIMIT:
+        raise Refused(f"has {entries} elements, where 1 to {ELEMENTS_LIMIT} are taken")
     value_size = _part_size(btf, members, "value")
     if value_size <= 0:
         raise Refused("has values without a size")
@@ -154,9 +156,3 @@ def _section_maps(obj: Object) -> Iterator[ArrayMap]:
 def _test_number(maps: int) -> None:
     if maps > MAPS_LIMIT:
         raise Refused(f"{maps} maps, of at most {MAPS_LIMIT}")
-
-
-def _tested_elements(elements: int) -> int:
-    if not 0 < elements <= ELEMENTS_LIMIT:
-        raise Refused(f"has {elements} elements, where 1 to {ELEMENTS_LIMIT} are taken")
-    return elements

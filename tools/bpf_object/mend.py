@@ -7,7 +7,7 @@ from dataclasses import dataclass
 from .access import Planner, Traps
 from .analysis import Analysis, Entry, Results
 from .code import FRAME_BYTES, Function
-from .facts import Facts, Followed
+from .facts import Facts
 from .layout import Layout, spread_groups
 from .memory import ARGUMENT, Kind, Memory, Thing
 from .ranges import TOP, exact
@@ -52,7 +52,7 @@ class Mender:
             for target, _ in thing.pointers.values():
                 self.facts.use((target,))
                 self.facts.escape(frozenset((target,)))
-        self._spread: set[int] = set()
+        self.spread: set[int] = set()  # the groups of things whose values have an element each
         self.was_spread = False  # whether any value had an element of its own in any round
         self._is_tried = False
         self._layout: Layout | None = None  # of the round before
@@ -79,11 +79,6 @@ class Mender:
         found = {number: self._known[number, function.name] for number, function in functions.items()}
         return {number: one[0] for number, one in found.items()}, {number: one[1] for number, one in found.items()}
 
-    @property
-    def is_spread(self) -> bool:
-        """Whether any value has an element of its own."""
-        return bool(self._spread)
-
     def run(self, budget: int, rounds: dict[Loop, int]) -> Rewritten:
         """The program with plans that agree with its layout, the first time by few rounds of its loops before."""
         if not self._is_tried:
@@ -93,21 +88,18 @@ class Mender:
 
     def _settle(self, budget: int, rounds: dict[Loop, int], is_trial: bool) -> Rewritten:
         for _ in range(TRIES):
-            version, followed = self.facts.version, self.facts.followed()
-            layout = Layout(self._memory, self.facts, self._spread)
+            followed = self.facts.followed()
+            layout = Layout(self._memory, self.facts, self.spread)
             done = self._round(layout, Limits(budget, rounds, is_trial))
-            if self.facts.version == version or self._is_settled(layout, followed):
+            is_followed = self.facts.followed() == followed  # a round with all that is known by now would be the same
+            if is_followed and Layout(self._memory, self.facts, self.spread).is_as(layout):
                 spread = spread_groups(self._memory, self.facts, self._sizes)
-                if spread == self._spread:
+                if spread == self.spread:
                     done.facts = self.facts.copy()
                     return done
-                self._spread = spread
+                self.spread = spread
                 self.was_spread |= bool(spread)
         raise Refused("the program's variables have no layout that all its accesses agree with")
-
-    def _is_settled(self, layout: Layout, followed: Followed) -> bool:
-        """Whether a round with all facts that are known by now would be the same."""
-        return self.facts.followed() == followed and Layout(self._memory, self.facts, self._spread).is_as(layout)
 
     def _round(self, layout: Layout, limits: Limits) -> Rewritten:
         if self._layout is None or not layout.is_as(self._layout):

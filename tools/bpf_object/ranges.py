@@ -68,10 +68,6 @@ def low32(r: Range) -> Range:
     return exact(r.lo & LOW) if r.lo == r.hi else top(32)
 
 
-def _divided(a: int, b: int) -> int:
-    return a // b if b else 0
-
-
 def _signed_divided(a: int, b: int) -> int:
     if not b:
         return 0
@@ -87,7 +83,7 @@ NUMBERS: dict[str, Callable[[int, int, int], int]] = {
     "add": lambda a, b, w: a + b,
     "sub": lambda a, b, w: a - b,
     "mul": lambda a, b, w: a * b,
-    "div": lambda a, b, w: _divided(a, b),
+    "div": lambda a, b, w: a // b if b else 0,
     "mod": lambda a, b, w: a % b if b else a,
     "sdiv": lambda a, b, w: _signed_divided(signed(a, w), signed(b, w)),
     "smod": lambda a, b, w: _signed_rest(signed(a, w), signed(b, w)),
@@ -102,10 +98,6 @@ NUMBERS: dict[str, Callable[[int, int, int], int]] = {
 }
 
 
-def _reversed(number: int, bits: int) -> int:
-    return int.from_bytes((number & ((1 << bits) - 1)).to_bytes(bits // 8, "little"), "big")
-
-
 def compute(op: str, width: int, a: int, b: int) -> int:
     """The meaning of an arithmetic instruction; b is the operand, and a what the destination has."""
     mask = (1 << width) - 1
@@ -115,7 +107,8 @@ def compute(op: str, width: int, a: int, b: int) -> int:
         return signed(b, int(op[4:])) & mask
     if op.startswith("le"):
         return a & ((1 << int(op[2:])) - 1)
-    return _reversed(a, int(op[2:] if op.startswith("be") else op[4:]))
+    bits = int(op[2:] if op.startswith("be") else op[4:])
+    return int.from_bytes((a & ((1 << bits) - 1)).to_bytes(bits // 8, "little"), "big")
 
 
 def alu(op: str, width: int, a: Range, b: Range) -> Range:
@@ -143,25 +136,9 @@ def _byte_order(op: str, a: Range) -> Range:
     return a if op.startswith("le") and a.hi < 1 << bits else top(bits)
 
 
-def _add(w: int, a: Range, b: Range) -> Range:
-    z = min(a.z, b.z)
-    if a.hi + b.hi < 1 << w:
-        return norm(a.lo + b.lo, a.hi + b.hi, z)
-    return norm(0, (1 << w) - 1, z)
-
-
-def _sub(w: int, a: Range, b: Range) -> Range:
-    z = min(a.z, b.z)
-    if a.lo >= b.hi:
-        return norm(a.lo - b.hi, a.hi - b.lo, z)
-    return norm(0, (1 << w) - 1, z)
-
-
-def _mul(w: int, a: Range, b: Range) -> Range:
-    z = min(a.z + b.z, BITS)
-    if a.hi * b.hi < 1 << w:
-        return norm(a.lo * b.lo, a.hi * b.hi, z)
-    return norm(0, (1 << w) - 1, z)
+def _within(w: int, lo: int, hi: int, z: int) -> Range:
+    """The multiples of 2^z within two bounds, or of all numbers of a width where these pass what it has."""
+    return norm(lo, hi, z) if 0 <= lo and hi < 1 << w else norm(0, (1 << w) - 1, z)
 
 
 def _div(w: int, a: Range, b: Range) -> Range:
@@ -180,9 +157,7 @@ def _lsh(w: int, a: Range, b: Range) -> Range:
     if b.lo != b.hi:
         return norm(0, (1 << w) - 1, a.z)
     s = b.lo & (w - 1)
-    if a.hi << s < 1 << w:
-        return norm(a.lo << s, a.hi << s, min(a.z + s, BITS))
-    return norm(0, (1 << w) - 1, min(a.z + s, BITS))
+    return _within(w, a.lo << s, a.hi << s, a.z + s)
 
 
 def _rsh(w: int, a: Range, b: Range) -> Range:
@@ -193,9 +168,9 @@ def _rsh(w: int, a: Range, b: Range) -> Range:
 
 
 TABLE: dict[str, Callable[[int, Range, Range], Range]] = {
-    "add": _add,
-    "sub": _sub,
-    "mul": _mul,
+    "add": lambda w, a, b: _within(w, a.lo + b.lo, a.hi + b.hi, min(a.z, b.z)),
+    "sub": lambda w, a, b: _within(w, a.lo - b.hi, a.hi - b.lo, min(a.z, b.z)),
+    "mul": lambda w, a, b: _within(w, a.lo * b.lo, a.hi * b.hi, a.z + b.z),
     "div": _div,
     "mod": _mod,
     "sdiv": lambda w, a, b: top(w),

@@ -38,13 +38,13 @@ class TooMany(Exception):
         self.functions = [*functions]
 
 
+@dataclass
 class Limits:
     """How much is copied at most."""
 
-    def __init__(self, budget: int, rounds: dict[Loop, int], is_trial: bool = False) -> None:
-        self.budget = budget  # instructions of the whole program
-        self.rounds = rounds  # of a loop; one that isn't here has all of its rounds copied
-        self.is_trial = is_trial  # all loops have few rounds, and nothing is refused
+    budget: int  # instructions of the whole program
+    rounds: dict[Loop, int]  # of a loop; one that isn't here has all of its rounds copied
+    is_trial: bool = False  # all loops have few rounds, and nothing is refused
 
     def longest(self, copied: dict[Loop, int]) -> Loop | None:
         """The loop with the most rounds, of those that have all of theirs copied."""

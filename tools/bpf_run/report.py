@@ -8,7 +8,8 @@ from dataclasses import dataclass, field
 from functools import cached_property
 
 from bpf_object.btf import SourceLine
-from bpf_object.load import Loaded, Variable
+from bpf_object.loaded import Loaded
+from bpf_object.variables import Variable
 
 from .c_types import CType, Form, Number, type_of, type_of_variable
 from .c_values import Value, decoded, text_of

@@ -62,12 +62,10 @@ def read_calls(crates: Crates, crate: str) -> list[Call]:
     path = crates.folder / crate / "src" / "lib.rt"
     root = path.read_text(encoding="utf-8") if path.is_file() else ""
     calls = ((file, call) for file in sources(crates, crate) for call in _calls_in(crates, crate, file))
-    return [call for file, call in calls if _is_offered(root, file, call.name.partition("::")[0])]
-
-
-def _is_offered(root: str, file: str, name: str) -> bool:
-    """Whether the root of a crate names what a file has, or makes all of that file public."""
-    return bool(re.search(rf"\b{name}\b|^pub mod {PurePath(file).stem};", root, re.MULTILINE))
+    # The root of a crate names what a file offers, or makes all of that file public.
+    offered = r"\b{}\b|^pub mod {};"
+    names = ((call, call.name.partition("::")[0], PurePath(file).stem) for file, call in calls)
+    return [call for call, name, module in names if re.search(offered.format(name, module), root, re.MULTILINE)]
 
 
 def _calls_in(crates: Crates, crate: str, file: str) -> Iterator[Call]:
