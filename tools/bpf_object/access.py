@@ -24,15 +24,16 @@ class Traps:
     """The traps of a unit, by their numbers from 1."""
 
     def __init__(self) -> None:
-        self.all: list[Trap] = []
         self._numbers: dict[Trap, int] = {}
+
+    @property
+    def all(self) -> list[Trap]:
+        """The traps in the order of their numbers."""
+        return [*self._numbers]
 
     def number(self, trap: Trap) -> int:
         """The number of a trap; equal ones have one."""
-        if trap not in self._numbers:
-            self.all.append(trap)
-            self._numbers[trap] = len(self.all)
-        return self._numbers[trap]
+        return self._numbers.setdefault(trap, len(self._numbers) + 1)
 
 
 class Planner:

@@ -3,7 +3,6 @@
 from __future__ import annotations
 
 from collections.abc import Iterable
-from copy import deepcopy
 from dataclasses import dataclass, field
 
 from .values import VAGUE, Things
@@ -27,11 +26,6 @@ class Facts:
     undefined: set[tuple[int, int]] = field(default_factory=set)  # a function, and a register that is read unwritten
     unwritten: set[tuple[int, int]] = field(default_factory=set)  # a function, and 8 bytes of its frame likewise
     _groups: dict[int, int] = field(default_factory=dict)
-    version: int = 0  # rises with each new fact
-
-    def copy(self) -> Facts:
-        """The facts as they are now, which don't grow with these."""
-        return deepcopy(self)
 
     def forget(self, functions: set[int], things: set[int]) -> None:
         """Functions are other ones now, and things are gone."""
@@ -48,65 +42,55 @@ class Facts:
 
     def escape(self, things: Things) -> None:
         """An address in these things is stored where it isn't followed."""
-        self._add(self.escaped, things - VAGUE)
+        self.escaped |= things - VAGUE
 
     def move(self, frame: int) -> None:
         """A frame is needed in the map."""
-        self._add(self.moved, (frame,))
+        self.moved.add(frame)
 
     def use(self, things: Iterable[int]) -> None:
         """Things that have to have a place."""
-        self._add(self.used, things)
+        self.used.update(things)
 
     def take(self, frame: int, byte: int) -> None:
         """The address of a byte of a frame leads where it isn't followed."""
         byte = max(0, byte) // 8 * 8
-        if byte < self.taken.get(frame, 1 << 30):
-            self.taken[frame] = byte
-            self.version += 1
+        self.taken[frame] = min(byte, self.taken.get(frame, byte))
 
     def keep_room(self, things: Iterable[int], size: int) -> None:
         """Addresses of so many bytes below these things are computed."""
         for thing in things:
-            if size > self.room.get(thing, 0):
-                self.room[thing] = size
-                self.version += 1
+            self.room[thing] = max(size, self.room.get(thing, 0))
 
     def access(self, things: Iterable[int], size: int, is_even: bool, is_varied: bool) -> None:
         """An access of some bytes, at an address that may not be one alone."""
         for thing in things:
-            self._add(self.sizes.setdefault(thing, set()), (size,))
+            self.sizes.setdefault(thing, set()).add(size)
             if not is_even:
-                self._add(self.uneven, (thing,))
+                self.uneven.add(thing)
             if is_varied:
-                self._add(self.varied, (thing,))
+                self.varied.add(thing)
 
     def hide(self, callback: int) -> None:
         """A callback is given several ctx."""
-        self._add(self.hidden, (callback,))
+        self.hidden.add(callback)
 
     def leave_undefined(self, function: int, register: int) -> None:
         """A register is read before it is written."""
-        self._add(self.undefined, ((function, register),))
+        self.undefined.add((function, register))
 
     def leave_unwritten(self, function: int, byte: int) -> None:
         """A byte of a frame is read before it is written."""
-        self._add(self.unwritten, ((function, byte // 8 * 8),))
+        self.unwritten.add((function, byte // 8 * 8))
 
     def together(self, things: Iterable[int]) -> None:
         """One instruction may be led to any of these things, or compares their addresses."""
         roots = sorted({self.group(thing) for thing in things})
         for root in roots[1:]:
             self._groups[root] = roots[0]
-            self.version += 1
 
     def group(self, thing: int) -> int:
         """A thing that stands for all of its group."""
         while thing in self._groups:
             thing = self._groups[thing]
         return thing
-
-    def _add(self, known: set, new: Iterable) -> None:
-        before = len(known)
-        known.update(new)
-        self.version += len(known) - before

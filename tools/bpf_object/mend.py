@@ -2,6 +2,7 @@
 
 from __future__ import annotations
 
+from copy import deepcopy
 from dataclasses import dataclass
 
 from .access import Planner, Traps
@@ -95,7 +96,7 @@ class Mender:
             if is_followed and Layout(self._memory, self.facts, self.spread).is_as(layout):
                 spread = spread_groups(self._memory, self.facts, self._sizes)
                 if spread == self.spread:
-                    done.facts = self.facts.copy()
+                    done.facts = deepcopy(self.facts)  # as they are now
                     return done
                 self.spread = spread
                 self.was_spread |= bool(spread)

@@ -4,7 +4,7 @@ from __future__ import annotations
 
 from dataclasses import dataclass
 
-from .btf import SourceLine, source_lines
+from .btf import SourceLine
 from .code import Address, Alu, Atomic, Block, Branch, Call, CallLocal, CodeOf, End, Exit, Function, Goto, Insn, Load
 from .code import MapOf, Number, Store, line_text
 from .elf import R_BPF_64_32, R_BPF_64_64, STT_FUNC, Object, Relocation, Section, Symbol
@@ -14,6 +14,7 @@ from .insns import SIGNED, SIZES, SLOT, ST, WORD, line_of, read_insns
 from .insns import Insn as Raw
 from .memory import Kind, Memory
 from .refusal import Refused
+from .unit import lines_of
 
 CODE_LIMIT = 1 << 16  # slots of an object
 OPERATION_MASK = 0xF0
@@ -81,12 +82,7 @@ class Reader:
             self._raw[section.index] = dict(read_insns(section.data, 0))
             found = self._obj.relocations(section)
             self._relocations[section.index] = {r.offset // SLOT.size: r for r in found if not r.offset % SLOT.size}
-            extension = self._obj.section(".BTF.ext")
-            lines: dict[int, SourceLine] = {}
-            if extension and self._memory.btf:
-                found_lines = source_lines(extension.data, self._memory.btf.strings, section.name)
-                lines = {byte // SLOT.size: line for byte, line in found_lines.items() if line.text}
-            self._lines[section.index] = lines
+            self._lines[section.index] = lines_of(self._obj, self._memory.btf, section)
         return self._raw[section.index]
 
     def _function(self, place: Place) -> Function:

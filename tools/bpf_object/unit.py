@@ -31,6 +31,13 @@ def types_of(obj: Object) -> Btf | None:
     return Btf(section.data) if section else None
 
 
+def lines_of(obj: Object, btf: Btf | None, section: Section) -> dict[int, SourceLine]:
+    """The source lines of a section's code, by the slots that they begin at."""
+    extension = obj.section(".BTF.ext")
+    found = source_lines(extension.data, btf.strings, section.name) if btf and extension else {}
+    return {byte // SLOT.size: line for byte, line in found.items() if line.text}
+
+
 class Program:
     """The code of an object: main's section, then `.text`, with slots counted over both."""
 
@@ -42,7 +49,8 @@ class Program:
         self._sections = [*code_sections(obj)]
         for section in self._sections:
             self._place(section)
-        self.sources = self._source_lines(btf)
+        slots = ((self._starts[section.index], lines_of(obj, btf, section)) for section in self._sections)
+        self.sources = {first + slot: line for first, lines in slots for slot, line in lines.items()}
         for section in self._sections:
             self._relocate(section)
         self._labels = self._label_slots()
@@ -77,18 +85,6 @@ class Program:
             raise Refused(f"the code takes {first + slots} slots, of at most {SLOTS_LIMIT}")
         self._starts[section.index] = first
         self._insns.update(read_insns(section.data, first))
-
-    def _source_lines(self, btf: Btf | None) -> dict[int, SourceLine]:
-        """The source lines by the slots that they begin at."""
-        extension = self._obj.section(".BTF.ext")
-        if btf is None or extension is None:
-            return {}
-        return {
-            self._starts[section.index] + offset // SLOT.size: line
-            for section in self._sections
-            for offset, line in source_lines(extension.data, btf.strings, section.name).items()
-            if line.text
-        }
 
     @contextmanager
     def _at(self, slot: int) -> Iterator[None]:

@@ -84,7 +84,6 @@ class Unroller:
     def run(self, entry: State) -> Function:
         """The copy, whose entry is its first block."""
         self.result.blocks[0] = Block([], Goto(-1, None))
-        self.result.entry = 0
         labels = frozenset(self._source.blocks)
         self._region(labels, {self._source.entry: [((0, "target"), entry)]}, None)
         return self.result
@@ -167,12 +166,7 @@ class Unroller:
 
     def _lead(self, edge: Edge, label: int) -> None:
         block = self.result.blocks[edge[0]]
-        end = block.end
-        if isinstance(end, Goto):
-            block.end = Goto(label, end.line)
-        elif isinstance(end, Branch):
-            taken, other = (label, end.other) if edge[1] == "taken" else (end.taken, label)
-            block.end = Branch(end.op, end.width, end.dst, end.src, end.imm, taken, other, end.line)
+        block.end = block.end._replace(**{edge[1]: label})
 
     def _copy(self, label: int, arrivals: list[Arrival]) -> Exits:
         """Copies one block; each lookup in it parts the rest of the block into two copies."""
