@@ -43,21 +43,17 @@ def inline_loop(functions: dict[int, Function], number: int) -> tuple[dict[int, 
     headers: list[int] = []
     try:
         for label in order_of(main):
-            headers += _put_in_loops(done, label, number, functions[number])
+            block = done.blocks[label]
+            loops = [at for at, insn in enumerate(block.insns) if isinstance(insn, Call) and insn.helper == LOOP]
+            for at in reversed(loops):  # the last one first, so that the others keep their places
+                if _loop_callback(block, at) == number:
+                    headers.append(_Site(done, label, at, functions[number]).put_in(True))
     except Refused:
         return None
     if number in callbacks_in(done, done.blocks):
         return None
     others = {other: function for other, function in functions.items() if other not in (0, number)}
     return {0: done, **others}, headers
-
-
-def _put_in_loops(main: Function, label: int, number: int, body: Function) -> Iterator[int]:
-    """Puts a callback in at all calls of a block; the last one is done first, so that the others keep their places."""
-    insns = main.blocks[label].insns
-    for at in [at for at, insn in enumerate(insns) if isinstance(insn, Call) and insn.helper == LOOP][::-1]:
-        if _loop_callback(main.blocks[label], at) == number:
-            yield _Site(main, label, at, body).put_in(True)
 
 
 def callbacks_in(function: Function, labels: Iterable[int]) -> list[int]:

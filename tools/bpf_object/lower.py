@@ -37,7 +37,8 @@ class Lowering:
         order = list(self._function.blocks)
         for label, following in zip(order, [*order[1:], None]):
             self._out.label(self._out.block(label))
-            self._accesses.kept = self._kept_before(label)
+            kept = self._kept.get(label, [None])  # by the blocks that lead here, of which all may have left it so
+            self._accesses.kept = kept[0] if all(one == kept[0] for one in kept) else None
             block = self._function.blocks[label]
             for insn, live in zip(block.insns, self._lives[label]):
                 self._insn(insn, live)
@@ -51,11 +52,6 @@ class Lowering:
             self._out.add("mov64 r0, 0", "exit")
         can_trap[self._number] = self._out.can_trap
         return self._out.lines
-
-    def _kept_before(self, label: int) -> tuple[int, int] | None:
-        """The register with an address, where all blocks that lead to one have left it so."""
-        kept = self._kept.get(label, [None])
-        return kept[0] if all(one == kept[0] for one in kept) else None
 
     def _begin(self) -> None:
         rewritten, number, out = self._rewritten, self._number, self._out

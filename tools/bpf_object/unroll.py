@@ -135,17 +135,13 @@ class Unroller:
             this.rounds += 1
             if again and limit is None:
                 course.end_round(budget - self._limits.budget, self._ways[ways:])
-                self._pass_over(this, course)
+                more = course.rounds_within(self._limits.budget)  # as if they were copied: it surely goes on for longer
+                this.rounds += more
+                self._limits.budget -= more * course.size
         self._open.pop()
         self._whole_loops -= limit is None
         self.copied[loop] = max(self.copied.get(loop, 0), this.rounds)
         return exits
-
-    def _pass_over(self, this: _Open, course: Course) -> None:
-        """Counts the rounds of a loop that surely goes on for longer than there is room, as if they were copied."""
-        more = course.rounds_within(self._limits.budget)
-        this.rounds += more
-        self._limits.budget -= more * course.size
 
     def _cut(self, header: int, incoming: dict[int, list[Arrival]], rounds: int, is_always: bool) -> None:
         line = self._source.blocks[header].line
