@@ -29,9 +29,7 @@ class Types:
         if of == "ptr" or of.endswith("*"):
             return 8, 8
         if found := INTEGER.match(of):
-            size = 1
-            while size * 8 < int(found[1]):
-                size *= 2
+            size = 1 << max((int(found[1]) - 1).bit_length() - 3, 0)  # a power of two
             return size, size
         if found := ARRAY.match(of):
             size, align = self.size(found[2])

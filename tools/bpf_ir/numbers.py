@@ -245,10 +245,8 @@ def _leading_zeros(body: Body, bits: int, operands: list[str], result: str) -> b
     if bits > WORD:
         return False
     value = _widened(body, "zext", bits, operands[0])
-    shift = 1
-    while shift < bits:
-        value = body.make(f"or i64 {value}, {body.make(f'lshr i64 {value}, {shift}')}")
-        shift *= 2
+    for log in range((bits - 1).bit_length()):
+        value = body.make(f"or i64 {value}, {body.make(f'lshr i64 {value}, {1 << log}')}")
     counted = body.make(f"call i64 @llvm.ctpop.i64(i64 {value})")
     _narrowed(body, WORD, bits, lambda name: body.make(f"sub i64 {bits}, {counted}", name), result)
     return True

@@ -186,9 +186,13 @@ class Kept(NamedTuple):
         """The place of the number of rounds that are done."""
         return self.top - 24 - FRAME_BYTES
 
-    def register(self, number: int) -> int:
-        """The place of a register."""
-        return self.top - 8 * (number + 4) - FRAME_BYTES
+    def load(self, register: int, line: SourceLine | None) -> Load:
+        """What gives a register what was kept of it."""
+        return Load(8, False, register, FRAME, self.top - 8 * (register + 4) - FRAME_BYTES, line)
+
+    def store(self, register: int, line: SourceLine | None) -> Store:
+        """What keeps a register."""
+        return Store(8, FRAME, self.top - 8 * (register + 4) - FRAME_BYTES, register, 0, line)
 
     @property
     def bottom(self) -> int:

@@ -4,9 +4,9 @@ from __future__ import annotations
 
 import gc
 import struct
-from collections.abc import Iterator
+from collections.abc import Callable, Iterator
 from contextlib import contextmanager
-from dataclasses import replace
+from functools import partial
 
 from .code import Function, line_text
 from .elf import Object
@@ -37,7 +37,7 @@ def load(data: bytes, main: str | None = None, as_is: bool = False, verify: Veri
             if as_is:
                 return load_as_is(obj, programs)
             name = _chosen(programs, main)
-            return _as_it_is(obj, programs, judge) or _rewritten(obj, name, programs, judge)
+            return _accepted(partial(load_as_is, obj, programs), judge) or _rewritten(obj, name, programs, judge)
     except UNFORESEEN as reason:
         raise Refused(f"no object of clang: {type(reason).__name__}: {reason}") from None
 
@@ -64,9 +64,10 @@ def _chosen(programs: list[str], main: str | None) -> str:
     return main or programs[0]
 
 
-def _as_it_is(obj: Object, programs: list[str], judge: Verify) -> Loaded | None:
+def _accepted(make: Callable[[], Loaded], judge: Verify) -> Loaded | None:
+    """What is made of an object, where something is and the verifier accepts it."""
     try:
-        loaded = load_as_is(obj, programs)
+        loaded = make()
     except Refused:
         return None
     return loaded if judge(loaded.unit) is None else None
@@ -76,18 +77,8 @@ def _rewritten(obj: Object, main: str, programs: list[str], judge: Verify) -> Lo
     """The unit of a program in another order, or else one whose accesses are planned anew."""
     memory = Memory(obj, types_of(obj))
     functions = inline(Reader(obj, memory, main).functions)
-    return _in_order(obj, memory, functions, programs, judge) or _planned(memory, functions, programs, judge)
-
-
-def _in_order(
-    obj: Object, memory: Memory, functions: dict[int, Function], programs: list[str], judge: Verify
-) -> Loaded | None:
-    try:
-        loaded = plain(obj, memory, functions, programs)
-    except Refused:
-        return None
-    rewrites = ["blocks are put in an order without jumps backwards, and functions at their calls"]
-    return replace(loaded, rewrites=rewrites) if judge(loaded.unit) is None else None
+    in_order = _accepted(partial(plain, obj, memory, functions, programs), judge)
+    return in_order or _planned(memory, functions, programs, judge)
 
 
 def _planned(memory: Memory, functions: dict[int, Function], programs: list[str], judge: Verify) -> Loaded:

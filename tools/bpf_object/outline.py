@@ -74,10 +74,9 @@ def _parted(function: Function, header: int) -> Function:
     chosen = Branch("jeq", 64, 1, None, number, again, successors(step.end)[0])
     blocks[choice] = Block([Load(8, False, 1, FRAME, kept.part, line)], chosen)
     blocks[function.step] = Block(step.insns, Goto(choice, line))
-    loads = [Load(8, False, register, FRAME, kept.register(register), line) for register in registers]
+    loads = [kept.load(register, line) for register in registers]
     blocks[again] = Block([Store(8, FRAME, kept.part, None, 0, line), *loads], Goto(header, line))
-    stores = [Store(8, FRAME, kept.register(register), register, 0, line) for register in registers]
-    stores.append(Store(8, FRAME, kept.part, None, number, line))
+    stores = [*(kept.store(register, line) for register in registers), Store(8, FRAME, kept.part, None, number, line)]
     blocks[leave] = Block([*stores, Alu("mov", 64, RESULT, None, 0, line)], Exit(line))
     return replace(function, blocks=blocks, parts=number)
 
@@ -87,7 +86,7 @@ def _with_all_kept(function: Function, kept: Kept) -> Function:
     blocks = dict(function.blocks)
     for label, registers in function.needed.items():
         block = blocks[label]
-        stores = [Store(8, FRAME, kept.register(register), register, 0, block.end.line) for register in registers]
+        stores = [kept.store(register, block.end.line) for register in registers]
         blocks[label] = Block([*stores, *(insn for insn in block.insns if insn not in stores)], block.end)
     return replace(function, blocks=blocks)
 
@@ -108,11 +107,11 @@ class _Site:
     def _registers(self, label: int) -> list[int]:
         return [register for register in REGISTERS if self._live[label] >> register & 1]
 
-    def _load(self, register: int) -> Load:
-        return Load(8, False, register, FRAME, self.kept.register(register), self._line)
+    def _loads(self, label: int) -> list[Load]:
+        return [self.kept.load(register, self._line) for register in self._registers(label)]
 
-    def _store(self, register: int) -> Store:
-        return Store(8, FRAME, self.kept.register(register), register, 0, self._line)
+    def _stores(self, label: int) -> list[Store]:
+        return [self.kept.store(r, self._line) for r in self._registers(label) if r in self._written]
 
     def _number(self, register: int, number: int) -> Alu:
         return Alu("mov", 64, register, None, number, self._line)
@@ -123,24 +122,21 @@ class _Site:
         entry, step, start, stale, again = (self._next + n for n in range(5))
         function = Function(name, entry, {}, self._line, 0, self.kept, step=step)
         blocks = function.blocks
-        registers = self._registers(self._header)
         count = Load(8, False, 2, FRAME, self.kept.count, self._line)
         blocks[entry] = Block([count], Branch("jeq", 64, 1, 2, 0, step, stale, self._line))
         counted = [Alu("add", 64, 1, None, 1, self._line), Store(8, FRAME, self.kept.count, 1, 0, self._line)]
         blocks[step] = Block(counted, Goto(start, self._line))
         blocks[stale] = Block([self._number(RESULT, 1)], Exit(self._line))
-        blocks[start] = Block([self._load(register) for register in registers], Goto(self._header, self._line))
-        function.needed[again] = tuple(registers)
-        kept = [self._store(register) for register in registers if register in self._written]
-        blocks[again] = Block([*kept, self._number(RESULT, 0)], Exit(self._line))
+        blocks[start] = Block(self._loads(self._header), Goto(self._header, self._line))
+        function.needed[again] = tuple(self._registers(self._header))
+        blocks[again] = Block([*self._stores(self._header), self._number(RESULT, 0)], Exit(self._line))
         leading = {label: label for label in self._labels}
         leading[self._header] = again
         for number, label in enumerate(self._exits, 1):
             out = leading[label] = again + number
             function.needed[out] = tuple(self._registers(label))
-            kept = [self._store(register) for register in self._registers(label) if register in self._written]
-            kept.append(Store(8, FRAME, self.kept.way, None, number, self._line))
-            blocks[out] = Block([*kept, self._number(RESULT, 1)], Exit(self._line))
+            way = Store(8, FRAME, self.kept.way, None, number, self._line)
+            blocks[out] = Block([*self._stores(label), way, self._number(RESULT, 1)], Exit(self._line))
         for label in self._labels:
             block = self._main.blocks[label]
             blocks[label] = Block(block.insns, renamed(block.end, leading))
@@ -153,7 +149,7 @@ class _Site:
         call, self._next = self._next, self._next + 1
         for label in enters:
             blocks[label] = Block(blocks[label].insns, _led(blocks[label].end, self._header, call))
-        insns: list = [self._store(register) for register in self._registers(self._header)]
+        insns: list = [self.kept.store(register, self._line) for register in self._registers(self._header)]
         begun = (self.kept.way, self.kept.part, self.kept.count)
         insns += [Store(8, FRAME, place, None, 0, self._line) for place in begun]
         insns += [self._number(1, min(rounds, MOST_ROUNDS)), CodeOf(2, number, self._line)]
@@ -164,7 +160,7 @@ class _Site:
         for way, label in enumerate(self._exits, 1):
             found, following = self._next, self._next + 1
             self._next += 2
-            blocks[found] = Block([self._load(r) for r in self._registers(label)], Goto(label, self._line))
+            blocks[found] = Block(self._loads(label), Goto(label, self._line))
             blocks[last].end = Branch("jeq", 64, 1, None, way, found, following, self._line)
             blocks[following] = Block([], Stop(0, None, self._line))
             last = following

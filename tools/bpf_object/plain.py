@@ -18,6 +18,8 @@ from .memory import Kind, Memory
 from .refusal import Refused
 from .unit import loaded_of
 
+REWRITE = "blocks are put in an order without jumps backwards, and functions at their calls"
+
 
 def plain(obj: Object, memory: Memory, functions: dict[int, Function], programs: list[str]) -> Loaded:
     """The unit, or a refusal where that can't be enough."""
@@ -29,7 +31,8 @@ def plain(obj: Object, memory: Memory, functions: dict[int, Function], programs:
             raise Refused("a jump leads backwards")
         lines += _Plain(memory, maps, names).lines(functions[number], names[number])
     text, sources, loops = text_of(lines)
-    return loaded_of(obj, memory.btf, maps, text, lines=sources, loops=loops, programs=programs)
+    known = {"lines": sources, "loops": loops, "programs": programs, "rewrites": [REWRITE]}
+    return loaded_of(obj, memory.btf, maps, text, **known)
 
 
 @dataclass

@@ -7,6 +7,7 @@ import sys
 import tempfile
 from collections.abc import Iterator
 from dataclasses import dataclass
+from pathlib import Path
 
 from bpf_ir.lower import STEPS
 from bpf_ir.text import NotRead
@@ -149,10 +150,9 @@ def _said(files: Files, way: Way, clock: Clock) -> Said:
 
 def _rewrite(step: Step) -> None:
     """Does what tools/lower_ir does, here."""
-    with open(step.source or "", encoding="utf-8", errors="surrogateescape") as source:
-        text = STEPS[step.words[1]](source.read())
-    with open(step.target or "", "w", encoding="utf-8", errors="surrogateescape") as target:
-        target.write(text)
+    how = {"encoding": "utf-8", "errors": "surrogateescape"}
+    text = STEPS[step.words[1]](Path(step.source or "").read_text(**how))
+    Path(step.target or "").write_text(text, **how)
 
 
 def _reason(said: str) -> str:

@@ -42,16 +42,9 @@ class Room:
         words = ["bash", "-o", "pipefail", "-c", self.inside(command)]
         environment = {name: value for name, value in os.environ.items() if name != PROGRAM_VARIABLE}
         environment["LC_ALL"] = "C.UTF-8"
+        streams = {"stdin": subprocess.DEVNULL, "stdout": subprocess.PIPE, "stderr": subprocess.STDOUT}
         try:
-            done = subprocess.run(
-                words,
-                stdin=subprocess.DEVNULL,
-                stdout=subprocess.PIPE,
-                stderr=subprocess.STDOUT,
-                cwd=self.folder,
-                env=environment,
-                timeout=LIMIT,
-            )
+            done = subprocess.run(words, **streams, cwd=self.folder, env=environment, timeout=LIMIT)
         except subprocess.TimeoutExpired:
             return "", ENDED
         return PROGRESS.sub("", done.stdout.decode(errors="backslashreplace")), done.returncode
