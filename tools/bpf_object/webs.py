@@ -27,6 +27,7 @@ class Webs:
         self._bases: dict[tuple[int, int], int] = {}
         self._held: dict[tuple[int, int], list[Defs]] = {}
         self._natives_of: dict[Defs, bool] = {}
+        self._joined: dict[Defs, int] = {}
         self._follow()
 
     def apply(self) -> None:
@@ -61,12 +62,13 @@ class Webs:
         return web
 
     def _join(self, webs: Defs) -> int:
-        roots = [self._find(web) for web in webs]
-        for root in roots[1:]:
-            if root != roots[0]:
-                self._parent[root] = roots[0]
-                self._bad[roots[0]] |= self._bad[root]
-        return roots[0]
+        if webs not in self._joined:
+            first, *others = {self._find(web) for web in webs}
+            for other in others:
+                self._parent[other] = first
+                self._bad[first] |= self._bad[other]
+            self._joined[webs] = first
+        return self._find(self._joined[webs])
 
     def _spoil_all(self, registers: int, regs: list[Defs]) -> None:
         for register in range(REGISTERS):
@@ -97,11 +99,11 @@ class Webs:
             if insn.insn.src is not None:
                 self._spoil_all(1 << insn.insn.src, regs)
             web = self._define(label, at, False)
-            self._join(regs[insn.insn.dst] | {web})
+            self._join(frozenset((self._join(regs[insn.insn.dst]), web)))
             regs[insn.insn.dst] = frozenset((web,))
         elif isinstance(insn, Alu) and insn.op == "mov" and insn.width == 64 and insn.src is not None:
             web = self._define(label, at, False)
-            self._join(regs[insn.src] | {web})
+            self._join(frozenset((self._join(regs[insn.src]), web)))
             regs[insn.dst] = frozenset((web,))
         else:
             self._spoil_all(reads_of(insn), regs)
