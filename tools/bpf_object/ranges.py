@@ -206,11 +206,9 @@ Pair = Optional[tuple[Range, Range]]
 
 def refine(op: str, width: int, a: Range, b: Range) -> Pair:
     """What is known of two operands where the comparison holds, or nothing where it can't."""
-    if width == 32:
-        if a.hi > LOW or b.hi > LOW:
-            x, y = low32(a), low32(b)
-            known = x.lo == x.hi and y.lo == y.hi
-            return None if known and not HOLDS[op](x.lo, y.lo, 32) else (a, b)
+    if width == 32 and (a.hi > LOW or b.hi > LOW):
+        x, y = low32(a), low32(b)
+        return None if x.is_exact and y.is_exact and not HOLDS[op](x.lo, y.lo, 32) else (a, b)
     if op in REFINED:
         return REFINED[op](a, b)
     if a.lo == a.hi and b.lo == b.hi and not HOLDS[op](a.lo, b.lo, width):
@@ -220,16 +218,8 @@ def refine(op: str, width: int, a: Range, b: Range) -> Pair:
 
 def _equal(a: Range, b: Range) -> Pair:
     z = max(a.z, b.z)
-    lo, hi = max(a.lo, b.lo), min(a.hi, b.hi)
-    if z < BITS:
-        lo, hi = -(-lo >> z) << z, hi >> z << z
-    elif lo > 0:
-        return None
-    else:
-        hi = 0
-    if lo > hi:
-        return None
-    return norm(lo, hi, z), norm(lo, hi, z)
+    lo, hi = -(-max(a.lo, b.lo) >> z) << z, min(a.hi, b.hi) >> z << z
+    return None if lo > hi else (norm(lo, hi, z), norm(lo, hi, z))
 
 
 def _unequal(a: Range, b: Range) -> Pair:

@@ -71,11 +71,8 @@ class Variable:
 
     def name_of(self, element: int) -> str | None:
         """What C calls the values in an element, or nothing where it isn't of this variable."""
-        for piece in self.pieces:
-            found = piece.find(element)
-            if found:
-                return self._names(*found)
-        return None
+        found = next(filter(None, (piece.find(element) for piece in self.pieces)), None)
+        return self._names(*found) if found else None
 
     def _names(self, byte: int, size: int) -> str:
         names = self._names_in_value(byte, size)

@@ -156,11 +156,9 @@ def _encoded_number(value: Value, kind: Number, bits: int, place: str) -> int:
 
 
 def _number_of(word: str, kind: Number, place: str) -> int:
-    for number, name in kind.names:
-        if name == word:
-            return number
+    names = {name: number for number, name in reversed(kind.names)}  # the first of a name counts
     try:
-        return int(word, 0)
+        return names[word] if word in names else int(word, 0)
     except ValueError:
         raise Refused(f"{place} is a number, and its value is {word[:40]!r}") from None
 

@@ -86,8 +86,7 @@ def _drawn(report: Report, pictures: dict[int, str]) -> Iterator[str]:
         loop = next(loop for loop in report.runs[number].loops if loop.conflicts)
         data = base64.b64encode(drawing.encode()).decode()
         yield f"<h2>The loop at {escape(loop.place)}, with argument {report.runs[number].argument}</h2>"
-        picture = f'<img alt="Which iteration uses which element" src="data:image/svg+xml;base64,{data}">'
-        yield f"<p>{picture}</p>"
+        yield f'<p><img alt="Which iteration uses which element" src="data:image/svg+xml;base64,{data}"></p>'
 
 
 def _loops(loops: list[LoopReport]) -> Iterator[str]:

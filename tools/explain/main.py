@@ -22,7 +22,6 @@ BY_SIGNAL = 128  # and its number: the status of a program that a signal ended, 
 DONE, USAGE, NO_MEMORY, NO_STREAM, CRASHED = 0, 3, 4, 5, 70
 INPUT, OUTPUT, MESSAGES = range(3)
 MEMORY_LINE = b"refused memory\n"
-CHUNK = 1 << 16
 
 
 def main(words: Sequence[str]) -> int:
@@ -88,12 +87,8 @@ def words_of(ask: Ask) -> list[str]:
 
 def _read() -> bytes:
     """The standard input, up to a byte past the longest: that shows that it is too long."""
-    parts: list[bytes] = []
-    left = LONGEST + 1
-    while left and (part := os.read(INPUT, min(left, CHUNK))):
-        parts.append(part)
-        left -= len(part)
-    return b"".join(parts)
+    with open(INPUT, "rb", closefd=False) as file:
+        return file.read(LONGEST + 1)
 
 
 def _write(stream: int, text: str | bytes, status: int) -> int:

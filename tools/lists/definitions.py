@@ -4,7 +4,7 @@ from __future__ import annotations
 
 import re
 from collections.abc import Iterator
-from dataclasses import dataclass, field
+from dataclasses import dataclass
 from itertools import takewhile
 from pathlib import PurePath
 
@@ -27,8 +27,8 @@ class Definitions:
     crate: str
     file: str  # below specs/, without its ending
     about: str  # the comment that it begins with
-    comments: dict[str, str] = field(default_factory=dict)  # by name, in order; empty where there is none
-    imports: Imports = field(default_factory=Imports)
+    comments: dict[str, str]  # by name, in order; empty where there is none
+    imports: Imports
 
     def only(self, names: set[Item]) -> dict[str, str]:
         """The comments of those of its definitions that are among the names, or that a comment below speaks of."""
@@ -50,10 +50,8 @@ def read_definitions(crates: Crates, crate: str) -> list[Definitions]:
 def _read(crates: Crates, crate: str, path: PurePath) -> Definitions:
     lines = (crates.folder / crate / "specs" / path).read_text(encoding="utf-8").splitlines()
     about = joined(takewhile(lambda line: line.startswith(MARK), lines), MARK)
-    file = Definitions(crate, path.with_suffix("").as_posix(), about)
-    file.imports = crates.specs(crate, f"specs/{path.as_posix()}").imports
-    file.comments.update(_comments(lines))
-    return file
+    imports = crates.specs(crate, f"specs/{path.as_posix()}").imports
+    return Definitions(crate, path.with_suffix("").as_posix(), about, dict(_comments(lines)), imports)
 
 
 def _comments(lines: list[str]) -> Iterator[tuple[str, str]]:

@@ -9,8 +9,6 @@ import shutil
 import subprocess
 from pathlib import Path
 
-from .shown import Source
-
 LIMIT = 120  # seconds of a command
 COPIED = ("tools", "examples", "docs")  # what finds other files by its own place; of the rest there are links
 LEFT_OUT = (".git", "bpfspec")
@@ -52,10 +50,6 @@ class Room:
     def inside(self, words: str) -> str:
         """The same with its paths of /tmp in this folder."""
         return words.replace("/tmp/", f"{self.folder}/")
-
-    def store(self, source: Source) -> None:
-        """Stores a file that a page shows."""
-        (self.folder / source.name).write_text(source.text, encoding="utf-8")
 
     def take(self, path: Path, name: str) -> None:
         """Copies a file of the repository to a name that a page has."""
