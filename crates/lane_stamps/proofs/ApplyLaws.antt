@@ -6,7 +6,8 @@ use Rattle.std.proofs.lemmas.List.{drop_more, get_or-set_same, set-get_or, set-s
 use Rattle.array_maps.specs.{declared.access.Half.{Half, TheVariants.{Low, High}}, Accesses.{left_by}}
 use Rattle.loop_core_model.specs.Effects.{Deed, Effect, action_on, words_after_any_effect, words_after_effect}
 use Rattle.loop_core_model.specs.Effects.{words_after_lane_effects, words_after_site_effects}
-use Rattle.lane_rows.specs.{declared.{mask.Mask.{Mask}, places.Places.{Places}}, Rows.{is_in, place_at}}
+use Rattle.lane_rows.specs.{declared.{line.Line.{Line}, mask.Mask.{Mask}, places.Places.{Places}}, Lanes.{HasWords}}
+use Rattle.lane_rows.specs.{declared.row.Row.{Row}, Rows.{is_in, line_word, place_at, word_at, word_by}}
 use Rattle.lane_stamps.specs.declared.{kind.Kind.{Kind, TheVariants.{Apply}}, site.Site.{Site}}
 use Rattle.lane_stamps.specs.declared.kind.Kind.TheVariants.{Load, LoadHalf, Store, Fetch, Replace, FetchHalf, AddHalf}
 use Rattle.lane_stamps.specs.{Forms.{HalvesFrom, IsPairAt, IsPlace, RunsFrom}, Sites.{is_of_halves, log_of}}
@@ -46,6 +47,14 @@ module _ (kind : Kind) (mask : Mask) (places : Places) where
       ∙ ap (λ (value : ℕ). words_after_any_effect
       (if is_in mask count then Some (effect_by kind (place_at places count) value) else None)
       (words_after_lane_effects (effect_if kind mask places others) count words)) (same count (omega arith))
+
+  -- the words of a line, spelled, are those of its row
+  pub line_values : (row : Row) (line : Line) (spelled : List ℕ) (count : ℕ) (words : List ℕ) → row.line ≡ Some line
+      → HasWords count (line_word line) spelled
+      → words_after_lane_effects (effect_if kind mask places (slice_index spelled)) count words
+      ≡ words_after_lane_effects (effect_if kind mask places (word_at row)) count words
+  line_values row line spelled count words is written = same_values (slice_index spelled) (word_at row) count
+      (λ lane less. written lane less ∙ sym (ap (λ (by : Option Line). word_by by row.lanes lane) is)) words
 
   module _ (values : ℕ → ℕ) where
     -- at one place

@@ -4,7 +4,6 @@ pub mod HalfLaws
 pub mod StampLaws
 pub mod RankLaws
 pub mod KnownSteps
-pub mod LinkLaws
 pub mod MarkSteps
 pub mod MarkLaws
 pub mod KeepLaws

@@ -83,6 +83,13 @@ pub watched_own : (stamps : List ℕ) (base : ℕ) (lanes : LaneRows) (lane : �
 watched_own stamps base lanes lane before after some stamped free watched looked =
     no_own stamps base lanes lane before after some (stamped watched) (free looked)
 
+-- no site is watched
+pub none_watched : (sites : List Site) (lanes : LaneRows) (count : ℕ) → All (λ site. site.watched ≡ false) sites
+    → WatchedUnmet sites lanes count
+none_watched sites lanes count none later earlier order below k d inside i e within looked watched =
+    let not = none k d inside in
+    let never : ⊥ = cc in absurd never
+
 -- one lane further
 pub unmet_more : (sites : List Site) (stamps : List ℕ) (base : ℕ) (lanes : LaneRows) (lane : ℕ)
     → ((earlier : ℕ) → earlier < lane → All (WatchedStamped stamps base lanes earlier) sites)

@@ -17,7 +17,7 @@ use crate::kind::Kind;
 use crate::reading::{is_there, place_on};
 use crate::site::{Lanes, Site};
 use array_maps::{Op, combine};
-use lane_rows::{Mask, PlaceLine, Places, spell};
+use lane_rows::{Mask, PlaceLine, Places, spell, spell_words};
 
 /// What is left of a word.
 #[inline(always)]
@@ -61,12 +61,13 @@ fn apply_at_one(
     all: bool,
     mask: &Mask,
     place: u32,
-    values: &[u64; 256],
+    values: &[u64],
     count: usize,
     words: &mut [u64],
 )
     requires all { all ≡ mask.now.all }
     requires room { count ≤ 256 }
+    requires long { count ≤ length values.now }
     requires within { element_named (is_of_halves kind) place < length words.old }
     ensures { (places : Places) → IsPlace place places count
         → words.new
@@ -87,12 +88,13 @@ fn apply_along(
     all: bool,
     mask: &Mask,
     first: u32,
-    values: &[u64; 256],
+    values: &[u64],
     count: usize,
     words: &mut [u64],
 )
     requires all { all ≡ mask.now.all }
     requires room { count ≤ 256 }
+    requires long { count ≤ length values.now }
     requires within { element_named (is_of_halves kind) first + count ≤ length words.old }
     ensures { (places : Places) → RunsFrom (is_of_halves kind) first places count
         → words.new
@@ -121,13 +123,14 @@ fn apply_lane(
     mask: &Mask,
     line: Option<PlaceLine>,
     places: &Places,
-    values: &[u64; 256],
+    values: &[u64],
     lane: usize,
     words: &mut [u64],
 )
     requires all { all ≡ mask.now.all }
     requires line { line ≡ places.now.line }
     requires lane { lane < 256 }
+    requires long { lane < length values.now }
     requires within { LiesBelow (length words.old) (is_of_halves kind) mask.now places.now lane }
     ensures { words.new
         ≡ words_after_any_effect (effect_if kind mask.now places.now (slice_index values.now) lane) words.old }
@@ -147,13 +150,14 @@ fn apply_each(
     mask: &Mask,
     line: Option<PlaceLine>,
     places: &Places,
-    values: &[u64; 256],
+    values: &[u64],
     count: usize,
     words: &mut [u64],
 )
     requires all { all ≡ mask.now.all }
     requires line { line ≡ places.now.line }
     requires room { count ≤ 256 }
+    requires long { count ≤ length values.now }
     requires within { (lane : ℕ) → lane < count
         → LiesBelow (length words.old) (is_of_halves kind) mask.now places.now lane }
     ensures { words.new
@@ -172,11 +176,12 @@ fn apply_pair(
     mask: &Mask,
     lane: usize,
     at: usize,
-    values: &[u64; 256],
+    values: &[u64],
     words: &mut [u64],
 )
     requires all { all ≡ mask.now.all }
     requires lane { lane + 1 < 256 }
+    requires long { lane + 1 < length values.now }
     requires within { at < length words.old }
     ensures { (places : Places) → IsPairAt (is_of_halves kind) at lane places
         → words.new ≡ words_after_any_effect (effect_if kind mask.now places (slice_index values.now) (lane + 1))
@@ -195,13 +200,14 @@ fn apply_halves(
     mask: &Mask,
     start: usize,
     places: &Places,
-    values: &[u64; 256],
+    values: &[u64],
     count: usize,
     words: &mut [u64],
 )
     requires all { all ≡ mask.now.all }
     requires halves { is_of_halves kind ≡ true }
     requires room { count ≤ 256 }
+    requires long { count ≤ length values.now }
     requires run { HalvesFrom start places.now count }
     requires within { start + count ≤ length words.old }
     ensures { words.new
@@ -231,12 +237,13 @@ fn apply_anyhow(
     all: bool,
     mask: &Mask,
     places: &Places,
-    values: &[u64; 256],
+    values: &[u64],
     count: usize,
     words: &mut [u64],
 )
     requires all { all ≡ mask.now.all }
     requires room { count ≤ 256 }
+    requires long { count ≤ length values.now }
     requires within { (lane : ℕ) → lane < count
         → LiesBelow (length words.old) (is_of_halves kind) mask.now places.now lane }
     ensures { words.new
@@ -261,12 +268,13 @@ fn apply_formed(
     all: bool,
     mask: &Mask,
     places: &Places,
-    values: &[u64; 256],
+    values: &[u64],
     count: usize,
     words: &mut [u64],
 )
     requires all { all ≡ mask.now.all }
     requires room { count ≤ 256 }
+    requires long { count ≤ length values.now }
     requires within { (lane : ℕ) → lane < count
         → LiesBelow (length words.old) (is_of_halves kind) mask.now places.now lane }
     ensures { words.new
@@ -285,11 +293,12 @@ fn apply_known(
     kind: Kind,
     mask: &Mask,
     places: &Places,
-    values: &[u64; 256],
+    values: &[u64],
     count: usize,
     words: &mut [u64],
 )
     requires room { count ≤ 256 }
+    requires long { count ≤ length values.now }
     requires within { (lane : ℕ) → lane < count
         → LiesBelow (length words.old) (is_of_halves kind) mask.now places.now lane }
     ensures { words.new
@@ -307,11 +316,12 @@ fn apply_kind(
     kind: Kind,
     mask: &Mask,
     places: &Places,
-    values: &[u64; 256],
+    values: &[u64],
     count: usize,
     words: &mut [u64],
 )
     requires room { count ≤ 256 }
+    requires long { count ≤ length values.now }
     requires within { (lane : ℕ) → lane < count
         → LiesBelow (length words.old) (is_of_halves kind) mask.now places.now lane }
     ensures { words.new
@@ -332,11 +342,12 @@ fn apply_operator(
     op: Op,
     mask: &Mask,
     places: &Places,
-    values: &[u64; 256],
+    values: &[u64],
     count: usize,
     words: &mut [u64],
 )
     requires room { count ≤ 256 }
+    requires long { count ≤ length values.now }
     requires within { (lane : ℕ) → lane < count → LiesBelow (length words.old) false mask.now places.now lane }
     ensures { words.new
         ≡ words_after_lane_effects (effect_if (Apply op) mask.now places.now (slice_index values.now)) count words.old }
@@ -363,6 +374,11 @@ fn apply_site(site: &Site, lanes: Lanes<'_>, count: usize, words: &mut [u64])
     let values = &lanes.rows[site.value];
     match values.line {
         None => apply_kind(site.kind, mask, places, &values.lanes, count, words),
+        Some(line) if count <= 64 => {
+            let mut spelled = [0; 64]; // what is set first takes long where lanes are few
+            spell_words(line, &mut spelled, count);
+            apply_kind(site.kind, mask, places, &spelled, count, words);
+        }
         Some(line) => {
             let mut spelled = [0; 256];
             spell(line, &mut spelled, count);

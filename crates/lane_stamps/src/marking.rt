@@ -6,28 +6,15 @@ ghost use Rattle.lane_rows.specs.Rows.{is_in, place_at};
 ghost use Rattle.lane_stamps.specs.{Sites.{HasRows, shown}, Stamps.{AreStale, Rises, stamp_at}};
 ghost use Rattle.lane_stamps.specs.Marks.{AreMarked, AreMarks, FindNoGreater, FindsGreater, LeaveMarks, LeavesMarks};
 ghost use Rattle.lane_stamps.specs.Marks.{LoadNoGreater, LoadsGreater, LoadsGreaterAt, LoadsNoGreater, MarksAt};
-ghost use Rattle.lane_stamps.specs.Marks.{MarksOne, MarksOnly, half_for, mark_at, top_at};
+ghost use Rattle.lane_stamps.specs.Marks.{MarksOne, MarksOnly, mark_at, top_at};
 
 use crate::reading::{is_there, place_on};
 use crate::site::{Lanes, Site};
 use lane_rows::{Mask, PlaceLine, Places, is_empty};
 
-/// The half whose stamp a place has: itself, or the lower one of an element.
-#[inline(always)]
-fn half_at(halves: bool, place: u32) -> usize
-    ensures { result ≡ half_for halves place }
-{
-    if halves {
-        place as usize
-    } else {
-        2 * place as usize
-    }
-}
-
 /// Marks the place of a lane, if it is in a mask, unless that has a greater stamp. Where all are, none is looked up.
 #[inline(always)]
 fn mark_lane(
-    halves: bool,
     all: bool,
     mask: &Mask,
     line: Option<PlaceLine>,
@@ -41,12 +28,12 @@ fn mark_lane(
     requires lane { lane < 256 }
     requires some { 0 < length stamps.old }
     ensures marked { is_in mask.now lane ≡ true
-        → mark ≤ stamp_at stamps.new (half_for halves (place_at places.now lane)) }
+        → mark ≤ stamp_at stamps.new (place_at places.now lane) }
     ensures rises { Rises stamps.old stamps.new }
-    ensures only { MarksOne stamps.old stamps.new halves mask.now places.now lane mark }
+    ensures only { MarksOne stamps.old stamps.new mask.now places.now lane mark }
 {
     if all || is_there(all, mask, lane) {
-        let at = half_at(halves, place_on(line, places, lane)) & (stamps.len() - 1);
+        let at = place_on(line, places, lane) as usize & (stamps.len() - 1);
         if stamps[at] < mark {
             stamps[at] = mark;
         }
@@ -70,7 +57,6 @@ fn mark_of(top: u16, sites: usize, lane: usize, count: usize) -> u16
 // Not inlined: its loop would spill the registers of the caller's.
 #[inline(never)]
 fn mark_lanes(
-    halves: bool,
     mask: &Mask,
     places: &Places,
     count: usize,
@@ -82,21 +68,20 @@ fn mark_lanes(
     requires some { 0 < length stamps.old }
     requires few { sites ≤ 255 }
     requires top { sites * count ≤ top }
-    ensures marked { AreMarked stamps.new halves mask.now places.now count top sites }
+    ensures marked { AreMarked stamps.new mask.now places.now count top sites }
     ensures rises { Rises stamps.old stamps.new }
-    ensures only { MarksOnly stamps.old stamps.new halves mask.now places.now count top sites }
+    ensures only { MarksOnly stamps.old stamps.new mask.now places.now count top sites }
 {
     let (all, line) = (mask.all, places.line);
     for lane in 0..count {
         let mark = mark_of(top, sites, lane, count);
-        mark_lane(halves, all, mask, line, places, lane, stamps, mark);
+        mark_lane(all, mask, line, places, lane, stamps, mark);
     }
 }
 
 /// Whether a lane is in a mask and its place has a greater stamp.
 #[inline(always)]
 fn finds_greater(
-    halves: bool,
     all: bool,
     mask: &Mask,
     line: Option<PlaceLine>,
@@ -109,13 +94,13 @@ fn finds_greater(
     requires line { line ≡ places.now.line }
     requires lane { lane < 256 }
     requires some { 0 < length stamps.now }
-    ensures found { result ≡ true → FindsGreater stamps.now halves mask.now places.now lane mark }
+    ensures found { result ≡ true → FindsGreater stamps.now mask.now places.now lane mark }
     ensures none { result ≡ false → is_in mask.now lane ≡ true
-        → stamp_at stamps.now (half_for halves (place_at places.now lane)) ≤ mark }
+        → stamp_at stamps.now (place_at places.now lane) ≤ mark }
 {
     if all || is_there(all, mask, lane) {
-        let half = half_at(halves, place_on(line, places, lane));
-        return stamps[half & (stamps.len() - 1)] > mark;
+        let at = place_on(line, places, lane) as usize & (stamps.len() - 1);
+        return stamps[at] > mark;
     }
     false
 }
@@ -124,7 +109,6 @@ fn finds_greater(
 // Not inlined: its loop would spill the registers of the caller's.
 #[inline(never)]
 fn look_lanes(
-    halves: bool,
     mask: &Mask,
     places: &Places,
     count: usize,
@@ -137,14 +121,14 @@ fn look_lanes(
     requires few { sites ≤ 255 }
     requires top { sites * count ≤ top }
     ensures few { result ≤ count }
-    ensures none { FindNoGreater stamps.now halves mask.now places.now result top sites }
+    ensures none { FindNoGreater stamps.now mask.now places.now result top sites }
     ensures met { result < count
-        → FindsGreater stamps.now halves mask.now places.now result (mark_at top sites result) }
+        → FindsGreater stamps.now mask.now places.now result (mark_at top sites result) }
 {
     let (all, line) = (mask.all, places.line);
     for lane in 0..count {
         let mark = mark_of(top, sites, lane, count);
-        if finds_greater(halves, all, mask, line, places, lane, stamps, mark) {
+        if finds_greater(all, mask, line, places, lane, stamps, mark) {
             return lane;
         }
     }
@@ -155,7 +139,6 @@ fn look_lanes(
 fn mark_site(
     site: &Site,
     lanes: Lanes<'_>,
-    halves: bool,
     count: usize,
     stamps: &mut [u16],
     top: u16,
@@ -166,14 +149,14 @@ fn mark_site(
     requires few { sites ≤ 255 }
     requires rows { HasRows (shown lanes) site.now }
     requires top { sites * count ≤ top }
-    ensures marked { LeavesMarks (shown lanes.entry) halves stamps.new count top sites site.now }
+    ensures marked { LeavesMarks (shown lanes.entry) stamps.new count top sites site.now }
     ensures rises { Rises stamps.old stamps.new }
-    ensures only { MarksAt stamps.old stamps.new (shown lanes.entry) halves count top sites site.now }
+    ensures only { MarksAt stamps.old stamps.new (shown lanes.entry) count top sites site.now }
 {
     let mask = &lanes.masks[site.mask];
     if site.watched && site.kind.leaves() && !is_empty(mask, count) {
         let places = &lanes.places[site.places];
-        mark_lanes(halves, mask, places, count, stamps, top, sites);
+        mark_lanes(mask, places, count, stamps, top, sites);
     }
 }
 
@@ -181,7 +164,6 @@ fn mark_site(
 fn look_site(
     site: &Site,
     lanes: Lanes<'_>,
-    halves: bool,
     count: usize,
     stamps: &[u16],
     top: u16,
@@ -193,14 +175,14 @@ fn look_site(
     requires rows { HasRows (shown lanes) site.now }
     requires top { sites * count ≤ top }
     ensures few { result ≤ count }
-    ensures none { LoadsNoGreater (shown lanes.entry) halves stamps.now result top sites site.now }
+    ensures none { LoadsNoGreater (shown lanes.entry) stamps.now result top sites site.now }
     ensures met { result < count
-        → LoadsGreaterAt (shown lanes.entry) halves stamps.now result (mark_at top sites result) site.now }
+        → LoadsGreaterAt (shown lanes.entry) stamps.now result (mark_at top sites result) site.now }
 {
     let mask = &lanes.masks[site.mask];
     if site.watched && site.kind.loads() && !is_empty(mask, count) {
         let places = &lanes.places[site.places];
-        return look_lanes(halves, mask, places, count, stamps, top, sites);
+        return look_lanes(mask, places, count, stamps, top, sites);
     }
     count
 }
@@ -222,7 +204,6 @@ fn top_of(base: u16, sites: usize, count: usize, at: usize) -> u16
 pub(crate) fn mark_sites(
     sites: &[Site],
     lanes: Lanes<'_>,
-    halves: bool,
     count: usize,
     stamps: &mut [u16],
     base: u16,
@@ -232,13 +213,13 @@ pub(crate) fn mark_sites(
     requires few { length sites.now ≤ 255 }
     requires rows { All (HasRows (shown lanes)) sites.now }
     requires fits { base + length sites.now * (count + 1) < 2 ^ 16 }
-    ensures marked { LeaveMarks sites.now (shown lanes.entry) halves stamps.new base count (length sites.now) }
+    ensures marked { LeaveMarks sites.now (shown lanes.entry) stamps.new base count (length sites.now) }
     ensures known { AreStale stamps.old base
-        → AreMarks sites.now (shown lanes.entry) halves stamps.new base count }
+        → AreMarks sites.now (shown lanes.entry) stamps.new base count }
 {
     for at in 0..sites.len() {
         let top = top_of(base, sites.len(), count, at);
-        mark_site(&sites[at], lanes, halves, count, stamps, top, sites.len());
+        mark_site(&sites[at], lanes, count, stamps, top, sites.len());
     }
 }
 
@@ -246,7 +227,6 @@ pub(crate) fn mark_sites(
 pub(crate) fn look_sites(
     sites: &[Site],
     lanes: Lanes<'_>,
-    halves: bool,
     count: usize,
     stamps: &[u16],
     base: u16,
@@ -257,14 +237,14 @@ pub(crate) fn look_sites(
     requires rows { All (HasRows (shown lanes)) sites.now }
     requires fits { base + length sites.now * (count + 1) < 2 ^ 16 }
     ensures few { result ≤ count }
-    ensures none { LoadNoGreater sites.now (shown lanes.entry) halves stamps.now base count result
+    ensures none { LoadNoGreater sites.now (shown lanes.entry) stamps.now base count result
         (length sites.now) }
-    ensures met { result < count → LoadsGreater sites.now (shown lanes.entry) halves stamps.now base count result }
+    ensures met { result < count → LoadsGreater sites.now (shown lanes.entry) stamps.now base count result }
 {
     let mut limit = count;
     for at in 0..sites.len() {
         let top = top_of(base, sites.len(), count, at);
-        limit = look_site(&sites[at], lanes, halves, limit, stamps, top, sites.len());
+        limit = look_site(&sites[at], lanes, limit, stamps, top, sites.len());
     }
     limit
 }

@@ -1,16 +1,18 @@
 //! Stamps from turn to turn.
 
-ghost use Rattle.std.specs.{Prelude.{◌≡◌, ℕ, ◌+◌, ◌*◌, ◌<◌, ◌≤◌, ◌^◌, length}, List.{All, AllPairs}};
+ghost use Rattle.std.specs.{Prelude.{◌≡◌, ℕ, ◌+◌, ◌*◌, ◌<◌, ◌≤◌, ◌^◌, false, None, length}, List.{All, AllPairs}};
 ghost use Rattle.lane_stamps.specs.{Sites.{HasRows, log_of, shown}, Marks.{AreLoaded}};
-ghost use Rattle.lane_stamps.specs.Stamps.{AreKnownApart, AreLinks, AreRanked, AreStale, GoTogether, Meets};
+ghost use Rattle.lane_stamps.specs.Stamps.{AreKnownApart, AreRanked, AreStale, GoTogether, Meets};
 ghost use Rattle.lane_stamps.specs.Stamps.{NoneAfterOwn, NoneMeets, WatchedOwn, WatchedUnmet};
 
 use crate::covering::are_loaded;
-use crate::links::link;
 use crate::marking::{look_sites, mark_sites};
 use crate::site::{Lanes, Site};
 use crate::stamping::count_unmet;
 use loop_core_model::law_of_operators;
+
+/// How many sites a batch may have.
+pub const MOST_SITES: usize = 255;
 
 /// The greatest rank of a site, and so how far stamps rise in a turn by ranks.
 const TURN: u16 = 256;
@@ -27,32 +29,16 @@ fn clear(stamps: &mut [u16])
     }
 }
 
-/// How many lanes go before the first that meets an earlier one, or itself, where they load wherever they leave
-/// something.
-fn count_loaded(
-    sites: &[Site],
-    lanes: Lanes<'_>,
-    halves: bool,
-    count: usize,
-    stamps: &mut [u16],
-    base: u16,
-) -> usize
-    requires some { 0 < length stamps.old }
-    requires loaded { AreLoaded sites.now (shown lanes) halves count }
-    requires room { count ≤ 256 }
-    requires few { length sites.now ≤ 255 }
-    requires ranked { AreRanked sites.now }
-    requires rows { All (HasRows (shown lanes)) sites.now }
-    requires fits { base + length sites.now * (count + 1) < 2 ^ 16 }
-    ensures few { result ≤ count }
-    ensures unmet { WatchedUnmet sites.now (shown lanes.entry) result }
-    ensures own { (lane : ℕ) → lane < result → AllPairs (WatchedOwn (shown lanes.entry) lane) sites.now }
-    ensures exact { AreStale stamps.old base → result < count → Meets sites.now (shown lanes.entry)
-        (length stamps.old) result }
-    ensures stale { AreStale stamps.old base → AreStale stamps.new (base + length sites.now * (count + 1)) }
+/// Whether places are halves at the first site that is watched; `None` if none is.
+fn watched_size(sites: &[Site]) -> Option<bool>
+    ensures { result ≡ None → All (λ site. site.watched ≡ false) sites.now }
 {
-    mark_sites(sites, lanes, halves, count, stamps, base);
-    look_sites(sites, lanes, halves, count, stamps, base)
+    for site in sites {
+        if site.watched {
+            return Some(site.kind.is_of_halves());
+        }
+    }
+    None
 }
 
 /// Stamps of all turns. Those of earlier turns are never greater than the base of the next, and so they don't matter;
@@ -87,14 +73,12 @@ impl Stamps {
     fn count_watched(
         &mut self,
         sites: &[Site],
-        links: &[u8; 256],
         lanes: Lanes<'_>,
         count: usize,
         halves: bool,
     ) -> usize
         requires room { count ≤ 256 }
         requires few { length sites.now ≤ 255 }
-        requires links { AreLinks sites.now links.now }
         requires ranked { AreRanked sites.now }
         requires rows { All (HasRows (shown lanes)) sites.now }
         ensures few { result ≤ count }
@@ -105,12 +89,13 @@ impl Stamps {
         if are_loaded(sites, lanes, halves, count) {
             let rise = (sites.len() * (count + 1)) as u16;
             self.begin(rise);
-            let limit = count_loaded(sites, lanes, halves, count, &mut self.stamps, self.base);
+            mark_sites(sites, lanes, count, &mut self.stamps, self.base);
+            let limit = look_sites(sites, lanes, count, &self.stamps, self.base);
             self.base += rise;
             return limit;
         }
         self.begin(TURN);
-        let limit = count_unmet(sites, links, lanes, count, &mut self.stamps, self.base);
+        let limit = count_unmet(sites, lanes, count, &mut self.stamps, self.base);
         self.base += TURN;
         limit
     }
@@ -133,12 +118,9 @@ impl Stamps {
         ensures exact { result < count → Meets sites.now (shown lanes.entry) 32768 result }
     {
         law_of_operators();
-        let mut links = [0; 256];
-        link(sites, &mut links);
-        if links[0] as usize == sites.len() {
+        let Some(halves) = watched_size(sites) else {
             return count;
-        }
-        let halves = sites[links[0] as usize].kind.is_of_halves();
-        self.count_watched(sites, &links, lanes, count, halves)
+        };
+        self.count_watched(sites, lanes, count, halves)
     }
 }

@@ -1,6 +1,5 @@
-use Rattle.std.{proofs.Common.{◌∙◌, sym, ap, slice_index}, specs.Prelude.{Option}}
-use Rattle.lane_rows.specs.{declared.line.Line.{Line}, Rows.{word_by}}
-use Rattle.lane_stamps.{specs.Sites.{mask_of, places_of, shown, value_of, values_of}, proofs.ApplyLaws.{same_values}}
+use Rattle.std.proofs.Common.{◌∙◌, sym}
+use Rattle.lane_stamps.{specs.Sites.{mask_of, places_of, shown, values_of}, proofs.ApplyLaws.{line_values}}
 use Rattle.lane_stamps.proofs.KeepLaws.{site_keeps}
 use Rattle.lane_stamps.proofs.applying.apply_site.Goals as goal
 
@@ -13,8 +12,13 @@ returns-in-Some c =
     let site = c.args.site.now in
     let lanes = shown c.args.lanes in
     c.apply_kind-in-Some.ensures
-    ∙ same_values site.kind (mask_of lanes site) (places_of lanes site) (slice_index c.spell.new.out)
-    (value_of lanes site) c.args.count
-    (λ lane less. c.spell.ensures lane less
-    ∙ sym (ap (λ (line : Option Line). word_by line (values_of lanes site).lanes lane) c.in-Some.is))
-    c.args.words.now
+    ∙ line_values site.kind (mask_of lanes site) (places_of lanes site) (values_of lanes site) _ c.spell_words.new.out
+    c.args.count c.args.words.now c.in-Some.is c.spell_words.ensures
+
+pub returns-in-Some-2 : goal.returns-in-Some-2
+returns-in-Some-2 c =
+    let site = c.args.site.now in
+    let lanes = shown c.args.lanes in
+    c.apply_kind-in-Some-2.ensures
+    ∙ line_values site.kind (mask_of lanes site) (places_of lanes site) (values_of lanes site) _ c.spell.new.out
+    c.args.count c.args.words.now c.in-Some-2.is c.spell.ensures

@@ -17,7 +17,6 @@ loop-at-preserved c =
     let sites = c.args.sites.now in
     let many = length sites in
     let lanes = shown c.args.lanes in
-    let halves = c.args.halves in
     let stamps = c.args.stamps.now in
     let base = c.args.base in
     let count = c.args.count in
@@ -30,14 +29,14 @@ loop-at-preserved c =
     let site : Site = slice_index_or sites at none in
     record {
       few = omega (arith, few, inv.few);
-      none = each_more (λ (i : ℕ). LoadsNoGreater lanes halves stamps new (top_at base many count i) many) sites at none
+      none = each_more (λ (i : ℕ). LoadsNoGreater lanes stamps new (top_at base many count i) many) sites at none
           inside
           (λ k d less watched load lane below there. inv.none k d less watched load lane (omega (arith, below, few))
           there)
-          (subst (λ (top : ℕ). LoadsNoGreater lanes halves stamps new top many site) c.top_of-top.ensures.top
+          (subst (λ (top : ℕ). LoadsNoGreater lanes stamps new top many site) c.top_of-top.ensures.top
           c.look_site-limit.ensures.none);
-      met = greater_more sites lanes halves stamps base count at old new none inside few
-          (λ now. subst (λ (top : ℕ). LoadsGreaterAt lanes halves stamps new (mark_at top many new) site)
+      met = greater_more sites lanes stamps base count at old new none inside few
+          (λ now. subst (λ (top : ℕ). LoadsGreaterAt lanes stamps new (mark_at top many new) site)
           c.top_of-top.ensures.top (c.look_site-limit.ensures.met now))
           inv.met;
     }

@@ -1,6 +1,6 @@
 use Rattle.std.proofs.Common.{◌≡◌, ℕ, ◌≤◌, true, inl, refl, below_more, arith}
 use Rattle.lane_rows.specs.Rows.{is_in, place_at}
-use Rattle.lane_stamps.{specs.{Stamps.{stamp_at}, Marks.{half_for, mark_at}}, proofs.MarkLaws.{marks_more}}
+use Rattle.lane_stamps.{specs.{Stamps.{stamp_at}, Marks.{mark_at}}, proofs.MarkLaws.{marks_more}}
 use Rattle.lane_stamps.proofs.StampSteps.{rises_at}
 use Rattle.lane_stamps.proofs.marking.mark_lanes.Goals as goal
 
@@ -13,7 +13,6 @@ loop-lane-init c = record {
 
 pub loop-lane-preserved : goal.loop-lane-preserved
 loop-lane-preserved c =
-    let halves = c.args.halves in
     let mask = c.args.mask.now in
     let places = c.args.places.now in
     let top = c.args.top in
@@ -26,15 +25,15 @@ loop-lane-preserved c =
     let long = c.mark_lane.auto.stamps in
     record {
       marked = below_more (λ (i : ℕ). is_in mask i ≡ true
-          → mark_at top sites i ≤ stamp_at new (half_for halves (place_at places i)))
+          → mark_at top sites i ≤ stamp_at new (place_at places i))
           lane
           (λ i less there. omega (
             arith,
             inv.marked i less there,
-            rises_at old new (half_for halves (place_at places i)) long c.mark_lane.ensures.rises,
+            rises_at old new (place_at places i) long c.mark_lane.ensures.rises,
           ))
           (λ there. omega (arith, c.mark_of-mark.ensures, c.mark_lane.ensures.marked there));
       rises = λ at. omega (arith, inv.rises at, c.mark_lane.ensures.rises at);
-      only = marks_more halves mask places lane top sites c.mark_of-mark.result first old new c.loop-lane.auto.stamps
+      only = marks_more mask places lane top sites c.mark_of-mark.result first old new c.loop-lane.auto.stamps
           c.mark_of-mark.ensures c.mark_lane.ensures.only inv.only;
     }

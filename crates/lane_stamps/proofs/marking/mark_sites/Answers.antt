@@ -1,7 +1,7 @@
 use Rattle.std.proofs.Common.{false, ℕ, ◌<◌, length, slice_index_or, subst, arith}
 use Rattle.lane_rows.specs.Rows.{place_at}
 use Rattle.lane_stamps.specs.{declared.{kind.Kind.TheVariants.{Load}, site.Site.{Site}}, Sites.{places_of, shown}}
-use Rattle.lane_stamps.{specs.Marks.{LeavesMarks, MarksAt, half_for, top_at}, proofs.MarkLaws.{each_more, known_marks}}
+use Rattle.lane_stamps.{specs.Marks.{LeavesMarks, MarksAt, top_at}, proofs.MarkLaws.{each_more, known_marks}}
 use Rattle.lane_stamps.proofs.StampSteps.{rises_at}
 use Rattle.lane_stamps.proofs.marking.mark_sites.Goals as goal
 
@@ -17,7 +17,6 @@ loop-at-preserved c =
     let sites = c.args.sites.now in
     let many = length sites in
     let lanes = shown c.args.lanes in
-    let halves = c.args.halves in
     let base = c.args.base in
     let count = c.args.count in
     let at = c.loop-at.at in
@@ -28,18 +27,18 @@ loop-at-preserved c =
     let inside : at < length sites = omega (arith, c.loop-at-test.true, c.loop-at.auto.at-end) in
     let site : Site = slice_index_or sites at none in
     record {
-      marked = each_more (λ (i : ℕ). LeavesMarks lanes halves new count (top_at base many count i) many) sites at none
+      marked = each_more (λ (i : ℕ). LeavesMarks lanes new count (top_at base many count i) many) sites at none
           inside
           (λ k d less watched left lane within there. omega (
             arith,
-            rises_at old new (half_for halves (place_at (places_of lanes (slice_index_or sites k d)) lane)) long
+            rises_at old new (place_at (places_of lanes (slice_index_or sites k d)) lane) long
                 c.mark_site.ensures.rises,
             inv.marked k d less watched left lane within there,
           ))
-          (subst (λ (top : ℕ). LeavesMarks lanes halves new count top many site) c.top_of-top.ensures.top
+          (subst (λ (top : ℕ). LeavesMarks lanes new count top many site) c.top_of-top.ensures.top
           c.mark_site.ensures.marked);
-      known = λ fresh. known_marks sites lanes halves base count at old new none long inside
-          (subst (λ (top : ℕ). MarksAt old new lanes halves count top many site) c.top_of-top.ensures.top
+      known = λ fresh. known_marks sites lanes base count at old new none long inside
+          (subst (λ (top : ℕ). MarksAt old new lanes count top many site) c.top_of-top.ensures.top
           c.mark_site.ensures.only)
           (inv.known fresh);
     }

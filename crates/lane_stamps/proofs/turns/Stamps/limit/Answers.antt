@@ -1,20 +1,18 @@
 use Rattle.std.proofs.Common.{arith}
-use Rattle.lane_stamps.{specs.Sites.{shown}, proofs.{LinkLaws.{none_watched}, StampLaws.{go_together}}}
-use Rattle.lane_stamps.proofs.StampSteps.{all_unmet, all_own}
+use Rattle.lane_stamps.{specs.Sites.{shown}, proofs.StampLaws.{go_together}}
+use Rattle.lane_stamps.proofs.StampSteps.{all_unmet, all_own, none_watched}
 use Rattle.lane_stamps.proofs.turns.Stamps.limit.Goals as goal
 
-pub returns-then-links-sites-clause-unmet : goal.returns-then-links-sites-clause-unmet
-returns-then-links-sites-clause-unmet c =
+pub returns-in_default-clause-unmet : goal.returns-in_default-clause-unmet
+returns-in_default-clause-unmet c =
     all_unmet c.args.sites.now (shown c.args.lanes) c.args.count c.args.count (omega arith) c.requires.apart
-    (none_watched c.args.sites.now (shown c.args.lanes) _ c.args.count (c.link.ensures 0 (omega arith))
-    (omega (arith, c.if-links-sites.true)))
+    (none_watched c.args.sites.now (shown c.args.lanes) c.args.count (c.watched_size.ensures c.in_default.is))
 
-pub returns-then-links-sites-clause-together : goal.returns-then-links-sites-clause-together
-returns-then-links-sites-clause-together c =
+pub returns-in_default-clause-together : goal.returns-in_default-clause-together
+returns-in_default-clause-together c =
     go_together c.law_of_operators.ensures (shown c.args.lanes) c.args.count c.args.sites.now c.requires.ranked
     (all_unmet c.args.sites.now (shown c.args.lanes) c.args.count c.args.count (omega arith) c.requires.apart
-    (none_watched c.args.sites.now (shown c.args.lanes) _ c.args.count (c.link.ensures 0 (omega arith))
-    (omega (arith, c.if-links-sites.true))))
+    (none_watched c.args.sites.now (shown c.args.lanes) c.args.count (c.watched_size.ensures c.in_default.is)))
 
 pub returns-clause-unmet : goal.returns-clause-unmet
 returns-clause-unmet c =
