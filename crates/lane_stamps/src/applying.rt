@@ -45,7 +45,7 @@ fn left_if(
     value: u64,
 ) -> u64
     requires all { all ≡ mask.now.all }
-    requires lane { lane < 256 }
+    requires lane { lane < 512 }
     ensures { result ≡ if is_in mask.now lane
         then left_by (action_on (deed_by kind (half_named place) value) word) word else word }
 {
@@ -66,7 +66,7 @@ fn apply_at_one(
     words: &mut [u64],
 )
     requires all { all ≡ mask.now.all }
-    requires room { count ≤ 256 }
+    requires room { count ≤ 512 }
     requires long { count ≤ length values.now }
     requires within { element_named (is_of_halves kind) place < length words.old }
     ensures { (places : Places) → IsPlace place places count
@@ -93,7 +93,7 @@ fn apply_along(
     words: &mut [u64],
 )
     requires all { all ≡ mask.now.all }
-    requires room { count ≤ 256 }
+    requires room { count ≤ 512 }
     requires long { count ≤ length values.now }
     requires within { element_named (is_of_halves kind) first + count ≤ length words.old }
     ensures { (places : Places) → RunsFrom (is_of_halves kind) first places count
@@ -129,7 +129,7 @@ fn apply_lane(
 )
     requires all { all ≡ mask.now.all }
     requires line { line ≡ places.now.line }
-    requires lane { lane < 256 }
+    requires lane { lane < 512 }
     requires long { lane < length values.now }
     requires within { LiesBelow (length words.old) (is_of_halves kind) mask.now places.now lane }
     ensures { words.new
@@ -156,7 +156,7 @@ fn apply_each(
 )
     requires all { all ≡ mask.now.all }
     requires line { line ≡ places.now.line }
-    requires room { count ≤ 256 }
+    requires room { count ≤ 512 }
     requires long { count ≤ length values.now }
     requires within { (lane : ℕ) → lane < count
         → LiesBelow (length words.old) (is_of_halves kind) mask.now places.now lane }
@@ -180,7 +180,7 @@ fn apply_pair(
     words: &mut [u64],
 )
     requires all { all ≡ mask.now.all }
-    requires lane { lane + 1 < 256 }
+    requires lane { lane + 1 < 512 }
     requires long { lane + 1 < length values.now }
     requires within { at < length words.old }
     ensures { (places : Places) → IsPairAt (is_of_halves kind) at lane places
@@ -206,7 +206,7 @@ fn apply_halves(
 )
     requires all { all ≡ mask.now.all }
     requires halves { is_of_halves kind ≡ true }
-    requires room { count ≤ 256 }
+    requires room { count ≤ 512 }
     requires long { count ≤ length values.now }
     requires run { HalvesFrom start places.now count }
     requires within { start + count ≤ length words.old }
@@ -242,7 +242,7 @@ fn apply_anyhow(
     words: &mut [u64],
 )
     requires all { all ≡ mask.now.all }
-    requires room { count ≤ 256 }
+    requires room { count ≤ 512 }
     requires long { count ≤ length values.now }
     requires within { (lane : ℕ) → lane < count
         → LiesBelow (length words.old) (is_of_halves kind) mask.now places.now lane }
@@ -273,7 +273,7 @@ fn apply_formed(
     words: &mut [u64],
 )
     requires all { all ≡ mask.now.all }
-    requires room { count ≤ 256 }
+    requires room { count ≤ 512 }
     requires long { count ≤ length values.now }
     requires within { (lane : ℕ) → lane < count
         → LiesBelow (length words.old) (is_of_halves kind) mask.now places.now lane }
@@ -297,7 +297,7 @@ fn apply_known(
     count: usize,
     words: &mut [u64],
 )
-    requires room { count ≤ 256 }
+    requires room { count ≤ 512 }
     requires long { count ≤ length values.now }
     requires within { (lane : ℕ) → lane < count
         → LiesBelow (length words.old) (is_of_halves kind) mask.now places.now lane }
@@ -320,7 +320,7 @@ fn apply_kind(
     count: usize,
     words: &mut [u64],
 )
-    requires room { count ≤ 256 }
+    requires room { count ≤ 512 }
     requires long { count ≤ length values.now }
     requires within { (lane : ℕ) → lane < count
         → LiesBelow (length words.old) (is_of_halves kind) mask.now places.now lane }
@@ -346,7 +346,7 @@ fn apply_operator(
     count: usize,
     words: &mut [u64],
 )
-    requires room { count ≤ 256 }
+    requires room { count ≤ 512 }
     requires long { count ≤ length values.now }
     requires within { (lane : ℕ) → lane < count → LiesBelow (length words.old) false mask.now places.now lane }
     ensures { words.new
@@ -361,7 +361,7 @@ fn apply_operator(
 
 /// Applies what all lanes do at a site, in their order.
 fn apply_site(site: &Site, lanes: Lanes<'_>, count: usize, words: &mut [u64])
-    requires room { count ≤ 256 }
+    requires room { count ≤ 512 }
     requires rows { HasRows (shown lanes) site.now }
     requires within { IsWithin (length words.old) count (shown lanes) site.now }
     ensures { words.new ≡ words_after_lane_effects (effect_at (shown lanes.entry) site.now) count words.old }
@@ -380,7 +380,7 @@ fn apply_site(site: &Site, lanes: Lanes<'_>, count: usize, words: &mut [u64])
             apply_kind(site.kind, mask, places, &spelled, count, words);
         }
         Some(line) => {
-            let mut spelled = [0; 256];
+            let mut spelled = [0; 512];
             spell(line, &mut spelled, count);
             apply_kind(site.kind, mask, places, &spelled, count, words);
         }
@@ -389,7 +389,7 @@ fn apply_site(site: &Site, lanes: Lanes<'_>, count: usize, words: &mut [u64])
 
 /// Applies what the first lanes do, that may go together: the words are those after one lane after another.
 pub fn apply(sites: &[Site], lanes: Lanes<'_>, count: usize, words: &mut [u64])
-    requires room { count ≤ 256 }
+    requires room { count ≤ 512 }
     requires rows { All (HasRows (shown lanes)) sites.now }
     requires within { All (IsWithin (length words.old) count (shown lanes)) sites.now }
     requires together { GoTogether (log_of sites.now (shown lanes)) count }

@@ -12,8 +12,8 @@ use lane_rows::{Mask, Places, is_empty};
 /// Whether the first lanes, where they are in a mask, have the same numbers in both arrays.
 // Not inlined: its loop would spill the registers of the caller's.
 #[inline(never)]
-fn are_equal(mask: &Mask, first: &[u32; 256], second: &[u32; 256], count: usize) -> bool
-    requires { count ≤ 256 }
+fn are_equal(mask: &Mask, first: &[u32; 512], second: &[u32; 512], count: usize) -> bool
+    requires { count ≤ 512 }
     ensures { result ≡ true → (lane : ℕ) → lane < count → is_in mask.now lane ≡ true
         → slice_index first.now lane ≡ slice_index second.now lane }
 {
@@ -28,7 +28,7 @@ fn are_equal(mask: &Mask, first: &[u32; 256], second: &[u32; 256], count: usize)
 /// Whether the first lanes, where they are in a mask, are known to have the same place in both. Other places mostly
 /// differ in the first lane.
 fn are_same(mask: &Mask, first: &Places, second: &Places, count: usize) -> bool
-    requires { count ≤ 256 }
+    requires { count ≤ 512 }
     ensures { result ≡ true → ArePlacedAlike mask.now first.now second.now count }
 {
     match (first.line, second.line) {
@@ -44,7 +44,7 @@ fn are_same(mask: &Mask, first: &Places, second: &Places, count: usize) -> bool
 /// Whether the first lanes load at another site wherever they get to one: at the same places, and in the same mask or
 /// in one of all lanes.
 fn is_loaded_by(site: &Site, by: &Site, lanes: Lanes<'_>, count: usize) -> bool
-    requires room { count ≤ 256 }
+    requires room { count ≤ 512 }
     requires site { HasRows (shown lanes) site.now }
     requires by { HasRows (shown lanes) by.now }
     ensures { result ≡ true → EachThere (shown lanes.entry) count site.now
@@ -65,7 +65,7 @@ fn is_loaded_by(site: &Site, by: &Site, lanes: Lanes<'_>, count: usize) -> bool
 
 /// Whether lanes load at one of the sites wherever they leave something at this one.
 fn is_loaded(site: &Site, sites: &[Site], lanes: Lanes<'_>, count: usize) -> bool
-    requires room { count ≤ 256 }
+    requires room { count ≤ 512 }
     requires site { HasRows (shown lanes) site.now }
     requires rows { All (HasRows (shown lanes)) sites.now }
     ensures { result ≡ true → leaves site.now.kind ≡ true → EachThere (shown lanes.entry) count site.now
@@ -85,7 +85,7 @@ fn is_loaded(site: &Site, sites: &[Site], lanes: Lanes<'_>, count: usize) -> boo
 /// Whether the sites that are watched, and that lanes get to, are of one size, and lanes load wherever they leave
 /// something.
 pub(crate) fn are_loaded(sites: &[Site], lanes: Lanes<'_>, halves: bool, count: usize) -> bool
-    requires room { count ≤ 256 }
+    requires room { count ≤ 512 }
     requires rows { All (HasRows (shown lanes)) sites.now }
     ensures { result ≡ true → AreLoaded sites.now (shown lanes.entry) halves count }
 {
@@ -100,7 +100,7 @@ pub(crate) fn are_loaded(sites: &[Site], lanes: Lanes<'_>, halves: bool, count: 
 /// Whether a site isn't watched, or no lane gets to it, or it is of a size and lanes load wherever they leave something
 /// there.
 fn is_plain(site: &Site, sites: &[Site], lanes: Lanes<'_>, halves: bool, count: usize) -> bool
-    requires room { count ≤ 256 }
+    requires room { count ≤ 512 }
     requires site { HasRows (shown lanes) site.now }
     requires rows { All (HasRows (shown lanes)) sites.now }
     ensures { result ≡ true → site.now.watched ≡ true → EachThere (shown lanes.entry) count site.now

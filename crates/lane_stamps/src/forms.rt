@@ -30,7 +30,7 @@ pub fn element_of(halves: bool, place: u32) -> usize
 
 /// The form of the places of the first lanes, for elements below a number.
 pub fn form_of(places: &Places, halves: bool, count: usize, elements: usize) -> Form
-    requires { count ≤ 256 }
+    requires { count ≤ 512 }
     ensures { IsFormOf result halves places.now count elements }
 {
     let Some(line) = places.line else {
@@ -40,7 +40,7 @@ pub fn form_of(places: &Places, halves: bool, count: usize, elements: usize) -> 
     let step = if halves { 2 } else { 1 };
     if line.step == 0 && first < elements {
         Form::One(line.first)
-    } else if line.step == step && first + count <= elements && line.first <= u32::MAX - 512 {
+    } else if line.step == step && first + count <= elements && line.first <= u32::MAX - 1024 {
         Form::Run(line.first)
     } else {
         Form::Any
@@ -49,7 +49,7 @@ pub fn form_of(places: &Places, halves: bool, count: usize, elements: usize) -> 
 
 /// The first element of halves that run on one after another, from a lower one on, for elements below a number.
 pub(crate) fn halves_from(places: &Places, count: usize, elements: usize) -> Option<usize>
-    requires { count ≤ 256 }
+    requires { count ≤ 512 }
     ensures from { IfSome result (λ start. HalvesFrom start places.now count) }
     ensures within { IfSome result (λ start. start + count ≤ elements) }
 {
@@ -59,7 +59,7 @@ pub(crate) fn halves_from(places: &Places, count: usize, elements: usize) -> Opt
     let start = line.first as usize / 2;
     if line.step == 1
         && line.first % 2 == 0
-        && line.first <= u32::MAX - 512
+        && line.first <= u32::MAX - 1024
         && start + count <= elements
     {
         Some(start)

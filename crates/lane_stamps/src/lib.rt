@@ -3,7 +3,7 @@
 //!
 //! ```text
 //! rank_sites(&mut sites);
-//! let count = stamps.limit(&sites, lanes, 256);    // none of these lanes loads what an earlier one leaves
+//! let count = stamps.limit(&sites, lanes, 512);    // none of these lanes loads what an earlier one leaves
 //! apply(&sites, lanes, count, &mut words);
 //! ```
 #![tactic(auto)]

@@ -25,7 +25,7 @@ fn mark_lane(
 )
     requires all { all ≡ mask.now.all }
     requires line { line ≡ places.now.line }
-    requires lane { lane < 256 }
+    requires lane { lane < 512 }
     requires some { 0 < length stamps.old }
     ensures marked { is_in mask.now lane ≡ true
         → mark ≤ stamp_at stamps.new (place_at places.now lane) }
@@ -45,7 +45,7 @@ fn mark_lane(
 #[inline(always)]
 fn mark_of(top: u16, sites: usize, lane: usize, count: usize) -> u16
     requires lane { lane < count }
-    requires room { count ≤ 256 }
+    requires room { count ≤ 512 }
     requires few { sites ≤ 255 }
     requires top { sites * count ≤ top }
     ensures { result ≡ mark_at top sites lane }
@@ -64,7 +64,7 @@ fn mark_lanes(
     top: u16,
     sites: usize,
 )
-    requires room { count ≤ 256 }
+    requires room { count ≤ 512 }
     requires some { 0 < length stamps.old }
     requires few { sites ≤ 255 }
     requires top { sites * count ≤ top }
@@ -92,7 +92,7 @@ fn finds_greater(
 ) -> bool
     requires all { all ≡ mask.now.all }
     requires line { line ≡ places.now.line }
-    requires lane { lane < 256 }
+    requires lane { lane < 512 }
     requires some { 0 < length stamps.now }
     ensures found { result ≡ true → FindsGreater stamps.now mask.now places.now lane mark }
     ensures none { result ≡ false → is_in mask.now lane ≡ true
@@ -116,7 +116,7 @@ fn look_lanes(
     top: u16,
     sites: usize,
 ) -> usize
-    requires room { count ≤ 256 }
+    requires room { count ≤ 512 }
     requires some { 0 < length stamps.now }
     requires few { sites ≤ 255 }
     requires top { sites * count ≤ top }
@@ -144,7 +144,7 @@ fn mark_site(
     top: u16,
     sites: usize,
 )
-    requires room { count ≤ 256 }
+    requires room { count ≤ 512 }
     requires some { 0 < length stamps.old }
     requires few { sites ≤ 255 }
     requires rows { HasRows (shown lanes) site.now }
@@ -169,7 +169,7 @@ fn look_site(
     top: u16,
     sites: usize,
 ) -> usize
-    requires room { count ≤ 256 }
+    requires room { count ≤ 512 }
     requires some { 0 < length stamps.now }
     requires few { sites ≤ 255 }
     requires rows { HasRows (shown lanes) site.now }
@@ -191,7 +191,7 @@ fn look_site(
 #[inline(always)]
 fn top_of(base: u16, sites: usize, count: usize, at: usize) -> u16
     requires few { sites ≤ 255 }
-    requires room { count ≤ 256 }
+    requires room { count ≤ 512 }
     requires at { at < sites }
     requires fits { base + sites * (count + 1) < 2 ^ 16 }
     ensures top { result ≡ top_at base sites count at }
@@ -208,7 +208,7 @@ pub(crate) fn mark_sites(
     stamps: &mut [u16],
     base: u16,
 )
-    requires room { count ≤ 256 }
+    requires room { count ≤ 512 }
     requires some { 0 < length stamps.old }
     requires few { length sites.now ≤ 255 }
     requires rows { All (HasRows (shown lanes)) sites.now }
@@ -231,7 +231,7 @@ pub(crate) fn look_sites(
     stamps: &[u16],
     base: u16,
 ) -> usize
-    requires room { count ≤ 256 }
+    requires room { count ≤ 512 }
     requires some { 0 < length stamps.now }
     requires few { length sites.now ≤ 255 }
     requires rows { All (HasRows (shown lanes)) sites.now }

@@ -8,7 +8,7 @@ use lane_rows::{Mask, PlaceLine, Places};
 /// Whether a lane is in a mask.
 #[inline(always)]
 pub fn has(mask: &Mask, lane: usize) -> bool
-    requires { lane < 256 }
+    requires { lane < 512 }
     ensures { result ≡ is_in mask.now lane }
 {
     is_there(mask.all, mask, lane)
@@ -18,7 +18,7 @@ pub fn has(mask: &Mask, lane: usize) -> bool
 #[inline(always)]
 pub(crate) fn is_there(all: bool, mask: &Mask, lane: usize) -> bool
     requires all { all ≡ mask.now.all }
-    requires lane { lane < 256 }
+    requires lane { lane < 512 }
     ensures { result ≡ is_in mask.now lane }
 {
     all | mask.lanes[lane]
@@ -27,7 +27,7 @@ pub(crate) fn is_there(all: bool, mask: &Mask, lane: usize) -> bool
 /// The place of a lane.
 #[inline(always)]
 pub fn place_of(places: &Places, lane: usize) -> u32
-    requires { lane < 256 }
+    requires { lane < 512 }
     ensures { result ≡ place_at places.now lane }
 {
     place_on(places.line, places, lane)
@@ -37,7 +37,7 @@ pub fn place_of(places: &Places, lane: usize) -> u32
 #[inline(always)]
 pub fn place_on(line: Option<PlaceLine>, places: &Places, lane: usize) -> u32
     requires line { line ≡ places.now.line }
-    requires lane { lane < 256 }
+    requires lane { lane < 512 }
     ensures { result ≡ place_at places.now lane }
 {
     match line {

@@ -78,7 +78,7 @@ fn go_known(
     requires halves { halves ≡ is_of_halves site.now.kind }
     requires loads { loads ≡ loads_of site.now.kind }
     requires leaves { leaves ≡ leaves_of site.now.kind }
-    requires lane { lane < 256 }
+    requires lane { lane < 512 }
     requires some { 0 < length stamps.old }
     requires rows { HasRows (shown lanes) site.now }
     requires room { base + site.now.rank < 2 ^ 16 }
@@ -106,7 +106,7 @@ fn go_known(
 /// The same, if the site is watched. Its kind isn't known.
 #[inline(always)]
 fn go_at(site: &Site, lanes: Lanes<'_>, lane: usize, stamps: &mut [u16], base: u16) -> bool
-    requires lane { lane < 256 }
+    requires lane { lane < 512 }
     requires some { 0 < length stamps.old }
     requires rows { HasRows (shown lanes) site.now }
     requires room { base + site.now.rank < 2 ^ 16 }
@@ -134,7 +134,7 @@ fn go_at(site: &Site, lanes: Lanes<'_>, lane: usize, stamps: &mut [u16], base: u
 /// The same at all sites that are watched, one after another.
 #[inline(always)]
 fn go_lane(sites: &[Site], lanes: Lanes<'_>, lane: usize, stamps: &mut [u16], base: u16) -> bool
-    requires lane { lane < 256 }
+    requires lane { lane < 512 }
     requires some { 0 < length stamps.old }
     requires ranked { AreRanked sites.now }
     requires rows { All (HasRows (shown lanes)) sites.now }
@@ -165,7 +165,7 @@ pub(crate) fn count_unmet(
     stamps: &mut [u16],
     base: u16,
 ) -> usize
-    requires room { count ≤ 256 }
+    requires room { count ≤ 512 }
     requires some { 0 < length stamps.old }
     requires ranked { AreRanked sites.now }
     requires rows { All (HasRows (shown lanes)) sites.now }

@@ -17,6 +17,9 @@ pub const MOST_SITES: usize = 255;
 /// The greatest rank of a site, and so how far stamps rise in a turn by ranks.
 const TURN: u16 = 256;
 
+/// Fewer sites than this have stamps by lanes and ranks that fit into a turn.
+const RANKED_SITES: usize = 128;
+
 /// The half of a number has the slot of its remainder.
 const SLOTS: usize = 32_768;
 
@@ -77,7 +80,7 @@ impl Stamps {
         count: usize,
         halves: bool,
     ) -> usize
-        requires room { count ≤ 256 }
+        requires room { count ≤ 512 }
         requires few { length sites.now ≤ 255 }
         requires ranked { AreRanked sites.now }
         requires rows { All (HasRows (shown lanes)) sites.now }
@@ -86,7 +89,7 @@ impl Stamps {
         ensures own { (lane : ℕ) → lane < result → AllPairs (WatchedOwn (shown lanes.entry) lane) sites.now }
         ensures exact { result < count → Meets sites.now (shown lanes.entry) 32768 result }
     {
-        if are_loaded(sites, lanes, halves, count) {
+        if sites.len() < RANKED_SITES && are_loaded(sites, lanes, halves, count) {
             let rise = (sites.len() * (count + 1)) as u16;
             self.begin(rise);
             mark_sites(sites, lanes, count, &mut self.stamps, self.base);
@@ -106,7 +109,7 @@ impl Stamps {
     /// Sites are ranked, and at most `MOST_SITES`. Only those that are watched are looked at. Two halves have one stamp
     /// if their numbers are equal modulo 32,768: then a lane may be stopped that meets none.
     pub fn limit(&mut self, sites: &[Site], lanes: Lanes<'_>, count: usize) -> usize
-        requires room { count ≤ 256 }
+        requires room { count ≤ 512 }
         requires few { length sites.now ≤ 255 }
         requires ranked { AreRanked sites.now }
         requires rows { All (HasRows (shown lanes)) sites.now }

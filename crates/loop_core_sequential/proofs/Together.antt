@@ -155,7 +155,7 @@ pub ran_together : EachIterationSimulates → EachProgramEnds → EachCountIsSma
     → IsSoundProgram program → (call : LoopCall) → OverApproximatesCall program call → (bytes : List ℕ)
     → map Some bytes ≡ call.frame → (rows : CallbackRows) → AreRowsAt program call.callback rows
     → (words : List ℕ) → AreMapWords program words → (first lanes returned count : ℕ) → returned ≤ lanes
-    → count ≤ returned → lanes ≤ 256 → first + lanes ≤ call.n → (old new : Batch) → sites_of new ≡ sites_of old
+    → count ≤ returned → lanes ≤ 512 → first + lanes ≤ call.n → (old new : Batch) → sites_of new ≡ sites_of old
     → rows_of new ≡ rows_of old
     → AllRan rows.list.list.items rows.list.result first returned bytes words (batch_log old)
     → All (IsWithin (length words) count (rows_of new)) (sites_of new) → AreRanked (sites_of old)

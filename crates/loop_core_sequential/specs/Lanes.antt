@@ -23,7 +23,7 @@ LoadsNoneLeft sites rows lanes = (later earlier : ℕ) → earlier < later → l
 
 -- what the first lanes of a batch did may be applied to so many words
 pub record MayApply (batch : Batch) (lanes words : ℕ) : Type 0 where
-  pub room : lanes ≤ 256
+  pub room : lanes ≤ 512
   pub rows : All (HasRows (rows_of batch)) (sites_of batch)
   pub within : All (IsWithin words lanes (rows_of batch)) (sites_of batch)
   pub together : GoTogether (batch_log batch) lanes

@@ -51,7 +51,7 @@ impl Batches {
     ) -> u32
         requires ready { IsLoopRun run.now }
         requires rows { AreRowsAt run.now.program.now run.now.call.now.callback rows.now }
-        requires room { lanes ≤ 256 }
+        requires room { lanes ≤ 512 }
         requires within { index + lanes ≤ run.now.call.now.n }
         requires sizes { maps.old.sizes ≡ run.now.program.now.sizes }
         ensures few { result ≤ lanes }
@@ -84,7 +84,7 @@ impl Batches {
     ) -> Option<u32>
         requires ready { IsLoopRun run.now }
         requires rows { AreRowsAt run.now.program.now run.now.call.now.callback rows.now }
-        requires room { lanes ≤ 256 }
+        requires room { lanes ≤ 512 }
         requires within { index + lanes ≤ run.now.call.now.n }
         requires sizes { maps.now.sizes ≡ run.now.program.now.sizes }
         ensures { IfSome result (RanTogether run.now.program.now run.now.call.now index lanes maps.now.words

@@ -7,7 +7,7 @@ use row_run::Batch;
 use std::alloc::Global;
 
 /// The most iterations that are done together.
-pub(crate) const MOST: u32 = 256;
+pub(crate) const MOST: u32 = 512;
 
 /// The fewest that are tried after a batch of which some didn't go.
 const LEAST: u32 = 32;
@@ -41,8 +41,8 @@ pub(crate) struct Batches {
     patience: u32,
     /// How many batches were whole since then: all of their lanes went.
     whole: u32,
-    ghost lanes_fit: { (0 < lanes) × (lanes ≤ 256) },
-    ghost quarters_fit: { quarters ≤ 1024 },
+    ghost lanes_fit: { (0 < lanes) × (lanes ≤ 512) },
+    ghost quarters_fit: { quarters ≤ 2048 },
     ghost pause_fits: { (0 < pause) × (pause ≤ 4096) },
     ghost patience_fits: { patience ≤ 64 },
     ghost whole_fits: { whole ≤ 64 },
@@ -71,7 +71,7 @@ impl Batches {
     /// Notes that so many of a batch's lanes went: how many are tried the next time, and how many iterations go alone
     /// before.
     pub(crate) fn pace(&mut self, count: u32, lanes: u32)
-        requires { count ≤ 256 }
+        requires { count ≤ 512 }
         ensures { count ≡ 0 → 0 < self.new.alone }
     {
         let quarters = if self.quarters == 0 {

@@ -1,5 +1,5 @@
 //! Loops in order: all iterations of a loop call on one thread, each on the maps that the one before left.
-//! Iterations that may go together do, up to 256 at a time. A loop may be watched while it runs so: where no iteration
+//! Iterations that may go together do, up to 512 at a time. A loop may be watched while it runs so: where no iteration
 //! reads what an earlier one wrote, it is known to pass by the flow test; else it can go on from there.
 #![tactic(auto)]
 

@@ -14,7 +14,7 @@ use loop_core_undo::UndoLog;
 
 /// Whether no lane reads an element that was written before, reduces any, or replaces a half of one.
 pub(crate) fn are_unread(sites: &[Site], of_lanes: Lanes<'_>, lanes: u32, log: &UndoLog) -> bool
-    requires room { lanes ≤ 256 }
+    requires room { lanes ≤ 512 }
     requires rows { All (HasRows (shown of_lanes)) sites.now }
     requires within { All (IsWithin (log_elements log.now) lanes (shown of_lanes)) sites.now }
     ensures { result ≡ true → All (IsUnread (is_written log.now) lanes (shown of_lanes.entry)) sites.now }
@@ -29,7 +29,7 @@ pub(crate) fn are_unread(sites: &[Site], of_lanes: Lanes<'_>, lanes: u32, log: &
 
 /// Whether no lane does so at one site.
 fn is_unread(site: &Site, of_lanes: Lanes<'_>, lanes: u32, log: &UndoLog) -> bool
-    requires room { lanes ≤ 256 }
+    requires room { lanes ≤ 512 }
     requires rows { HasRows (shown of_lanes) site.now }
     requires within { IsWithin (log_elements log.now) lanes (shown of_lanes) site.now }
     ensures { result ≡ true → IsUnread (is_written log.now) lanes (shown of_lanes.entry) site.now }
@@ -53,7 +53,7 @@ pub(crate) fn is_any_written(
     lanes: u32,
     log: &UndoLog,
 ) -> bool
-    requires room { lanes ≤ 256 }
+    requires room { lanes ≤ 512 }
     requires within { AreBelow (log_elements log.now) lanes halves mask.now places.now }
     ensures { result ≡ false → AreUnwritten (is_written log.now) lanes halves mask.now places.now }
 {
@@ -69,7 +69,7 @@ pub(crate) fn is_any_written(
 
 /// The same, lane by lane.
 fn is_one_written(halves: bool, mask: &Mask, places: &Places, lanes: u32, log: &UndoLog) -> bool
-    requires room { lanes ≤ 256 }
+    requires room { lanes ≤ 512 }
     requires within { AreBelow (log_elements log.now) lanes halves mask.now places.now }
     ensures { result ≡ false → AreUnwritten (is_written log.now) lanes halves mask.now places.now }
 {
@@ -90,7 +90,7 @@ pub(crate) fn note_writes(
     maps: &Maps,
 )
     requires some { 0 < lanes }
-    requires room { lanes ≤ 256 }
+    requires room { lanes ≤ 512 }
     requires rows { All (HasRows (shown of_lanes)) sites.now }
     requires within { All (IsWithin (log_elements log.old) lanes (shown of_lanes)) sites.now }
     requires count { length maps.now.words ≡ log_elements log.old }
@@ -106,7 +106,7 @@ pub(crate) fn note_writes(
 /// Notes the elements of the lanes that get to a site.
 fn note_site(site: &Site, of_lanes: Lanes<'_>, lanes: u32, log: &mut UndoLog, maps: &Maps)
     requires some { 0 < lanes }
-    requires room { lanes ≤ 256 }
+    requires room { lanes ≤ 512 }
     requires rows { HasRows (shown of_lanes) site.now }
     requires within { IsWithin (log_elements log.old) lanes (shown of_lanes) site.now }
     requires count { length maps.now.words ≡ log_elements log.old }
@@ -121,7 +121,7 @@ fn note_site(site: &Site, of_lanes: Lanes<'_>, lanes: u32, log: &mut UndoLog, ma
 /// Notes the elements of the lanes of a mask.
 fn note(halves: bool, mask: &Mask, places: &Places, lanes: u32, log: &mut UndoLog, maps: &Maps)
     requires some { 0 < lanes }
-    requires room { lanes ≤ 256 }
+    requires room { lanes ≤ 512 }
     requires within { AreBelow (log_elements log.old) lanes halves mask.now places.now }
     requires count { length maps.now.words ≡ log_elements log.old }
     ensures { LanesNoted maps.now.words lanes halves mask.now places.now log.old log.new }
@@ -139,7 +139,7 @@ fn note(halves: bool, mask: &Mask, places: &Places, lanes: u32, log: &mut UndoLo
 
 /// The same, lane by lane.
 fn note_each(halves: bool, mask: &Mask, places: &Places, lanes: u32, log: &mut UndoLog, maps: &Maps)
-    requires room { lanes ≤ 256 }
+    requires room { lanes ≤ 512 }
     requires within { AreBelow (log_elements log.old) lanes halves mask.now places.now }
     requires count { length maps.now.words ≡ log_elements log.old }
     ensures { LanesNoted maps.now.words lanes halves mask.now places.now log.old log.new }
@@ -159,7 +159,7 @@ fn note_if_made(
     log: &mut UndoLog,
     maps: &Maps,
 )
-    requires lane { lane < 256 }
+    requires lane { lane < 512 }
     requires within { is_in mask.now lane ≡ true → element_at halves places.now lane < log_elements log.old }
     requires count { length maps.now.words ≡ log_elements log.old }
     ensures { MarksMore (λ e. is_in mask.now lane && (element_at halves places.now lane == e)) maps.now.words log.old

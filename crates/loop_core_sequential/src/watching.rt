@@ -72,7 +72,7 @@ impl Batches {
     ) -> u32
         requires ready { IsLoopRun run.now }
         requires rows { AreRowsAt run.now.program.now run.now.call.now.callback rows.now }
-        requires room { lanes ≤ 256 }
+        requires room { lanes ≤ 512 }
         requires within { index + lanes ≤ run.now.call.now.n }
         requires sizes { maps.old.sizes ≡ run.now.program.now.sizes }
         requires count { length maps.old.words ≡ log_elements log.old }

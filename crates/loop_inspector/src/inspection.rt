@@ -26,7 +26,7 @@ use row_run::Batch;
 use std::alloc::{AllocError, Global};
 
 /// How many iterations run together.
-const LANES: u32 = 256;
+const LANES: u32 = 512;
 
 /// After how many iterations it is looked for the first time whether others can change the verdict.
 const FIRST_LOOK: u32 = 1024;
@@ -124,7 +124,7 @@ impl Inspection {
         requires known { OverApproximatesCall program.now call.now }
         requires is { IsInspectionOf program.now call.now (length maps.now.words) self.now }
         requires sizes { maps.now.sizes ≡ program.now.sizes }
-        requires room { lanes ≤ 256 }
+        requires room { lanes ≤ 512 }
         requires within { index + lanes ≤ call.now.n }
         requires elements { marks.old.planes.elements ≡ length maps.now.words }
         requires whole { ArePlanes marks.old.planes }

@@ -103,7 +103,7 @@ pub record IsEnd (mask : Mask) (greatest : Bool) (lanes end : ℕ) : Type 0 wher
 
 -- lanes get to elements below a number, which lie as is said of them
 pub record AreReached (count : ℕ) (reached : Reached) : Type 0 where
-  pub room : reached.lanes ≤ 256
+  pub room : reached.lanes ≤ 512
   pub below : AreBelow count reached.lanes reached.halves reached.mask.now reached.places.now
   pub first : IsEnd reached.mask.now false reached.lanes reached.first
   pub last : IsEnd reached.mask.now true reached.lanes reached.last

@@ -29,7 +29,7 @@ pub(crate) fn mark_sites(
 )
     requires whole { ArePlanes planes.old }
     requires test { test_of planes.old.tested ≡ Flow }
-    requires room { lanes ≤ 256 }
+    requires room { lanes ≤ 512 }
     requires indexes { index + lanes ≤ 4294967295 }
     requires rows { All (HasRows (shown of_lanes)) sites.now }
     requires within { All (IsWithin planes.old.elements lanes (shown of_lanes)) sites.now }
@@ -44,7 +44,7 @@ pub(crate) fn mark_sites(
 fn mark_site(planes: &mut Planes, site: &Site, of_lanes: Lanes<'_>, lanes: u32, index: u32)
     requires whole { ArePlanes planes.old }
     requires test { test_of planes.old.tested ≡ Flow }
-    requires room { lanes ≤ 256 }
+    requires room { lanes ≤ 512 }
     requires indexes { index + lanes ≤ 4294967295 }
     requires rows { HasRows (shown of_lanes) site.now }
     requires within { IsWithin planes.old.elements lanes (shown of_lanes) site.now }
@@ -66,7 +66,7 @@ fn mark_accesses(
 )
     requires whole { ArePlanes planes.old }
     requires test { test_of planes.old.tested ≡ Flow }
-    requires room { lanes ≤ 256 }
+    requires room { lanes ≤ 512 }
     requires indexes { index + lanes ≤ 4294967295 }
     requires within { AreBelow planes.old.elements lanes (is_of_halves kind) mask.now places.now }
     ensures { (values : ℕ → ℕ)
@@ -127,7 +127,7 @@ pub(crate) struct Reached<'a> {
 
 /// How the elements of the lanes of a mask lie, below a number.
 fn elements_of(halves: bool, mask: &Mask, places: &Places, lanes: u32, elements: u32) -> Elements
-    requires { lanes ≤ 256 }
+    requires { lanes ≤ 512 }
     ensures { AreElements elements result halves mask.now places.now lanes }
 {
     match form_of(places, halves, lanes as usize, elements as usize) {
@@ -184,7 +184,7 @@ fn set_bits(words: &mut [u64], done: bool, reached: Reached<'_>)
 
 /// The same, one element at a time.
 fn set_each(words: &mut [u64], halves: bool, mask: &Mask, places: &Places, lanes: u32)
-    requires room { lanes ≤ 256 }
+    requires room { lanes ≤ 512 }
     requires within { AreBelow (64 * length words.old) lanes halves mask.now places.now }
     ensures { SetsBits (gets_to halves mask.now places.now) lanes words.old words.new }
 {
@@ -265,7 +265,7 @@ fn keep_each(
     lanes: u32,
     index: u32,
 )
-    requires room { lanes ≤ 256 }
+    requires room { lanes ≤ 512 }
     requires indexes { index + lanes ≤ 4294967295 }
     requires within { AreBelow (length numbers.old) lanes halves mask.now places.now }
     ensures { KeepsNumbers greatest (gets_to halves mask.now places.now) lanes index numbers.old numbers.new }
@@ -293,7 +293,7 @@ fn keep_run(numbers: &mut [u32], greatest: bool, start: usize, lanes: u32, index
 
 /// The first lane of a mask, or the last, if it has any.
 fn end_of(mask: &Mask, greatest: bool, lanes: u32) -> Option<u32>
-    requires { lanes ≤ 256 }
+    requires { lanes ≤ 512 }
     ensures end { IfSome result (IsEnd mask.now greatest lanes) }
     ensures none { IfNone result (MaskHas lanes (λ _. false) mask.now) }
 {

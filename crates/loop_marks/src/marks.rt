@@ -57,7 +57,7 @@ impl LoopMarks {
         index: u32,
     ) -> bool
         requires whole { ArePlanes self.old.planes }
-        requires room { lanes ≤ 256 }
+        requires room { lanes ≤ 512 }
         requires indexes { index + lanes ≤ 4294967295 }
         requires rows { All (HasRows (shown of_lanes)) sites.now }
         requires within { All (IsWithin self.old.planes.elements lanes (shown of_lanes)) sites.now }

@@ -14,7 +14,7 @@ use shadow_marks::Planes;
 
 /// Whether lanes may be marked site by site: so they are for the flow test, if no lane looks where it stored before.
 pub(crate) fn go_by_site(planes: &Planes, sites: &[Site], of_lanes: Lanes<'_>, lanes: u32) -> bool
-    requires room { lanes ≤ 256 }
+    requires room { lanes ≤ 512 }
     requires rows { All (HasRows (shown of_lanes)) sites.now }
     ensures test { result ≡ true → test_of planes.now.tested ≡ Flow }
     ensures unseen { result ≡ true → AreUnseen (shown of_lanes.entry) lanes sites.now }
@@ -28,7 +28,7 @@ pub(crate) fn go_by_site(planes: &Planes, sites: &[Site], of_lanes: Lanes<'_>, l
 /// Whether no lane looks at an element at a site where it stored at an earlier one: so what it does may be marked in
 /// any order of the sites.
 fn are_unseen(sites: &[Site], of_lanes: Lanes<'_>, lanes: u32) -> bool
-    requires room { lanes ≤ 256 }
+    requires room { lanes ≤ 512 }
     requires rows { All (HasRows (shown of_lanes)) sites.now }
     ensures { result ≡ true → AreUnseen (shown of_lanes.entry) lanes sites.now }
 {
@@ -42,7 +42,7 @@ fn are_unseen(sites: &[Site], of_lanes: Lanes<'_>, lanes: u32) -> bool
 
 /// Whether a site is no store, or no lane looks at its element at a later one.
 fn is_unseen_if_stored(site: &Site, later: &[Site], of_lanes: Lanes<'_>, lanes: u32) -> bool
-    requires room { lanes ≤ 256 }
+    requires room { lanes ≤ 512 }
     requires row { HasRows (shown of_lanes) site.now }
     requires rows { All (HasRows (shown of_lanes)) later.now }
     ensures { result ≡ true → kind_looks (access_kind site.now.kind) ≡ false
@@ -61,7 +61,7 @@ fn is_unseen_if_stored(site: &Site, later: &[Site], of_lanes: Lanes<'_>, lanes: 
 
 /// Whether lanes don't look at a site, or get to other elements there than at another.
 fn is_apart_if_looked(site: &Site, other: &Site, of_lanes: Lanes<'_>, lanes: u32) -> bool
-    requires room { lanes ≤ 256 }
+    requires room { lanes ≤ 512 }
     requires row { HasRows (shown of_lanes) site.now }
     requires other { HasRows (shown of_lanes) other.now }
     ensures { result ≡ true → kind_looks (access_kind other.now.kind) ≡ true
@@ -81,7 +81,7 @@ fn is_apart_if_looked(site: &Site, other: &Site, of_lanes: Lanes<'_>, lanes: u32
 /// Whether it is known at once that lanes get to other elements at one site than at another: both run on one after
 /// another, from two elements on, or all lanes get to one element, and all to another.
 fn are_forms_apart(first: &Site, second: &Site, of_lanes: Lanes<'_>, lanes: u32) -> bool
-    requires room { lanes ≤ 256 }
+    requires room { lanes ≤ 512 }
     requires first { HasRows (shown of_lanes) first.now }
     requires second { HasRows (shown of_lanes) second.now }
     ensures { result ≡ true → (lane : ℕ) → lane < lanes → IsApart (shown of_lanes.entry) lane first.now second.now }
@@ -100,7 +100,7 @@ fn are_forms_apart(first: &Site, second: &Site, of_lanes: Lanes<'_>, lanes: u32)
 
 /// The form of the places of lanes at a site.
 fn form_at(site: &Site, of_lanes: Lanes<'_>, lanes: u32) -> Form
-    requires room { lanes ≤ 256 }
+    requires room { lanes ≤ 512 }
     requires rows { HasRows (shown of_lanes) site.now }
     ensures { IsFormOf result (is_of_halves site.now.kind) (places_of (shown of_lanes.entry) site.now) lanes
         4294967295 }
@@ -117,7 +117,7 @@ fn form_at(site: &Site, of_lanes: Lanes<'_>, lanes: u32) -> Form
 /// Whether a lane gets to two elements at two sites, or to none at one.
 #[inline(always)]
 fn is_apart(first: &Site, second: &Site, of_lanes: Lanes<'_>, lane: usize) -> bool
-    requires lane { lane < 256 }
+    requires lane { lane < 512 }
     requires first { HasRows (shown of_lanes) first.now }
     requires second { HasRows (shown of_lanes) second.now }
     ensures { result ≡ true → IsApart (shown of_lanes.entry) lane first.now second.now }
@@ -130,7 +130,7 @@ fn is_apart(first: &Site, second: &Site, of_lanes: Lanes<'_>, lane: usize) -> bo
 /// The element of a lane at a site.
 #[inline(always)]
 fn element_at(site: &Site, of_lanes: Lanes<'_>, lane: usize) -> usize
-    requires lane { lane < 256 }
+    requires lane { lane < 512 }
     requires rows { HasRows (shown of_lanes) site.now }
     ensures { result ≡ element_named (is_of_halves site.now.kind) (place_in (shown of_lanes.entry) site.now lane) }
 {

@@ -48,11 +48,11 @@ pub record AreApart (list : List RowOp) (at by : RowOp) (distance : ℕ) : Type 
       AreValues list (index + distance) caller words values → AreValues list index caller words others →
       (half : ℕ) → Touches at values half → Touches by others half → ⊥
 
--- No lane touches at the first site what a lane at most 255 indexes before it leaves at the second. Order doesn't
+-- No lane touches at the first site what a lane at most 511 indexes before it leaves at the second. Order doesn't
 -- matter, and nothing is said, where the first isn't an earlier site and doesn't load, or both reduce by one operator.
 abbrev pub LanesNeverMeet : List RowOp → (first second : ℕ) (at by : RowOp) → Type 0
 LanesNeverMeet list first second at by = leaves by ≡ true → (loads at ≡ true) ⊎ (first < second) →
-    ReduceAlike at by ⊎ ((distance : ℕ) → 0 < distance → distance < 256 → AreApart list at by distance)
+    ReduceAlike at by ⊎ ((distance : ℕ) → 0 < distance → distance < 512 → AreApart list at by distance)
 
 -- no lane loads at the first site what it left itself before, at the second
 abbrev pub LoadsNoOwn : List RowOp → (first second : ℕ) (at by : RowOp) → Type 0

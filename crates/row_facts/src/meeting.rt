@@ -16,7 +16,7 @@ use row_list::RowOp;
 use std::alloc::{AllocError, Global};
 
 /// How many lanes a batch has at most.
-const LANES: u64 = 256;
+const LANES: u64 = 512;
 
 /// Two sites, by their numbers: a lane may touch a half at the first that an earlier lane, or the lane itself, left at
 /// the second.
