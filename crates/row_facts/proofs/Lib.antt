@@ -1,6 +1,7 @@
 pub mod Congruence
 pub mod OperatorLaws
 pub mod FactLaws
+pub mod SlotLaws
 pub mod ApartLaws
 pub mod NonzeroLaws
 pub mod SiteLaws

@@ -2,7 +2,7 @@
 use Rattle.std.proofs.Common.{◌≡◌, ℕ, ◌≤◌, List, length, slice_index_or, ap, subst}
 use Rattle.lane_stamps.specs.{declared.site.Site.{Site}, Stamps.{AreRanked}}
 use Rattle.row_facts.specs.{declared.{meeting.Meeting.{Meeting}, listed.ListSites.{ListSites}}, Meetings.{AreMeetings}}
-use Rattle.row_facts.specs.{Lists.{AreListSites}, SiteKinds.{AreListed}}
+use Rattle.row_facts.specs.{Lists.{AreListSites}, SiteKinds.{AreListed}, Slots.{AreSlots}}
 use Rattle.row_facts.specs.Marks.{AreEven, AreMarked, IsWatched, WatchesEach}
 use Rattle.row_list.specs.declared.row_op.RowOp.{RowOp}
 
@@ -22,6 +22,6 @@ are_marked meetings sites each even = record {
 
 pub list_sites_of : (list : List RowOp) (made : ListSites) (meetings : List Meeting) → length made.sites.items ≤ 255
     → AreListed list made.accesses.items made.sites.items → AreRanked made.sites.items → AreMeetings list meetings
-    → AreMarked meetings made.sites.items → AreListSites list made
-list_sites_of list made meetings few listed ranked are marked =
-    record { few = few; listed = listed; ranked = ranked; meetings = meetings; are = are; marked = marked }
+    → AreMarked meetings made.sites.items → AreSlots list (length list) made.slots.items → AreListSites list made
+list_sites_of list made meetings few listed ranked are marked slots =
+    record { few = few; listed = listed; ranked = ranked; meetings = meetings; are = are; marked = marked; slots = slots }

@@ -20,6 +20,9 @@ mod nonzero;
 mod numbering;
 mod ordering;
 mod site;
+mod skipping;
+mod slot;
+mod slots;
 mod transfer;
 
 pub use elements::are_lines_clear;
@@ -31,4 +34,5 @@ pub use meeting::{Meeting, leaves, loads, meetings, reads, reduce_alike};
 pub use narrowing::is_narrower;
 pub use ordering::is_ordered;
 pub use site::{Site, sites};
+pub use slot::{NO_ROW, Skip, Slot};
 pub use transfer::facts;

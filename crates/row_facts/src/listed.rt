@@ -1,5 +1,6 @@
 //! Sites of a list.
 
+use crate::slot::Slot;
 use lane_stamps::Site;
 use row_list::RowOp;
 
@@ -10,6 +11,6 @@ pub struct ListSites {
     pub accesses: Vec<RowOp>,
     /// What is done at each, with the numbers of the rows where what it takes goes.
     pub sites: Vec<Site>,
-    /// The number of the places of each operation of the list that is an access.
-    pub places: Vec<u8>,
+    /// What a batch does at each operation of the list.
+    pub slots: Vec<Slot>,
 }

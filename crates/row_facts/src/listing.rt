@@ -9,10 +9,20 @@ use crate::kinds::kind_of;
 use crate::listed::ListSites;
 use crate::marking::{are_marked, mark_meetings, mark_uneven};
 use crate::numbering::number_of;
+use crate::slots::slots_of;
 use crate::{Meeting, meetings};
 use lane_stamps::{MOST_SITES, Site, rank_sites};
 use row_list::{Place, RowList, RowOp};
 use std::alloc::{AllocError, Global};
+
+/// The sites of a list, without its slots.
+#[derive(Drop)]
+pub(crate) struct Listed {
+    pub(crate) accesses: Vec<RowOp>,
+    pub(crate) sites: Vec<Site>,
+    /// The number of the places of each operation that is an access.
+    pub(crate) places: Vec<u8>,
+}
 
 /// The number of a value's row.
 fn row_of(list: &RowList, value: usize) -> usize {
@@ -67,7 +77,7 @@ fn add_places(places: &mut Vec<u8>, number: usize) -> Result<(), AllocError> {
 /// Lists the site of one more operation, if it is an access. Whether there is room for it, and it has one.
 #[tactic(auto, using(crate::proofs::ListLaws::listed_same))]
 fn list_site(
-    made: &mut ListSites,
+    made: &mut Listed,
     list: &RowList,
     op: &RowOp,
     marks: &[bool; MOST_SITES],
@@ -100,11 +110,11 @@ fn unranked_sites(
     alloc: Global,
     list: &RowList,
     marks: &[bool; MOST_SITES],
-) -> Result<Option<ListSites>, AllocError>
+) -> Result<Option<Listed>, AllocError>
     ensures { IfOk result (λ found. IfSome found (λ made. AreListed list.now.list.items made.accesses.items
         made.sites.items)) }
 {
-    let mut made = ListSites {
+    let mut made = Listed {
         accesses: Vec::new(alloc),
         sites: Vec::new(alloc),
         places: Vec::new(alloc),
@@ -133,7 +143,7 @@ fn ranked_sites(
     alloc: Global,
     list: &RowList,
     marks: &[bool; MOST_SITES],
-) -> Result<Option<ListSites>, AllocError>
+) -> Result<Option<Listed>, AllocError>
     ensures listed { IfOk result (λ found. IfSome found (λ made. AreListed list.now.list.items made.accesses.items
         made.sites.items)) }
     ensures ranked { IfOk result (λ found. IfSome found (λ made. AreRanked made.sites.items)) }
@@ -170,7 +180,12 @@ fn marked_sites(
     if made.sites.len() > MOST_SITES || !are_marked(made.sites.as_slice(), meetings) {
         return Ok(None);
     }
-    Ok(Some(made))
+    let slots = slots_of(alloc, list, made.places.as_slice())?;
+    Ok(Some(ListSites {
+        accesses: made.accesses,
+        sites: made.sites,
+        slots,
+    }))
 }
 
 /// The sites of a list, ranked. Those are watched that may meet, and those at which lanes reduce by one operator with

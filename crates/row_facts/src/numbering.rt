@@ -1,6 +1,6 @@
 //! The numbers of places.
 
-use crate::listed::ListSites;
+use crate::listing::Listed;
 use crate::narrowing::is_narrower;
 use lane_stamps::MOST_SITES;
 use row_list::{Place, RowList};
@@ -14,7 +14,7 @@ fn serve(list: &RowList, places: &Place, other: &Place) -> bool {
 }
 
 /// The number of the places of an access: those of an earlier one that serve for it, or new ones.
-pub(crate) fn number_of(list: &RowList, made: &ListSites, place: &Place) -> usize {
+pub(crate) fn number_of(list: &RowList, made: &Listed, place: &Place) -> usize {
     let mut next: usize = 0;
     for (access, site) in made.accesses.iter().zip(made.sites.iter()) {
         if let Some(places) = access.place()
