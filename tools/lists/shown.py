@@ -2,11 +2,11 @@
 
 from __future__ import annotations
 
+import re
 from collections.abc import Callable, Iterable, Iterator
 from itertools import groupby
 
 from base.items import Item
-from pages.prose import slug
 
 from .calls import Call, Clause
 from .crates import Group
@@ -24,7 +24,12 @@ def by_crate(groups: Iterable[Group], lines_of: Callable[[str], list[str]]) -> l
         if below:
             titles.append(group.title)
             made += [f"## {group.title}", "", *below]
-    return [" · ".join(f"[{title}](#{slug(title)})" for title in titles), "", *made]
+    return [" · ".join(f"[{title}](#{_anchor(title)})" for title in titles), "", *made]
+
+
+def _anchor(title: str) -> str:
+    """What a link to a heading names."""
+    return re.sub(r"[^\w -]", "", title.lower()).replace(" ", "-")
 
 
 def shown_definitions(file: Definitions, comments: dict[str, str], root: str) -> list[str]:
