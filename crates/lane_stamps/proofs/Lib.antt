@@ -4,6 +4,7 @@ pub mod HalfLaws
 pub mod StampLaws
 pub mod RankLaws
 pub mod KnownSteps
+pub mod LinkLaws
 pub mod MarkSteps
 pub mod MarkLaws
 pub mod KeepLaws

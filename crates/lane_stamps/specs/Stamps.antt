@@ -183,3 +183,12 @@ WatchedOwn lanes lane before after = before.watched ≡ true → after.watched �
 abbrev pub WatchedUnmet : List Site → LaneRows → (count : ℕ) → Type 0
 WatchedUnmet sites lanes count = (later earlier : ℕ) → earlier < later → later < count → All (λ at. All (λ by.
     at.watched ≡ true → by.watched ≡ true → Unmet lanes later earlier at by) sites) sites
+
+-- from each site on, the number of the next that is watched, or of sites: those between aren't
+pub record IsLink (sites : List Site) (k next : ℕ) : Type 0 where
+  pub onward : k ≤ next
+  pub within : next ≤ length sites
+  pub between : (j : ℕ) (d : Site) → k ≤ j → j < next → (slice_index_or sites j d).watched ≡ false
+
+abbrev pub AreLinks : List Site → (links : List ℕ) → Type 0
+AreLinks sites links = (k : ℕ) → k ≤ length sites → IsLink sites k (slice_index links k)

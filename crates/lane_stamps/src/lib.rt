@@ -13,6 +13,7 @@ mod blending;
 mod covering;
 mod forms;
 mod kind;
+mod links;
 mod marking;
 mod ranking;
 mod reading;

@@ -3,7 +3,7 @@
 ghost use Rattle.std.specs.Prelude.{◌≡◌, ◌↔◌, ℕ, ◌+◌, ◌<◌, ◌≤◌, ◌^◌, true, false, IsTrue, length, slice_set};
 ghost use Rattle.std.specs.List.{All, AllPairs};
 ghost use Rattle.lane_stamps.specs.Sites.{Covers, HasRows, is_of_halves, leaves as leaves_of, loads as loads_of, shown};
-ghost use Rattle.lane_stamps.specs.Stamps.{AreFree, AreKnown, AreRanked, AreStale, AreStamped, CoversGreater};
+ghost use Rattle.lane_stamps.specs.Stamps.{AreFree, AreKnown, AreLinks, AreRanked, AreStale, AreStamped, CoversGreater};
 ghost use Rattle.lane_stamps.specs.Stamps.{IsStopped, LeavesOnly, Meets, Rises, StampsOnly, StayStale, WatchedFree};
 ghost use Rattle.lane_stamps.specs.Stamps.{WatchedOwn, WatchedStamped, WatchedUnmet, slot_of, stamp_at};
 
@@ -103,22 +103,19 @@ fn go_known(
     true
 }
 
-/// The same, if the site is watched. Its kind isn't known.
+/// The same, if it isn't known.
 #[inline(always)]
 fn go_at(site: &Site, lanes: Lanes<'_>, lane: usize, stamps: &mut [u16], base: u16) -> bool
     requires lane { lane < 512 }
     requires some { 0 < length stamps.old }
     requires rows { HasRows (shown lanes) site.now }
     requires room { base + site.now.rank < 2 ^ 16 }
-    ensures free { result ≡ true → WatchedFree stamps.old base (shown lanes.entry) lane site.now }
-    ensures stamped { result ≡ true → WatchedStamped stamps.new base (shown lanes.entry) lane site.now }
+    ensures free { result ≡ true → AreFree stamps.old base (shown lanes.entry) lane site.now }
+    ensures stamped { result ≡ true → AreStamped stamps.new base (shown lanes.entry) lane site.now }
     ensures rises { Rises stamps.old stamps.new }
     ensures met { result ≡ false → IsStopped stamps.old base (shown lanes.entry) lane site.now }
     ensures only { LeavesOnly stamps.old stamps.new base (shown lanes.entry) lane site.now }
 {
-    if !site.watched {
-        return true;
-    }
     match site.kind {
         Kind::Load => go_known(false, true, false, site, lanes, lane, stamps, base),
         Kind::LoadHalf => go_known(true, true, false, site, lanes, lane, stamps, base),
@@ -133,9 +130,18 @@ fn go_at(site: &Site, lanes: Lanes<'_>, lane: usize, stamps: &mut [u16], base: u
 
 /// The same at all sites that are watched, one after another.
 #[inline(always)]
-fn go_lane(sites: &[Site], lanes: Lanes<'_>, lane: usize, stamps: &mut [u16], base: u16) -> bool
+fn go_lane(
+    sites: &[Site],
+    links: &[u8; 256],
+    lanes: Lanes<'_>,
+    lane: usize,
+    stamps: &mut [u16],
+    base: u16,
+) -> bool
     requires lane { lane < 512 }
     requires some { 0 < length stamps.old }
+    requires few { length sites.now ≤ 255 }
+    requires links { AreLinks sites.now links.now }
     requires ranked { AreRanked sites.now }
     requires rows { All (HasRows (shown lanes)) sites.now }
     requires room { All (λ site. base + site.rank < 2 ^ 16) sites.now }
@@ -149,10 +155,12 @@ fn go_lane(sites: &[Site], lanes: Lanes<'_>, lane: usize, stamps: &mut [u16], ba
         → AreKnown sites.now (shown lanes.entry) base stamps.new (lane + 1) 0 }
     ensures stale { StayStale sites.now base stamps.old stamps.new }
 {
-    for site in sites {
-        if !go_at(site, lanes, lane, stamps, base) {
+    let mut at = links[0] as usize;
+    while at < sites.len() {
+        if !go_at(&sites[at], lanes, lane, stamps, base) {
             return false;
         }
+        at = links[at + 1] as usize;
     }
     true
 }
@@ -160,6 +168,7 @@ fn go_lane(sites: &[Site], lanes: Lanes<'_>, lane: usize, stamps: &mut [u16], ba
 /// How many lanes go, one after another, before the first that meets an earlier one, or itself.
 pub(crate) fn count_unmet(
     sites: &[Site],
+    links: &[u8; 256],
     lanes: Lanes<'_>,
     count: usize,
     stamps: &mut [u16],
@@ -167,6 +176,8 @@ pub(crate) fn count_unmet(
 ) -> usize
     requires room { count ≤ 512 }
     requires some { 0 < length stamps.old }
+    requires few { length sites.now ≤ 255 }
+    requires links { AreLinks sites.now links.now }
     requires ranked { AreRanked sites.now }
     requires rows { All (HasRows (shown lanes)) sites.now }
     requires stamps { All (λ site. base + site.rank < 2 ^ 16) sites.now }
@@ -178,7 +189,7 @@ pub(crate) fn count_unmet(
     ensures stale { StayStale sites.now base stamps.old stamps.new }
 {
     for lane in 0..count {
-        if !go_lane(sites, lanes, lane, stamps, base) {
+        if !go_lane(sites, links, lanes, lane, stamps, base) {
             return lane;
         }
     }

@@ -6,6 +6,7 @@ ghost use Rattle.lane_stamps.specs.Stamps.{AreKnownApart, AreRanked, AreStale, G
 ghost use Rattle.lane_stamps.specs.Stamps.{NoneAfterOwn, NoneMeets, WatchedOwn, WatchedUnmet};
 
 use crate::covering::are_loaded;
+use crate::links::link;
 use crate::marking::{look_sites, mark_sites};
 use crate::site::{Lanes, Site};
 use crate::stamping::count_unmet;
@@ -97,8 +98,10 @@ impl Stamps {
             self.base += rise;
             return limit;
         }
+        let mut links = [0; 256];
+        link(sites, &mut links);
         self.begin(TURN);
-        let limit = count_unmet(sites, lanes, count, &mut self.stamps, self.base);
+        let limit = count_unmet(sites, &links, lanes, count, &mut self.stamps, self.base);
         self.base += TURN;
         limit
     }
