@@ -1,16 +1,16 @@
 -- What lanes leave at one site, one lane further.
-use Rattle.std.proofs.Common.{◌≡◌, ℕ, zero, suc, ◌+◌, ◌*◌, ◌%◌, ◌<◌, Bool, true, false, List, length, drop, set}
-use Rattle.std.proofs.Common.{slice_index, slice_index_or, refl, sym, ◌∙◌, ap, subst, arith}
-use Rattle.std.specs.Prelude.{◌==◌, Option, Some, None, if◌then◌else◌}
+use Rattle.std.proofs.Common.{◌≡◌, ℕ, zero, suc, ◌+◌, ◌<◌, Bool, true, false, List, length, drop, set}
+use Rattle.std.proofs.Common.{slice_index, slice_index_or, refl, sym, ◌∙◌, ap, arith}
+use Rattle.std.specs.Prelude.{Option, Some, None, if◌then◌else◌}
 use Rattle.std.proofs.lemmas.List.{drop_more, get_or-set_same, set-get_or, set-set}
-use Rattle.array_maps.specs.{declared.access.Half.{Half, TheVariants.{Low, High}}, Accesses.{left_by}}
+use Rattle.array_maps.specs.{declared.access.Half.{Half}, Accesses.{left_by}}
 use Rattle.loop_core_model.specs.Effects.{Deed, Effect, action_on, words_after_any_effect, words_after_effect}
 use Rattle.loop_core_model.specs.Effects.{words_after_lane_effects, words_after_site_effects}
 use Rattle.lane_rows.specs.{declared.{line.Line.{Line}, mask.Mask.{Mask}, places.Places.{Places}}, Lanes.{HasWords}}
 use Rattle.lane_rows.specs.{declared.row.Row.{Row}, Rows.{is_in, line_word, place_at, word_at, word_by}}
 use Rattle.lane_stamps.specs.declared.{kind.Kind.{Kind, TheVariants.{Apply}}, site.Site.{Site}}
 use Rattle.lane_stamps.specs.declared.kind.Kind.TheVariants.{Load, LoadHalf, Store, Fetch, Replace, FetchHalf, AddHalf}
-use Rattle.lane_stamps.specs.{Forms.{HalvesFrom, IsPairAt, IsPlace, RunsFrom}, Sites.{is_of_halves, log_of}}
+use Rattle.lane_stamps.specs.{Forms.{IsPlace, RunsFrom}, Sites.{is_of_halves, log_of}}
 use Rattle.lane_stamps.specs.Sites.{LaneRows, deed_by, effect_at, effect_by, effect_if, element_named, half_named}
 
 lane_more : (site : ℕ → Option Effect) (lane : ℕ) (words : List ℕ) → words_after_lane_effects site (lane + 1) words
@@ -111,70 +111,6 @@ module _ (kind : Kind) (mask : Mask) (places : Places) where
         ∙ along first at lane words (is_in mask lane) (runs.element lane less ∙ is) (runs.half lane less)
         ∙ ap (words_after_any_effect (effect_if kind mask places values lane)) so_far
         ∙ sym (lane_more (effect_if kind mask places values) lane start)
-
-    -- the halves of an element
-    pub pair_left : (at lane lower both : ℕ) (words : List ℕ) → at < length words
-        → IsPairAt (is_of_halves kind) at lane places
-        → lower ≡ (if is_in mask lane
-        then left_by (action_on (deed_by kind (half_named 0) (values lane)) (slice_index words at))
-        (slice_index words at) else slice_index words at)
-        → both ≡ (if is_in mask (lane + 1)
-        then left_by (action_on (deed_by kind (half_named 1) (values (lane + 1))) lower) lower else lower)
-        → set words at both ≡ words_after_any_effect (effect_if kind mask places values (lane + 1))
-        (words_after_any_effect (effect_if kind mask places values lane) words)
-    pair_left at lane lower both words inside pair lower_is both_is =
-        let mid : List ℕ = set words at lower in
-        let first : mid ≡ words_after_any_effect (effect_if kind mask places values lane) words =
-        ap (set words at) lower_is ∙ along 0 at lane words (is_in mask lane) pair.lower (λ halves. pair.low) in
-        let same : slice_index mid at ≡ lower = get_or-set_same words at lower 0 inside in
-        sym (set-set words at lower both)
-        ∙ ap (set mid at) (both_is ∙ sym (ap (λ (w : ℕ). if is_in mask (lane + 1)
-        then left_by (action_on (deed_by kind (half_named 1) (values (lane + 1))) w) w else w) same))
-        ∙ along 1 at (lane + 1) mid (is_in mask (lane + 1)) pair.upper (λ halves. pair.high)
-        ∙ ap (words_after_any_effect (effect_if kind mask places values (lane + 1))) first
-
-    pub pair_more : (k : ℕ) (start words new : List ℕ)
-        → words ≡ words_after_lane_effects (effect_if kind mask places values) (2 * k) start
-        → new ≡ words_after_any_effect (effect_if kind mask places values (2 * k + 1))
-        (words_after_any_effect (effect_if kind mask places values (2 * k)) words)
-        → new ≡ words_after_lane_effects (effect_if kind mask places values) (2 * (k + 1)) start
-    pair_more k start words new so_far is =
-        let next : 2 * k + 1 + 1 ≡ 2 * (k + 1) = omega arith in
-        is
-        ∙ ap (words_after_any_effect (effect_if kind mask places values (2 * k + 1)))
-        (ap (words_after_any_effect (effect_if kind mask places values (2 * k))) so_far
-        ∙ sym (lane_more (effect_if kind mask places values) (2 * k) start))
-        ∙ sym (lane_more (effect_if kind mask places values) (2 * k + 1) start)
-        ∙ ap (λ (n : ℕ). words_after_lane_effects (effect_if kind mask places values) n start) next
-
-    pub last_more : (lane count : ℕ) (start words new : List ℕ) → lane + 1 ≡ count
-        → words ≡ words_after_lane_effects (effect_if kind mask places values) lane start
-        → new ≡ words_after_any_effect (effect_if kind mask places values lane) words
-        → new ≡ words_after_lane_effects (effect_if kind mask places values) count start
-    last_more lane count start words new last so_far is =
-        is ∙ ap (words_after_any_effect (effect_if kind mask places values lane)) so_far
-        ∙ sym (lane_more (effect_if kind mask places values) lane start)
-        ∙ ap (λ (n : ℕ). words_after_lane_effects (effect_if kind mask places values) n start) last
-
--- halves one after another
-half_by : (place other : ℕ) → place % 2 ≡ other % 2 → half_named place ≡ half_named other
-half_by place other same = ap (λ (n : ℕ). if n == 0 then Low else High) same
-
-pub is_pair : (halves : Bool) (places : Places) (start k count : ℕ) → halves ≡ true → HalvesFrom start places count
-    → 2 * k + 1 < count → IsPairAt halves (start + k) (2 * k) places
-is_pair halves places start k count is run less = subst (λ (h : Bool). IsPairAt h (start + k) (2 * k) places) (sym is)
-    (record {
-      lower = omega (arith, one);
-      upper = omega (arith, two);
-      low = half_by (place_at places (2 * k)) 0 (omega (arith, one));
-      high = half_by (place_at places (2 * k + 1)) 1 (omega (arith, two));
-    })
-  where
-    one : place_at places (2 * k) ≡ 2 * start + 2 * k
-    one = run (2 * k) (omega (arith, less))
-
-    two : place_at places (2 * k + 1) ≡ 2 * start + (2 * k + 1)
-    two = run (2 * k + 1) less
 
 -- one site more
 pub site_applied : (sites : List Site) (lanes : LaneRows) (k count : ℕ) (words new : List ℕ) (e : Site)

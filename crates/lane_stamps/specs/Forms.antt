@@ -1,5 +1,5 @@
 -- Forms of places.
-use Rattle.std.specs.Prelude.{◌≡◌, ℕ, ◌+◌, ◌*◌, ◌<◌, ◌≤◌, Bool, true}
+use Rattle.std.specs.Prelude.{◌≡◌, ℕ, ◌+◌, ◌<◌, ◌≤◌, Bool, true}
 use Rattle.lane_rows.specs.{declared.places.Places.{Places}, Rows.{place_at}}
 use Rattle.lane_stamps.specs.declared.forms.Form.{Form, TheVariants.{One, Run, Any}}
 use Rattle.lane_stamps.specs.Sites.{element_named, half_named}
@@ -21,14 +21,3 @@ IsFormOf (One place) halves places count elements =
 IsFormOf (Run first) halves places count elements =
     RunsFrom halves first places count × (element_named halves first + count ≤ elements)
 IsFormOf Any halves places count elements = Unit {0}
-
--- the halves of the first lanes run on one after another, from the lower one of an element on
-abbrev pub HalvesFrom : (start : ℕ) → Places → (count : ℕ) → Type 0
-HalvesFrom start places count = (lane : ℕ) → lane < count → place_at places lane ≡ 2 * start + lane
-
--- a lane has the lower half of an element, and the next one the upper
-pub record IsPairAt (halves : Bool) (at lane : ℕ) (places : Places) : Type 0 where
-  pub lower : element_named halves (place_at places lane) ≡ at
-  pub upper : element_named halves (place_at places (lane + 1)) ≡ at
-  pub low : half_named (place_at places lane) ≡ half_named 0
-  pub high : half_named (place_at places (lane + 1)) ≡ half_named 1

@@ -9,10 +9,10 @@ ghost use Rattle.lane_rows.specs.{Rows.{is_in}, declared.places.Places.{Places}}
 ghost use Rattle.lane_stamps.specs.Sites.{HasRows, IsWithin, LiesBelow, deed_by, effect_at, effect_if, element_named};
 ghost use Rattle.lane_stamps.specs.{Sites.{half_named, is_of_halves, log_of, shown}, Stamps.{GoTogether}};
 ghost use Rattle.lane_stamps.specs.declared.kind.Kind.TheVariants.{Apply};
-ghost use Rattle.lane_stamps.specs.Forms.{HalvesFrom, IsPairAt, IsPlace, RunsFrom};
+ghost use Rattle.lane_stamps.specs.Forms.{IsPlace, RunsFrom};
 
 use crate::blending::replaced;
-use crate::forms::{Form, element_of, form_of, halves_from};
+use crate::forms::{Form, element_of, form_of};
 use crate::kind::Kind;
 use crate::reading::{is_there, place_on};
 use crate::site::{Lanes, Site};
@@ -168,99 +168,6 @@ fn apply_each(
     }
 }
 
-/// Applies what two lanes do that have the halves of an element.
-#[inline(always)]
-fn apply_pair(
-    kind: Kind,
-    all: bool,
-    mask: &Mask,
-    lane: usize,
-    at: usize,
-    values: &[u64],
-    words: &mut [u64],
-)
-    requires all { all ≡ mask.now.all }
-    requires lane { lane + 1 < 512 }
-    requires long { lane + 1 < length values.now }
-    requires within { at < length words.old }
-    ensures { (places : Places) → IsPairAt (is_of_halves kind) at lane places
-        → words.new ≡ words_after_any_effect (effect_if kind mask.now places (slice_index values.now) (lane + 1))
-        (words_after_any_effect (effect_if kind mask.now places (slice_index values.now) lane) words.old) }
-{
-    let lower = left_if(kind, all, mask, lane, 0, words[at], values[lane]);
-    let both = left_if(kind, all, mask, lane + 1, 1, lower, values[lane + 1]);
-    words[at] = both;
-}
-
-/// The same of all lanes, if their halves run on one after another from an element's lower one on.
-#[inline(always)]
-fn apply_halves(
-    kind: Kind,
-    all: bool,
-    mask: &Mask,
-    start: usize,
-    places: &Places,
-    values: &[u64],
-    count: usize,
-    words: &mut [u64],
-)
-    requires all { all ≡ mask.now.all }
-    requires halves { is_of_halves kind ≡ true }
-    requires room { count ≤ 512 }
-    requires long { count ≤ length values.now }
-    requires run { HalvesFrom start places.now count }
-    requires within { start + count ≤ length words.old }
-    ensures { words.new
-        ≡ words_after_lane_effects (effect_if kind mask.now places.now (slice_index values.now)) count words.old }
-{
-    for k in 0..count / 2 {
-        apply_pair(kind, all, mask, 2 * k, start + k, values, words);
-    }
-    if count % 2 == 1 {
-        apply_lane(
-            kind,
-            all,
-            mask,
-            places.line,
-            places,
-            values,
-            count - 1,
-            words,
-        );
-    }
-}
-
-/// The same at any places.
-#[inline(always)]
-fn apply_anyhow(
-    kind: Kind,
-    all: bool,
-    mask: &Mask,
-    places: &Places,
-    values: &[u64],
-    count: usize,
-    words: &mut [u64],
-)
-    requires all { all ≡ mask.now.all }
-    requires room { count ≤ 512 }
-    requires long { count ≤ length values.now }
-    requires within { (lane : ℕ) → lane < count
-        → LiesBelow (length words.old) (is_of_halves kind) mask.now places.now lane }
-    ensures { words.new
-        ≡ words_after_lane_effects (effect_if kind mask.now places.now (slice_index values.now)) count words.old }
-{
-    if kind.is_of_halves() {
-        if let Some(start) = halves_from(places, count, words.len()) {
-            apply_halves(kind, all, mask, start, places, values, count, words);
-            return;
-        }
-    }
-    match places.line {
-        None => apply_each(kind, all, mask, None, places, values, count, words),
-        line => apply_each(kind, all, mask, line, places, values, count, words),
-    }
-}
-
 /// The same by the form of the places.
 #[inline(always)]
 fn apply_formed(
@@ -283,7 +190,10 @@ fn apply_formed(
     match form_of(places, kind.is_of_halves(), count, words.len()) {
         Form::One(place) => apply_at_one(kind, all, mask, place, values, count, words),
         Form::Run(first) => apply_along(kind, all, mask, first, values, count, words),
-        Form::Any => apply_anyhow(kind, all, mask, places, values, count, words),
+        Form::Any => match places.line {
+            None => apply_each(kind, all, mask, None, places, values, count, words),
+            line => apply_each(kind, all, mask, line, places, values, count, words),
+        },
     }
 }
 

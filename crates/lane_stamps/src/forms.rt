@@ -1,7 +1,7 @@
 //! Forms of places.
 
 ghost use Rattle.std.specs.Prelude.{◌≡◌, ◌+◌, ◌≤◌, IfSome};
-ghost use Rattle.lane_stamps.specs.{Sites.{element_named}, Forms.{HalvesFrom, IsFormOf}};
+ghost use Rattle.lane_stamps.specs.{Sites.{element_named}, Forms.{IsFormOf}};
 
 use lane_rows::Places;
 
@@ -44,26 +44,5 @@ pub fn form_of(places: &Places, halves: bool, count: usize, elements: usize) -> 
         Form::Run(line.first)
     } else {
         Form::Any
-    }
-}
-
-/// The first element of halves that run on one after another, from a lower one on, for elements below a number.
-pub(crate) fn halves_from(places: &Places, count: usize, elements: usize) -> Option<usize>
-    requires { count ≤ 512 }
-    ensures from { IfSome result (λ start. HalvesFrom start places.now count) }
-    ensures within { IfSome result (λ start. start + count ≤ elements) }
-{
-    let Some(line) = places.line else {
-        return None;
-    };
-    let start = line.first as usize / 2;
-    if line.step == 1
-        && line.first % 2 == 0
-        && line.first <= u32::MAX - 1024
-        && start + count <= elements
-    {
-        Some(start)
-    } else {
-        None
     }
 }
