@@ -6,14 +6,14 @@ ghost use Rattle.bpf_insn_types.specs.Slots.{slots_of};
 use crate::reg::Reg;
 
 /// The width of an operation: the lower halves of registers, or whole registers.
-#[derive(Clone, Copy)]
+#[derive(Clone, Copy, PartialEq)]
 pub enum Width {
     W32,
     W64,
 }
 
 /// The size of a memory access: 1, 2, 4 or 8 bytes (RFC 9669, section 5).
-#[derive(Clone, Copy)]
+#[derive(Clone, Copy, PartialEq)]
 pub enum Size {
     B,
     H,
@@ -22,7 +22,7 @@ pub enum Size {
 }
 
 /// How many low bits of a register a byte order instruction takes (RFC 9669, section 4.2).
-#[derive(Clone, Copy)]
+#[derive(Clone, Copy, PartialEq)]
 pub enum EndianBits {
     B16,
     B32,
@@ -30,7 +30,7 @@ pub enum EndianBits {
 }
 
 /// How many low bits of a register a sign-extending move takes (RFC 9669, section 4.1).
-#[derive(Clone, Copy)]
+#[derive(Clone, Copy, PartialEq)]
 pub enum MovsxBits {
     B8,
     B16,
@@ -38,7 +38,7 @@ pub enum MovsxBits {
 }
 
 /// Arithmetic with two operands (RFC 9669, section 4.1).
-#[derive(Clone, Copy)]
+#[derive(Clone, Copy, PartialEq)]
 pub enum AluOp {
     Add,
     Sub,
@@ -57,7 +57,7 @@ pub enum AluOp {
 }
 
 /// To little endian, to big endian, or an unconditional swap (RFC 9669, section 4.2).
-#[derive(Clone, Copy)]
+#[derive(Clone, Copy, PartialEq)]
 pub enum ByteOrder {
     Le,
     Be,
@@ -65,7 +65,7 @@ pub enum ByteOrder {
 }
 
 /// The test of a conditional jump (RFC 9669, section 4.3).
-#[derive(Clone, Copy)]
+#[derive(Clone, Copy, PartialEq)]
 pub enum Compare {
     Eq,
     Gt,
@@ -99,7 +99,7 @@ pub enum Callee {
 }
 
 /// The simple atomic operations (RFC 9669, section 5.3).
-#[derive(Clone, Copy)]
+#[derive(Clone, Copy, PartialEq)]
 pub enum SimpleOp {
     Add,
     Or,
@@ -108,7 +108,7 @@ pub enum SimpleOp {
 }
 
 /// An atomic operation (RFC 9669, section 5.3).
-#[derive(Clone, Copy)]
+#[derive(Clone, Copy, PartialEq)]
 pub enum AtomicOp {
     /// Changes memory alone.
     Simple(SimpleOp),
