@@ -1,7 +1,7 @@
 //! Registers, numbers with a sign, and distances.
 
 ghost use Rattle.std.specs.{Prelude.{◌≡◌, ◌≤◌, ◌<◌, ◌-◌, ◌^◌, pos, neg_ℤ, IfOk, FitsSigned}, Int.{w16}};
-ghost use Rattle.bpf_text_lex.specs.{Numbers.{number_in}, Fields.{number_fault}};
+ghost use Rattle.bpf_text_lex.specs.{Numbers.{number_in}, Fields.{number_fault, field_of}};
 ghost use Rattle.bpf_text_operands.specs.SignedNumbers.{is_register, register_at, ahead, back, signed_at, is_ahead};
 ghost use Rattle.bpf_text_operands.specs.SignedNumbers.{is_offset, offset_at, distance_to};
 
@@ -32,13 +32,20 @@ pub(crate) fn register_at(word: &[u8]) -> Result<Reg, TextFault>
 }
 
 /// The fault of a word that is no number of its field.
-pub(crate) fn fault_of(error: NumberError) -> TextFault
+fn fault_of(error: NumberError) -> TextFault
     ensures { result ≡ number_fault error }
 {
     match error {
         NumberError::Form => TextFault::Form,
         NumberError::Field => TextFault::Field,
     }
+}
+
+/// The number of a word, in a field of 64 bits without a sign.
+pub(crate) fn unsigned_at(word: &[u8]) -> Result<u64, TextFault>
+    ensures { result ≡ field_of (2 ^ 64 - 1) word.now }
+{
+    read_number(word, u64::MAX).map_err(fault_of)
 }
 
 /// A number without a minus sign, up to a limit.

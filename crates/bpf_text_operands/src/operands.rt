@@ -12,11 +12,10 @@ ghost use Rattle.bpf_text_lex.specs.Fields.{field_of};
 use crate::kind::{Kind, Kinds};
 use crate::labels::Labels;
 use crate::numbers::{
-    distance_to, fault_of, is_offset, is_register, offset_at, register_at, signed_at,
+    distance_to, is_offset, is_register, offset_at, register_at, signed_at, unsigned_at,
 };
 use crate::pairs::pair;
-use bpf_insn_types::Reg;
-use bpf_text_lex::{Operands, TextFault, Value, is_name, is_number, read_number, trim};
+use bpf_text_lex::{Operands, TextFault, Value, is_name, is_number, trim};
 
 /// The bound of distances and offsets of 16 bits, which lie from its negative to below it.
 const NEAR: u64 = 1 << 15;
@@ -38,17 +37,6 @@ fn sign_at(text: &[u8]) -> Option<usize>
     text.iter().position(|b| is_sign(*b))
 }
 
-/// A text up to its first sign, and what is there.
-fn split_sign(text: &[u8]) -> (&[u8], &[u8])
-    ensures base { result.0.now ≡ base_part text.now }
-    ensures offset { result.1.now ≡ offset_part text.now }
-{
-    match sign_at(text) {
-        Some(at) => text.split_at(at),
-        None => (text, &[]),
-    }
-}
-
 /// Whether a word is between brackets.
 fn is_bracketed(word: &[u8]) -> bool
     ensures { result ≡ is_bracketed word.now }
@@ -65,17 +53,11 @@ fn split_address(word: &[u8]) -> (&[u8], &[u8])
     ensures base { result.0.now ≡ base_part (inside word.now) }
     ensures offset { result.1.now ≡ offset_part (inside word.now) }
 {
-    split_sign(&word[1..word.len() - 1])
-}
-
-/// The register and the offset that a word between brackets names.
-fn base_and_offset(word: &[u8]) -> Result<(Reg, i16), TextFault>
-    requires { 2 ≤ length word.now }
-    ensures { result ≡ pair (register_at (base_part (inside word.now)))
-        (offset_at (2 ^ 15) (offset_part (inside word.now))) }
-{
-    let (base, offset) = split_address(word);
-    pair(register_at(base), near(offset_at(offset, NEAR)))
+    let inside = &word[1..word.len() - 1];
+    match sign_at(inside) {
+        Some(at) => inside.split_at(at),
+        None => (inside, &[]),
+    }
 }
 
 /// A distance of 16 bits.
@@ -83,10 +65,7 @@ fn near(distance: Result<i32, TextFault>) -> Result<i16, TextFault>
     requires { IfOk distance (λ d. FitsSigned w16 d) }
     ensures { result ≡ distance }
 {
-    match distance {
-        Ok(distance) => Ok(distance as i16),
-        Err(fault) => Err(fault),
-    }
+    Ok(distance? as i16)
 }
 
 /// The memory that a word names.
@@ -96,10 +75,9 @@ fn address_at(word: &[u8]) -> Result<Value, TextFault>
     if !is_bracketed(word) {
         return Err(TextFault::Form);
     }
-    match base_and_offset(word) {
-        Ok((base, offset)) => Ok(Value::Address(base, offset)),
-        Err(fault) => Err(fault),
-    }
+    let (base, offset) = split_address(word);
+    let (base, offset) = pair(register_at(base), near(offset_at(offset, NEAR)))?;
+    Ok(Value::Address(base, offset))
 }
 
 /// The distance of a word from a slot: a label, or a number with its sign.
@@ -118,67 +96,17 @@ fn distance_at(word: &[u8], bound: u64, labels: &Labels<'_>, slot: u32) -> Resul
     }
 }
 
-/// The register that a word names, as an operand.
-fn reg_at(word: &[u8]) -> Result<Value, TextFault>
-    ensures { result ≡ as_reg (register_at word.now) }
-{
-    match register_at(word) {
-        Ok(reg) => Ok(Value::Reg(reg)),
-        Err(fault) => Err(fault),
-    }
-}
-
-/// The number of 32 bits that a word is, as an operand.
-fn imm_at(word: &[u8]) -> Result<Value, TextFault>
-    ensures { result ≡ as_imm (signed_at (2 ^ 31) word.now) }
-{
-    match signed_at(word) {
-        Ok(imm) => Ok(Value::Imm(imm)),
-        Err(fault) => Err(fault),
-    }
-}
-
-/// The number of 64 bits that a word is, as an operand.
-fn wide_at(word: &[u8]) -> Result<Value, TextFault>
-    ensures { result ≡ as_wide (field_of (2 ^ 64 - 1) word.now) }
-{
-    match read_number(word, u64::MAX) {
-        Ok(number) => Ok(Value::Wide(number)),
-        Err(error) => Err(fault_of(error)),
-    }
-}
-
-/// The distance of 16 bits that a word is, as an operand.
-fn near_at(word: &[u8], labels: &Labels<'_>, slot: u32) -> Result<Value, TextFault>
-    ensures { result ≡ as_distance (distance_at (label_slots labels.now) (2 ^ 15) slot word.now) }
-{
-    match near(distance_at(word, NEAR, labels, slot)) {
-        Ok(distance) => Ok(Value::Distance(distance)),
-        Err(fault) => Err(fault),
-    }
-}
-
-/// The distance of 32 bits that a word is, as an operand.
-fn far_at(word: &[u8], labels: &Labels<'_>, slot: u32) -> Result<Value, TextFault>
-    ensures { result ≡ as_far_distance (distance_at (label_slots labels.now) (2 ^ 31) slot word.now) }
-{
-    match distance_at(word, FAR, labels, slot) {
-        Ok(distance) => Ok(Value::FarDistance(distance)),
-        Err(fault) => Err(fault),
-    }
-}
-
 /// The operand of a kind that a word is at a slot.
 fn value_at(kind: Kind, word: &[u8], labels: &Labels<'_>, slot: u32) -> Result<Value, TextFault>
     ensures { result ≡ value_at (label_slots labels.now) slot kind word.now }
 {
     match kind {
-        Kind::Reg => reg_at(word),
-        Kind::RegOrImm if is_register(word) => reg_at(word),
-        Kind::RegOrImm | Kind::Imm => imm_at(word),
-        Kind::Wide => wide_at(word),
-        Kind::Distance => near_at(word, labels, slot),
-        Kind::FarDistance => far_at(word, labels, slot),
+        Kind::Reg => Ok(Value::Reg(register_at(word)?)),
+        Kind::RegOrImm if is_register(word) => Ok(Value::Reg(register_at(word)?)),
+        Kind::RegOrImm | Kind::Imm => Ok(Value::Imm(signed_at(word)?)),
+        Kind::Wide => Ok(Value::Wide(unsigned_at(word)?)),
+        Kind::Distance => Ok(Value::Distance(near(distance_at(word, NEAR, labels, slot))?)),
+        Kind::FarDistance => Ok(Value::FarDistance(distance_at(word, FAR, labels, slot)?)),
         Kind::Address => address_at(word),
     }
 }
@@ -195,10 +123,8 @@ fn cut_comma(text: &[u8]) -> Option<(&[u8], &[u8])>
     ensures some { IfSome result (λ x. cut_comma text.now ≡ Some (x.0.now, x.1.now)) }
     ensures none { IfNone result (cut_comma text.now ≡ None) }
 {
-    match comma_at(text) {
-        Some(at) => Some((&text[..at], &text[at + 1..])),
-        None => None,
-    }
+    let at = comma_at(text)?;
+    Some((&text[..at], &text[at + 1..]))
 }
 
 /// Two operands, with a comma between them.
@@ -250,32 +176,16 @@ pub(crate) fn operands_at(
     match kinds {
         Kinds::Zero if text.is_empty() => Ok(Operands::Zero),
         Kinds::Zero => Err(TextFault::Form),
-        Kinds::One(kind) => match value_at(kind, trim(text), labels, slot) {
-            Ok(value) => Ok(Operands::One(value)),
-            Err(fault) => Err(fault),
-        },
-        Kinds::Two(first, second) => match both_at((first, second), text, labels, slot) {
-            Ok((a, b)) => Ok(Operands::Two(a, b)),
-            Err(fault) => Err(fault),
-        },
+        Kinds::One(kind) => Ok(Operands::One(value_at(kind, trim(text), labels, slot)?)),
+        Kinds::Two(first, second) => {
+            let (a, b) = both_at((first, second), text, labels, slot)?;
+            Ok(Operands::Two(a, b))
+        }
         Kinds::Three(first, second, third) => {
-            match three_at(first, (second, third), text, labels, slot) {
-                Ok((a, (b, c))) => Ok(Operands::Three(a, b, c)),
-                Err(fault) => Err(fault),
-            }
+            let (a, (b, c)) = three_at(first, (second, third), text, labels, slot)?;
+            Ok(Operands::Three(a, b, c))
         }
     }
-}
-
-/// Whether a word between brackets has a base that is a register, and an offset.
-fn address_fits(word: &[u8]) -> bool
-    ensures { result ≡ fits Kind.Address word.now }
-{
-    if !is_bracketed(word) {
-        return false;
-    }
-    let (base, offset) = split_address(word);
-    register_at(base).is_ok() && is_offset(offset)
 }
 
 /// Whether a word has the form of a kind, and its registers exist.
@@ -287,7 +197,11 @@ fn fits(kind: Kind, word: &[u8]) -> bool
         Kind::RegOrImm if is_register(word) => register_at(word).is_ok(),
         Kind::RegOrImm | Kind::Imm | Kind::Wide => is_number(word),
         Kind::Distance | Kind::FarDistance => is_name(word) || is_offset(word),
-        Kind::Address => address_fits(word),
+        Kind::Address if is_bracketed(word) => {
+            let (base, offset) = split_address(word);
+            register_at(base).is_ok() && is_offset(offset)
+        }
+        Kind::Address => false,
     }
 }
 

@@ -25,8 +25,7 @@ pub(crate) fn pair<A: Copy, B: Copy>(
 {
     match (a, b) {
         (Ok(a), Ok(b)) => Ok((a, b)),
-        (Ok(_), Err(fault)) => Err(fault),
-        (Err(fault), Ok(_)) => Err(fault),
+        (Ok(_), Err(fault)) | (Err(fault), Ok(_)) => Err(fault),
         (Err(fault), Err(other)) => Err(least(fault, other)),
     }
 }

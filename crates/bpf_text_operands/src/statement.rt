@@ -10,7 +10,7 @@ use crate::labels::Labels;
 use crate::operands::{all_fit, operands_at};
 use crate::tables::{atomic_at, atomic_width, mnemonic_at};
 use bpf_insn_types::Insn;
-use bpf_text_lex::{Mnemonic, Operands, TextFault, blank_at, trim_start};
+use bpf_text_lex::{Mnemonic, TextFault, blank_at, trim_start};
 
 /// A text up to its first blank, and what comes after its blanks there.
 fn split_word(text: &[u8]) -> (&[u8], &[u8])
@@ -34,28 +34,9 @@ fn statement_at(line: &[u8]) -> Option<(Mnemonic, &[u8])>
     let (word, rest) = split_word(line);
     if let Some(width) = atomic_width(word) {
         let (word, rest) = split_word(rest);
-        return match atomic_at(word) {
-            Some(op) => Some((Mnemonic::Atomic(width, op), rest)),
-            None => None,
-        };
+        return Some((Mnemonic::Atomic(width, atomic_at(word)?), rest));
     }
-    match mnemonic_at(word) {
-        Some(mnemonic) => Some((mnemonic, rest)),
-        None => None,
-    }
-}
-
-/// The instruction of a mnemonic and what was read of its operands.
-fn built(mnemonic: Mnemonic, operands: Result<Operands, TextFault>) -> Result<Insn, TextFault>
-    ensures { result ≡ built mnemonic operands }
-{
-    match operands {
-        Ok(operands) => match insn_of_mnemonic(mnemonic, &operands) {
-            Some(insn) => Ok(insn),
-            None => Err(TextFault::Form),
-        },
-        Err(fault) => Err(fault),
-    }
+    Some((mnemonic_at(word)?, rest))
 }
 
 /// The instruction that a line is, where its slot is this, or the least of its faults: `Form`,
@@ -65,14 +46,15 @@ fn built(mnemonic: Mnemonic, operands: Result<Operands, TextFault>) -> Result<In
 pub fn read_insn(line: &[u8], labels: &Labels<'_>, slot: u32) -> Result<Insn, TextFault>
     ensures { result ≡ insn_of_line (label_slots labels.now) slot line.now }
 {
-    match statement_at(line) {
-        Some((mnemonic, text)) => {
-            built(
-                mnemonic,
-                operands_at(kinds_of(mnemonic), text, labels, slot),
-            )
-        }
-        None => Err(TextFault::Form),
+    let Some((mnemonic, text)) = statement_at(line) else {
+        return Err(TextFault::Form);
+    };
+    match operands_at(kinds_of(mnemonic), text, labels, slot) {
+        Ok(operands) => match insn_of_mnemonic(mnemonic, &operands) {
+            Some(insn) => Ok(insn),
+            None => Err(TextFault::Form),
+        },
+        Err(fault) => Err(fault),
     }
 }
 
