@@ -1,8 +1,8 @@
 -- Events as a text: a first line `bounds` and numbers, then lines of words, each a letter and a worker.
-use Rattle.std.specs.Prelude.{ℕ, ◌-◌, ◌^◌, ◌==◌, ◌&&◌, nat_lt, Bool, if◌then◌else◌, List, [], ◌∷◌, ◌++◌, length, drop}
+use Rattle.std.specs.Prelude.{ℕ, ◌==◌, ◌&&◌, nat_lt, Bool, if◌then◌else◌, List, [], ◌∷◌, ◌++◌, length, drop}
 use Rattle.std.specs.{Prelude.{slice_index, codes, Option, Some, None, is_some, Result, Ok, Err}, List.{list_all}}
-use Rattle.std.specs.Str.{bytes_eq}
-use Rattle.bpf_text_lex.specs.{Lines.{contents_of}, Numbers.{is_number}, Words.{words_of}, Fields.{fields_of, field_of}}
+use Rattle.bpf_text_lex.specs.{Lines.{contents_of}, Numbers.{is_number, number_in}, Words.{words_of}}
+use Rattle.bpf_text_lex.specs.Fields.{fields_after}
 use Rattle.bpf_text_lex.specs.declared.text_error.{TextFault.{TextFault}, TextError.{TextError}}
 use Rattle.bpf_text_lex.specs.Refusals.{at_line, with_first_item, ◌>>=◌}
 use Rattle.bpf_text_lex.specs.declared.text_error.TextFault.TheVariants as faults
@@ -32,7 +32,7 @@ event_of_kind (Some k) (Ok worker) = Ok (record { kind = k; worker = worker })
 
 -- the event of a word: its letter, and a worker of 0 to 255
 abbrev pub event_at : List ℕ → Result Event TextFault
-event_at word = event_of_kind (event_kind_at (slice_index word 0)) (field_of 255 (drop 1 word))
+event_at word = event_of_kind (event_kind_at (slice_index word 0)) (number_in 255 (drop 1 word))
 
 -- the events of words
 abbrev pub events_in : List (List ℕ) → Result (List Event) TextFault
@@ -42,11 +42,6 @@ events_in (word ∷ words) = with_first_item (event_at word) (events_in words)
 -- the same, where a word that is no event comes before a worker outside its field
 abbrev pub events_of : List (List ℕ) → Result (List Event) TextFault
 events_of words = if list_all is_event words then events_in words else Err faults.Form
-
--- the bounds that the words of a first line give
-abbrev pub bounds_of : List (List ℕ) → Result (List ℕ) TextFault
-bounds_of [] = Err faults.Form
-bounds_of (word ∷ words) = if bytes_eq word (codes "bounds") then fields_of (2 ^ 32 - 1) words else Err faults.Form
 
 -- the events of earlier lines, and those of these lines after them
 unfoldable pub events_behind : List Event → List (ℕ × List ℕ) → Result (List Event) TextError
@@ -59,7 +54,7 @@ events_behind before (line ∷ lines) = do
 unfoldable pub schedule_of : List (ℕ × List ℕ) → Result (List ℕ × List Event) TextError
 schedule_of [] = Err (errors.Refused faults.Form 0)
 schedule_of (line ∷ lines) = do
-  bounds ← at_line line.0 (bounds_of (words_of line.1))
+  bounds ← at_line line.0 (fields_after (codes "bounds") (words_of line.1))
   events ← events_behind [] lines
   Ok (bounds, events)
 

@@ -2,7 +2,7 @@
 use Rattle.std.specs.Prelude.{ℕ, ◌+◌, ◌-◌, ◌^◌, ◌==◌, Vec, ◌&&◌, nat_lt, nat_le, Bool, false, if◌then◌else◌, List, []}
 use Rattle.std.specs.{Prelude.{◌∷◌, ◌++◌, length, take, slice_index, map, codes, Result, Ok, Err}, Fmt.{decimal}}
 use Rattle.std.specs.{declared.alloc.Global.{Global}, List.{flat_map}, Str.{bytes_eq}}
-use Rattle.bpf_text_lex.specs.{declared.numbers.NumberError.{NumberError}, Lines.{contents_of}, Words.{words_of}}
+use Rattle.bpf_text_lex.specs.{Lines.{contents_of}, Words.{words_of}}
 use Rattle.bpf_text_lex.specs.{Numbers.{is_number, number_in}, declared.text_error.TextFault.{TextFault}}
 use Rattle.bpf_text_lex.specs.{declared.text_error.TextError.{TextError}, Refusals.{at_line, ◌>>=◌}, Fields.{fields_of}}
 use Rattle.bpf_text_lex.specs.declared.text_error.TextFault.TheVariants as faults
@@ -25,7 +25,7 @@ abbrev pub is_map_head : List ℕ → List ℕ → Bool
 is_map_head word label = bytes_eq word (codes "map") && is_map_label label
 
 -- whether a label's number is this map's
-abbrev pub is_turn : ℕ → Result ℕ NumberError → Bool
+abbrev pub is_turn : ℕ → Result ℕ TextFault → Bool
 is_turn number (Ok n) = n == number
 is_turn number (Err error) = false
 

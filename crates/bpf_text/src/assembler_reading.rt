@@ -8,24 +8,8 @@ ghost use Rattle.bpf_text.specs.AssemblerText.{unit_of, assembler_text};
 use crate::label::read_labels;
 use crate::program::read_insns;
 use bpf_insn_types::Unit;
-use bpf_text_lex::{Lines, MAX_TEXT, TextError, TextFault, read_head};
+use bpf_text_lex::{Lines, TextError, TextFault, read_head};
 use std::alloc::Global;
-
-/// The unit of a text that isn't too long.
-#[tactic(auto, unfolding(crate::specs::AssemblerText::unit_of), using(crate::proofs::ReadingLaws::by_table))]
-fn read_unit(alloc: Global, text: &[u8]) -> Result<Unit, TextError>
-    requires { length text.now ≤ 1048576 }
-    ensures { MatchesUnlessMemory text_refusal (λ u. u) result (unit_of (contents_of text.now)) }
-{
-    let mut lines = Lines::of(text);
-    let Some(head) = lines.next() else {
-        return Err(TextFault::Form.at(0));
-    };
-    let sizes = read_head(alloc, head.content, head.number)?;
-    let labels = read_labels(alloc, lines.again())?;
-    let insns = read_insns(alloc, lines, &labels)?;
-    Ok(Unit { sizes, insns })
-}
 
 /// The unit of an assembler text: at most 1,048,576 bytes, a first line `maps` and the sizes of 1 to
 /// 16 maps of at least 1 element and together at most 65,536, then lines of instructions and labels
@@ -36,12 +20,16 @@ fn read_unit(alloc: Global, text: &[u8]) -> Result<Unit, TextError>
 /// outside its field, `Register`, `UnknownLabel`, `RepeatedLabel`, `TooLong` at the instruction that
 /// passes 4,096 slots, `Limits` for sizes that break the limits. Labels are those of the whole text,
 /// also after a faulty line. `Memory` may come in place of any answer.
+#[tactic(auto, unfolding(crate::specs::AssemblerText::unit_of), using(crate::proofs::ReadingLaws::by_table))]
 pub fn parse_unit(alloc: Global, text: &str) -> Result<Unit, TextError>
     ensures { MatchesUnlessMemory text_refusal (λ u. u) result (assembler_text text.now) }
 {
-    let bytes = text.as_bytes();
-    if bytes.len() > MAX_TEXT {
-        return Err(TextFault::TooLong.at(0));
-    }
-    read_unit(alloc, bytes)
+    let mut lines = Lines::of(text)?;
+    let Some(head) = lines.next() else {
+        return Err(TextFault::Form.at(0));
+    };
+    let sizes = read_head(alloc, head.content, head.number)?;
+    let labels = read_labels(alloc, lines.again())?;
+    let insns = read_insns(alloc, lines, &labels)?;
+    Ok(Unit { sizes, insns })
 }

@@ -3,13 +3,10 @@
 ghost use Rattle.std.specs.{Prelude.{◌≡◌, ◌≤◌, length, [], slice_index, IfOk}, List.{list_all}};
 ghost use Rattle.bpf_text_lex.specs.{Lines.{contents_of}, Words.{words_of}, Refusals.{at_line, text_refusal}};
 ghost use Rattle.bpf_insn_types.specs.Outcome.{MatchesUnlessMemory};
-ghost use Rattle.bpf_text.specs.EventsText.{event_kind_at, is_event, event_at, events_in, events_of, bounds_of};
+ghost use Rattle.bpf_text.specs.EventsText.{event_kind_at, is_event, event_at, events_in, events_of};
 ghost use Rattle.bpf_text.specs.EventsText.{events_behind, schedule_of, events_text};
 
-use bpf_text_lex::{
-    Lines, MAX_TEXT, NumberError, TextError, TextFault, Words, is_number, next_word, read_number,
-    read_u32_fields,
-};
+use bpf_text_lex::{Lines, TextError, TextFault, Words, is_number, read_fields_after, read_number};
 use loop_core_model::{Event, EventKind};
 use std::alloc::Global;
 
@@ -31,10 +28,7 @@ fn kind_at(letter: u8) -> Option<EventKind>
 fn is_event(word: &[u8]) -> bool
     ensures { result ≡ is_event word.now }
 {
-    if word.is_empty() {
-        return false;
-    }
-    kind_at(word[0]).is_some() && is_number(&word[1..])
+    !word.is_empty() && kind_at(word[0]).is_some() && is_number(&word[1..])
 }
 
 /// Whether each word of a line is a letter of a kind and a number of any size.
@@ -65,8 +59,7 @@ fn read_event(word: &[u8], line: u32) -> Result<Event, TextError>
             kind,
             worker: worker as u8,
         }),
-        Err(NumberError::Form) => Err(TextFault::Form.at(line)),
-        Err(NumberError::Field) => Err(TextFault::Field.at(line)),
+        Err(fault) => Err(fault.at(line)),
     }
 }
 
@@ -92,19 +85,6 @@ fn read_events(alloc: Global, words: &[u8], line: u32) -> Result<Vec<Event>, Tex
     read_words(alloc, Words::of(words), line)
 }
 
-/// The bounds that the first line gives, or its fault.
-fn read_bounds(alloc: Global, content: &[u8], line: u32) -> Result<Vec<u32>, TextError>
-    ensures { MatchesUnlessMemory text_refusal (λ v. v.items) result (at_line line (bounds_of (words_of content.now))) }
-{
-    let Some((word, rest)) = next_word(content) else {
-        return Err(TextFault::Form.at(line));
-    };
-    if word != b"bounds".as_slice() {
-        return Err(TextFault::Form.at(line));
-    }
-    read_u32_fields(alloc, rest, line)
-}
-
 /// The events of lines.
 fn read_lines(alloc: Global, lines: Lines<'_>) -> Result<Vec<Event>, TextError>
     ensures { MatchesUnlessMemory text_refusal (λ v. v.items) result (events_behind [] lines.entry) }
@@ -118,22 +98,6 @@ fn read_lines(alloc: Global, lines: Lines<'_>) -> Result<Vec<Event>, TextError>
     Ok(events)
 }
 
-/// The bounds and events of a text that isn't too long.
-#[tactic(auto, unfolding(crate::specs::EventsText::schedule_of))]
-fn read_schedule(alloc: Global, text: &[u8]) -> Result<(Vec<u32>, Vec<Event>), TextError>
-    requires { length text.now ≤ 1048576 }
-    ensures { MatchesUnlessMemory text_refusal (λ x. (x.0.items, x.1.items)) result
-        (schedule_of (contents_of text.now)) }
-{
-    let mut lines = Lines::of(text);
-    let Some(head) = lines.next() else {
-        return Err(TextFault::Form.at(0));
-    };
-    let bounds = read_bounds(alloc, head.content, head.number)?;
-    let events = read_lines(alloc, lines)?;
-    Ok((bounds, events))
-}
-
 /// The bounds of blocks and the events of an events text: at most 1,048,576 bytes, a first line
 /// `bounds` and numbers below 2^32, then lines of words, each one of the letters c, l, t, p, s and
 /// the number of a worker, 0 to 255. `;` begins a comment, and empty lines are skipped.
@@ -141,12 +105,15 @@ fn read_schedule(alloc: Global, text: &[u8]) -> Result<(Vec<u32>, Vec<Event>), T
 /// The refusal is the least line over all faults of the text, and there the least fault: `TooLong` at
 /// line 0, `Form` at line 0 where there is no first line, `Form`, `Field` for a bound outside 0 to
 /// 2^32 - 1 or a worker outside 0 to 255. `Memory` may come in place of any answer.
+#[tactic(auto, unfolding(crate::specs::EventsText::schedule_of))]
 pub fn parse_events(alloc: Global, text: &str) -> Result<(Vec<u32>, Vec<Event>), TextError>
     ensures { MatchesUnlessMemory text_refusal (λ x. (x.0.items, x.1.items)) result (events_text text.now) }
 {
-    let bytes = text.as_bytes();
-    if bytes.len() > MAX_TEXT {
-        return Err(TextFault::TooLong.at(0));
-    }
-    read_schedule(alloc, bytes)
+    let mut lines = Lines::of(text)?;
+    let Some(head) = lines.next() else {
+        return Err(TextFault::Form.at(0));
+    };
+    let bounds = read_fields_after(alloc, b"bounds", head.content, head.number)?;
+    let events = read_lines(alloc, lines)?;
+    Ok((bounds, events))
 }

@@ -6,10 +6,13 @@ ghost use Rattle.bpf_text_lex.specs.{Lines.{contents_of}, Words.{words_of}, Refu
 ghost use Rattle.bpf_insn_types.specs.Outcome.{MatchesUnlessMemory};
 ghost use Rattle.bpf_text.specs.HexText.{as_bytes, bytes_of_lines, bytes_behind, hex_parts_of, hex_text};
 
-use bpf_text_lex::{Lines, MAX_BYTES, MAX_TEXT, TextError, TextFault, next_word, read_head};
+use bpf_text_lex::{Lines, TextError, TextFault, next_word, read_head};
 use hex::FromHexError;
 use std::alloc::Global;
 use std::marker::Model;
+
+/// The most bytes of a unit's instructions: 4,096 slots of 8.
+const MAX_BYTES: usize = 32_768;
 
 /// What the hex form of a unit gives. In contracts it is its sizes and bytes.
 #[derive(Drop)]
@@ -76,21 +79,6 @@ fn read_lines(alloc: Global, lines: Lines<'_>) -> Result<Vec<u8>, TextError>
     Ok(bytes)
 }
 
-/// The sizes and bytes of a text that isn't too long.
-#[tactic(auto, unfolding(crate::specs::HexText::hex_parts_of))]
-fn read_parts(alloc: Global, text: &[u8]) -> Result<HexUnit, TextError>
-    requires { length text.now ≤ 1048576 }
-    ensures { MatchesUnlessMemory text_refusal (λ u. u) result (hex_parts_of (contents_of text.now)) }
-{
-    let mut lines = Lines::of(text);
-    let Some(head) = lines.next() else {
-        return Err(TextFault::Form.at(0));
-    };
-    let sizes = read_head(alloc, head.content, head.number)?;
-    let bytes = read_lines(alloc, lines)?;
-    Ok(HexUnit { sizes, bytes })
-}
-
 /// The sizes and bytes of a unit in hex form: at most 1,048,576 bytes, a first line `maps` and the
 /// sizes of 1 to 16 maps of at least 1 element and together at most 65,536, then lines of an even
 /// number of hex digits in either case, at most 32,768 bytes in all. `;` begins a comment, and empty
@@ -100,12 +88,15 @@ fn read_parts(alloc: Global, text: &[u8]) -> Result<HexUnit, TextError>
 /// line 0, `Form` at line 0 where there is no first line, `Form`, `Field` for a size outside 0 to
 /// 2^32 - 1, `TooLong` at the line that passes 32,768 bytes, `Limits` for sizes that break the limits.
 /// `Memory` may come in place of any answer.
+#[tactic(auto, unfolding(crate::specs::HexText::hex_parts_of))]
 pub fn read_hex(alloc: Global, text: &str) -> Result<HexUnit, TextError>
     ensures { MatchesUnlessMemory text_refusal (λ u. u) result (hex_text text.now) }
 {
-    let bytes = text.as_bytes();
-    if bytes.len() > MAX_TEXT {
-        return Err(TextFault::TooLong.at(0));
-    }
-    read_parts(alloc, bytes)
+    let mut lines = Lines::of(text)?;
+    let Some(head) = lines.next() else {
+        return Err(TextFault::Form.at(0));
+    };
+    let sizes = read_head(alloc, head.content, head.number)?;
+    let bytes = read_lines(alloc, lines)?;
+    Ok(HexUnit { sizes, bytes })
 }

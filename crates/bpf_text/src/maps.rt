@@ -9,23 +9,17 @@ ghost use Rattle.bpf_text.specs.MapsText.{lists, label_number, is_map_label, is_
 ghost use Rattle.bpf_text.specs.MapsText.{values_read, maps_behind, maps_text};
 
 use bpf_insn_types::{MAX_ELEMENTS, MAX_MAPS};
-use bpf_text_lex::{
-    Lines, MAX_TEXT, TextError, TextFault, is_number, next_word, read_fields, read_number,
-};
+use bpf_text_lex::{Lines, TextError, TextFault, is_number, next_word, read_fields, read_number};
 use std::alloc::Global;
 
 /// Whether the word is a number and a colon.
 fn is_label(label: &[u8]) -> bool
     ensures { result ≡ is_map_label label.now }
 {
-    if label.is_empty() {
+    let Some(end) = label.len().checked_sub(1) else {
         return false;
-    }
-    let end = label.len() - 1;
-    if label[end] != b':' {
-        return false;
-    }
-    is_number(&label[..end])
+    };
+    label[end] == b':' && is_number(&label[..end])
 }
 
 /// Whether the line of a map may begin with these words.
@@ -89,14 +83,14 @@ fn read_values(
     Ok(values)
 }
 
-/// The maps of a text that isn't too long.
-fn read_maps(alloc: Global, text: &[u8]) -> Result<Vec<Vec<u64>>, TextError>
-    requires { length text.now ≤ 1048576 }
-    ensures { MatchesUnlessMemory text_refusal (λ maps. lists maps.items) result (maps_behind [] (contents_of text.now)) }
+/// The maps of lines.
+fn read_maps(alloc: Global, lines: Lines<'_>) -> Result<Vec<Vec<u64>>, TextError>
+    requires { length lines ≤ 1048576 }
+    ensures { MatchesUnlessMemory text_refusal (λ maps. lists maps.items) result (maps_behind [] lines.entry) }
 {
+    let mut lines = lines;
     let mut maps = Vec::new(alloc);
     let mut held = 0;
-    let mut lines = Lines::of(text);
     while let Some(line) = lines.next() {
         let values = read_values(alloc, line.content, line.number, maps.len(), held)?;
         held += values.len();
@@ -116,11 +110,7 @@ fn read_maps(alloc: Global, text: &[u8]) -> Result<Vec<Vec<u64>>, TextError>
 pub fn parse_maps(alloc: Global, text: &str) -> Result<Vec<Vec<u64>>, TextError>
     ensures { MatchesUnlessMemory text_refusal (λ maps. lists maps.items) result (maps_text text.now) }
 {
-    let bytes = text.as_bytes();
-    if bytes.len() > MAX_TEXT {
-        return Err(TextFault::TooLong.at(0));
-    }
-    let maps = read_maps(alloc, bytes)?;
+    let maps = read_maps(alloc, Lines::of(text)?)?;
     if maps.is_empty() {
         return Err(TextFault::Limits.at(0));
     }

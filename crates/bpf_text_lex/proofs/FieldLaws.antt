@@ -2,21 +2,20 @@
 use Rattle.std.proofs.Common.{◌≡◌, ℕ, zero, suc, ◌<◌, ◌≤◌, Bool, true, false, cond, List, [], ◌∷◌, length, get_or}
 use Rattle.std.{proofs.Common.{Result, Ok, Err, refl, ap, arith}, specs.{Prelude.{nat_le, IfOk}, List.{list_all}}}
 use Rattle.std.proofs.lemmas.Bool.{leb-true}
-use Rattle.bpf_text_lex.specs.declared.{numbers.NumberError.{NumberError}, text_error.TextFault.{TextFault}}
+use Rattle.bpf_text_lex.specs.declared.text_error.TextFault.{TextFault}
 use Rattle.bpf_text_lex.specs.Numbers.{is_numeral, is_negative, is_number, value_of, number_in}
-use Rattle.bpf_text_lex.specs.{Fields.{as_field, field_of, numbers_in, fields_of}, Refusals.{at_line, with_first_item}}
-use Rattle.bpf_text_lex.specs.declared.numbers.NumberError.TheVariants as numbers
+use Rattle.bpf_text_lex.specs.{Fields.{numbers_in, fields_of}, Refusals.{at_line, with_first_item}}
 use Rattle.bpf_text_lex.specs.declared.text_error.TextFault.TheVariants as faults
 
 -- ---- what is read lies in its field
 
-field_small : (limit : ℕ) (r : Result ℕ NumberError) (n : ℕ) → IfOk r (λ m. m ≤ limit) → as_field r ≡ Ok n → n ≤ limit
+field_small : (limit : ℕ) (r : Result ℕ TextFault) (n : ℕ) → IfOk r (λ m. m ≤ limit) → r ≡ Ok n → n ≤ limit
 field_small limit (Ok m) n le e = let same : m ≡ n = cc in rw (← same) le
 field_small limit (Err error) n le e = absurd cc
 
 chosen_small : (limit : ℕ) (numeral small negative : Bool) (v : ℕ) → (small ≡ true → v ≤ limit)
-    → IfOk {E = NumberError} (cond numeral (cond small (Ok v) (Err numbers.Field)) (cond negative (Err numbers.Field)
-    (Err numbers.Form))) (λ m. m ≤ limit)
+    → IfOk {E = TextFault} (cond numeral (cond small (Ok v) (Err faults.Field)) (cond negative (Err faults.Field)
+    (Err faults.Form))) (λ m. m ≤ limit)
 chosen_small limit true true negative v le = le refl
 chosen_small limit true false negative v le = tt
 chosen_small limit false small true v le = tt
@@ -42,8 +41,8 @@ numbers_small : (limit : ℕ) (words : List (List ℕ)) (ns : List ℕ) → numb
 numbers_small limit [] [] e k d lt = absurd (omega arith)
 numbers_small limit [] (n ∷ ns) e k d lt = absurd cc
 numbers_small limit (word ∷ words) ns e k d lt =
-    front_small limit (field_of limit word) (numbers_in limit words) ns (λ n h. field_small limit (number_in limit word)
-    n (number_small limit word) h) (λ ms h. numbers_small limit words ms h) e k d lt
+    front_small limit (number_in limit word) (numbers_in limit words) ns
+    (λ n h. field_small limit (number_in limit word) n (number_small limit word) h) (λ ms h. numbers_small limit words ms h) e k d lt
 
 tested : (t : Bool) (r : Result (List ℕ) TextFault) (line : ℕ) (ns : List ℕ) → at_line line (cond t r (Err faults.Form))
     ≡ Ok ns → r ≡ Ok ns

@@ -6,7 +6,7 @@ use Rattle.std.proofs.lemmas.Bool.{leb-true, and_parts, and_from, cond-true, con
 use Rattle.std.proofs.lemmas.List.{length-append, Sums.{sum_by-cons}}
 use Rattle.bpf_text_lex.{proofs.SpellingLaws.{in_field, decimal_digits}, specs.Refusals.{with_first_item}}
 use Rattle.bpf_text_lex.specs.{Lines.{with_front, is_blank}, Words.{ends_word, words_of}, Head.{as_sizes, head_of}}
-use Rattle.bpf_text_lex.specs.{Numbers.{is_number, is_numeral, is_negative}, Fields.{as_field, numbers_in, fields_of}}
+use Rattle.bpf_text_lex.specs.{Numbers.{is_number, is_numeral, is_negative}, Fields.{numbers_in, fields_of}}
 use Rattle.bpf_text_lex.{specs.PrintedLines.{size_spelling, head_spelling}, proofs.PrintedLineLaws.{solid_no_blank}}
 use Rattle.bpf_text_lex.proofs.SolidWords.{in_line, is_solid, solids_in_line, all_append, Ends, ends_behind}
 use Rattle.bpf_text_lex.proofs.{SolidWords.{ends_word as ends_solid, Line}, PrintedInsns.{decimal_solid, decimal_short}}
@@ -70,7 +70,7 @@ are_numbers (size ∷ sizes) le =
 numbers_back : (sizes : List ℕ) → Small sizes → numbers_in (2 ^ 32 - 1) (map decimal sizes) ≡ Ok sizes
 numbers_back [] le = refl
 numbers_back (size ∷ sizes) le =
-    ap (λ r. with_first_item (as_field r) (numbers_in (2 ^ 32 - 1) (map decimal sizes)))
+    ap (λ r. with_first_item r (numbers_in (2 ^ 32 - 1) (map decimal sizes)))
     (in_field (2 ^ 32 - 1) size (omega arith) (omega (arith, le.0)))
     ∙ ap (with_first_item (Ok size)) (numbers_back sizes le.1)
 
@@ -98,8 +98,8 @@ head_back sizes e =
     let s = stand sizes e in
     ap head_of (word_first (codes "maps") (flat_map size_spelling sizes) (omega arith) refl (sizes_end sizes)
     ∙ ap (λ (ws : List (List ℕ)). codes "maps" ∷ ws) (words_of-sizes sizes s.small))
-    ∙ cond-true (bytes_eq (codes "maps") (codes "maps")) (as_sizes (fields_of (2 ^ 32 - 1) (map decimal sizes)))
-    (Err faults.Form) refl
+    ∙ ap as_sizes (cond-true (bytes_eq (codes "maps") (codes "maps")) (fields_of (2 ^ 32 - 1) (map decimal sizes))
+    (Err faults.Form) refl)
     ∙ ap as_sizes (fields_back sizes s.small)
     ∙ cond-true (sizes_fit sizes) (Ok sizes) (Err faults.Limits) e
 

@@ -5,7 +5,7 @@ use Rattle.std.specs.{Prelude.{nat_le, nat_lt, IfOk}, Char.{is_ascii_digit}, Lis
 use Rattle.std.proofs.lemmas.Bool.{leb-true, ltb-true, eqb-true, lt-ltb, le-leb, and_parts, and_from, or_right}
 use Rattle.std.proofs.lemmas.Fmt.{digits_decimal, digits_value-decimal, decimal-digits_value, first_decimal}
 use Rattle.std.proofs.lemmas.{Fmt.{decimal_digit}, Str.Parse.{IsNumeralModel, numerals_by_fold}}
-use Rattle.bpf_text_lex.specs.declared.numbers.NumberError.{NumberError, TheVariants.{Form, Field}}
+use Rattle.bpf_text_lex.specs.declared.text_error.TextFault.{TextFault, TheVariants.{Form, Field}}
 use Rattle.bpf_text_lex.specs.Numbers.{is_numeral, is_negative, value_after, value_of, number_in}
 
 own : IsNumeralModel (λ ds. list_all is_ascii_digit ds ≡ true) value_of
@@ -39,7 +39,7 @@ spelled limit word n fits e =
     parts.1) below in
     (sym back ∙ ap decimal a.2, rw (← a.2) small)
 
-pub spelled_if : (limit : ℕ) (word : List ℕ) (r : Result ℕ NumberError) → limit < 2 ^ 64 → r ≡ number_in limit word
+pub spelled_if : (limit : ℕ) (word : List ℕ) (r : Result ℕ TextFault) → limit < 2 ^ 64 → r ≡ number_in limit word
     → IfOk r (λ n. (word ≡ decimal n) × (n ≤ limit))
 spelled_if limit word (Ok n) fits e = spelled limit word n fits (sym e)
 spelled_if limit word (Err error) fits e = tt
@@ -53,7 +53,7 @@ is_numeral-decimal : (n : ℕ) → n < 2 ^ 64 → is_numeral (decimal n) ≡ tru
 is_numeral-decimal n fits = and_from (list_all is_ascii_digit (decimal n)) _ (digits_decimal own n fits)
     (no_zero_in_front n fits)
 
-chosen : (numeral small : Bool) (others : Result ℕ NumberError) (v n : ℕ) → numeral ≡ true → small ≡ true → v ≡ n
+chosen : (numeral small : Bool) (others : Result ℕ TextFault) (v n : ℕ) → numeral ≡ true → small ≡ true → v ≡ n
     → cond numeral (cond small (Ok v) (Err Field)) others ≡ Ok n
 chosen true true others v n e h same = ap (λ (m : ℕ). Ok m) same
 chosen true false others v n e h same = absurd cc

@@ -1,7 +1,7 @@
 -- Decimal numbers, each of which has one spelling. 45 is a minus sign, 48 the digit 0.
 use Rattle.std.specs.Prelude.{ℕ, ◌+◌, ◌-◌, ◌*◌, ◌==◌, ◌&&◌, ◌||◌, nat_lt, nat_le, Bool, if◌then◌else◌, List, [], ◌∷◌}
 use Rattle.std.specs.{Prelude.{length, drop, slice_index, Result, Ok, Err}, Char.{is_ascii_digit}, List.{list_all}}
-use Rattle.bpf_text_lex.specs.declared.numbers.NumberError.{NumberError, TheVariants.{Form, Field}}
+use Rattle.bpf_text_lex.specs.declared.text_error.TextFault.{TextFault, TheVariants.{Form, Field}}
 
 -- digits with no zero in front, or a digit alone
 abbrev pub is_numeral : List ℕ → Bool
@@ -24,8 +24,8 @@ value_after n (b ∷ bs) = value_after (10 * n + (b - 48)) bs
 abbrev pub value_of : List ℕ → ℕ
 value_of digits = value_after 0 digits
 
--- the number of a field whose numbers are 0 to limit
-abbrev pub number_in : ℕ → List ℕ → Result ℕ NumberError
+-- the number of a word in a field whose numbers are 0 to limit
+abbrev pub number_in : ℕ → List ℕ → Result ℕ TextFault
 number_in limit word =
     if is_numeral word then (if nat_le (value_of word) limit then Ok (value_of word) else Err Field)
     else if is_negative word then Err Field

@@ -1,13 +1,13 @@
 //! Lines of numbers.
 
 ghost use Rattle.std.specs.{Prelude.{◌≡◌, ◌<◌, ◌-◌, ◌^◌, All, IfOk}, List.{list_all}};
-ghost use Rattle.bpf_text_lex.specs.{Numbers.{is_number}, Words.{words_of}, Refusals.{at_line, text_refusal}};
-ghost use Rattle.bpf_text_lex.specs.Fields.{field_of, numbers_in, fields_of};
+ghost use Rattle.bpf_text_lex.specs.{Words.{words_of}, Refusals.{at_line, text_refusal}};
+ghost use Rattle.bpf_text_lex.specs.{Numbers.{is_number, number_in}, Fields.{numbers_in, fields_of, fields_after}};
 ghost use Rattle.bpf_insn_types.specs.Outcome.{MatchesUnlessMemory};
 
-use crate::numbers::{NumberError, is_number, read_number};
+use crate::numbers::{is_number, read_number};
 use crate::text_error::{TextError, TextFault};
-use crate::words::Words;
+use crate::words::{Words, next_word};
 use std::alloc::{AllocError, Global};
 
 /// Whether each word of a line is a number of any size.
@@ -25,12 +25,11 @@ fn are_numbers(words: Words<'_>) -> bool
 
 /// The number of a field whose numbers are 0 to the limit.
 fn read_field(word: &[u8], limit: u64, line: u32) -> Result<u64, TextError>
-    ensures { MatchesUnlessMemory text_refusal (λ n. n) result (at_line line (field_of limit word.now)) }
+    ensures { MatchesUnlessMemory text_refusal (λ n. n) result (at_line line (number_in limit word.now)) }
 {
     match read_number(word, limit) {
         Ok(number) => Ok(number),
-        Err(NumberError::Form) => Err(TextFault::Form.at(line)),
-        Err(NumberError::Field) => Err(TextFault::Field.at(line)),
+        Err(fault) => Err(fault.at(line)),
     }
 }
 
@@ -80,13 +79,22 @@ fn narrowed(alloc: Global, numbers: &[u64]) -> Result<Vec<u32>, AllocError>
     Ok(narrow)
 }
 
-/// The numbers of a line's words, each in a field of 32 bits. A word that is no number is found
-/// before one outside its field.
-pub fn read_u32_fields(alloc: Global, words: &[u8], line: u32) -> Result<Vec<u32>, TextError>
+/// The numbers after a line's first word, which has to be this one, each in a field of 32 bits. A word
+/// that is no number is found before one outside its field.
+pub fn read_fields_after(
+    alloc: Global,
+    first: &[u8],
+    content: &[u8],
+    line: u32,
+) -> Result<Vec<u32>, TextError>
     ensures { MatchesUnlessMemory text_refusal (λ v. v.items) result
-        (at_line line (fields_of (2 ^ 32 - 1) (words_of words.now))) }
+        (at_line line (fields_after first.now (words_of content.now))) }
 {
-    let numbers = read_fields(alloc, words, u64::from(u32::MAX), line)?;
-    let numbers = narrowed(alloc, &numbers)?;
-    Ok(numbers)
+    match next_word(content) {
+        Some((word, rest)) if word == first => {
+            let numbers = read_fields(alloc, rest, u64::from(u32::MAX), line)?;
+            Ok(narrowed(alloc, &numbers)?)
+        }
+        _ => Err(TextFault::Form.at(line)),
+    }
 }

@@ -3,9 +3,8 @@
 ghost use Rattle.bpf_insn_types.specs.Outcome.{MatchesUnlessMemory};
 ghost use Rattle.bpf_text_lex.specs.{Words.{words_of}, Refusals.{at_line, text_refusal}, Head.{head_of}};
 
-use crate::fields::read_u32_fields;
+use crate::fields::read_fields_after;
 use crate::text_error::{TextError, TextFault};
-use crate::words::next_word;
 use bpf_insn_types::elements_of;
 use std::alloc::Global;
 
@@ -13,13 +12,7 @@ use std::alloc::Global;
 pub fn read_head(alloc: Global, content: &[u8], line: u32) -> Result<Vec<u32>, TextError>
     ensures { MatchesUnlessMemory text_refusal (λ v. v.items) result (at_line line (head_of (words_of content.now))) }
 {
-    let Some((word, rest)) = next_word(content) else {
-        return Err(TextFault::Form.at(line));
-    };
-    if word != b"maps".as_slice() {
-        return Err(TextFault::Form.at(line));
-    }
-    let sizes = read_u32_fields(alloc, rest, line)?;
+    let sizes = read_fields_after(alloc, b"maps", content, line)?;
     if elements_of(&sizes).is_none() {
         return Err(TextFault::Limits.at(line));
     }

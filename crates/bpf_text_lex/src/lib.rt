@@ -6,7 +6,6 @@
 
 mod fields;
 mod head;
-mod limits;
 mod lines;
 mod mnemonic;
 mod mnemonic_words;
@@ -18,14 +17,13 @@ mod text_error;
 mod value;
 mod words;
 
-pub use fields::{read_fields, read_u32_fields};
+pub use fields::{read_fields, read_fields_after};
 pub use head::read_head;
-pub use limits::{MAX_BYTES, MAX_TEXT};
 pub use lines::{Line, Lines, newline_at, trim, trim_start};
 pub use mnemonic::Mnemonic;
 pub use mnemonic_words::{alu_word, atomic_word, callee_word, compare_word, kind_word, order_word};
 pub use names::is_name;
-pub use numbers::{NumberError, has_only_digits, is_negative, is_number, is_numeral, read_number};
+pub use numbers::{has_only_digits, is_negative, is_number, is_numeral, read_number};
 pub use printing::{print_head, print_insn};
 pub use statement::{mnemonic_of, operands_of};
 pub use text_error::{TextError, TextFault};

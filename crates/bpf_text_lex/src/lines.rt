@@ -1,12 +1,16 @@
 //! Lines: where they end, where their comments begin, and the blanks round them.
 
 ghost use Rattle.std.specs.Prelude.{◌≡◌, ◌+◌, ◌<◌, ◌≤◌, ◌^◌, ◌==◌, [], ◌∷◌, length, position, not, ◌||◌, IfSome};
-ghost use Rattle.std.specs.Prelude.{IfNone};
+ghost use Rattle.std.specs.Prelude.{IfNone, IfOk, IfErr};
 ghost use Rattle.bpf_text_lex.specs.Lines.{lines_of, before_comment, is_blank, trim_start, trim_end, trim, content_of};
 ghost use Rattle.bpf_text_lex.specs.Lines.{contents_of, contents_from};
 
+use crate::text_error::{TextError, TextFault};
 use crate::words::is_blank;
 use std::marker::Model;
+
+/// The most bytes of a text.
+const MAX_TEXT: usize = 1_048_576;
 
 /// A line that isn't empty.
 #[derive(Clone, Copy)]
@@ -92,13 +96,6 @@ pub fn trim(bytes: &[u8]) -> &[u8]
     trim_end(trim_start(bytes))
 }
 
-/// What a line says: without its comment and without the blanks round it.
-pub(crate) fn content(line: &[u8]) -> &[u8]
-    ensures { result.now ≡ content_of line.now }
-{
-    trim(before_comment(line))
-}
-
 /// The first line that isn't empty, of a text whose first line has this number, and the text after
 /// it, or None where all lines are empty.
 fn next_line<'a>(text: &'a [u8], number: u32) -> Option<(Line<'a>, &'a [u8])>
@@ -112,7 +109,7 @@ fn next_line<'a>(text: &'a [u8], number: u32) -> Option<(Line<'a>, &'a [u8])>
     let mut number = number;
     while !rest.is_empty() {
         let (line, after) = split_line(rest);
-        let content = content(line);
+        let content = trim(before_comment(line));
         if !content.is_empty() {
             return Some((Line { number, content }, after));
         }
@@ -142,13 +139,18 @@ impl<'a> Model for Lines<'a> {
 }
 
 impl<'a> Lines<'a> {
-    /// All lines of a text that aren't empty.
-    pub fn of(text: &'a [u8]) -> Lines<'a>
-        requires { length text.now ≤ 1048576 }
-        ensures lines { result ≡ contents_of text.now }
-        ensures few { length result ≤ 1048576 }
+    /// All lines of a text that aren't empty, where it has at most 1,048,576 bytes, or else `TooLong` at
+    /// line 0.
+    pub fn of(text: &'a str) -> Result<Lines<'a>, TextError>
+        ensures short { IfOk result (λ lines. (length text.now ≤ 1048576) × (lines ≡ contents_of text.now)) }
+        ensures few { IfOk result (λ lines. length lines ≤ 1048576) }
+        ensures long { IfErr result (λ e. (1048576 < length text.now) × (e ≡ TextError.Refused TextFault.TooLong 0)) }
     {
-        Lines { text, number: 1 }
+        let text = text.as_bytes();
+        if text.len() > MAX_TEXT {
+            return Err(TextFault::TooLong.at(0));
+        }
+        Ok(Lines { text, number: 1 })
     }
 
     /// The same lines once more.

@@ -4,15 +4,7 @@ ghost use Rattle.std.specs.Prelude.{◌≡◌, ◌≤◌, ℕ, IfOk, ◌&&◌, �
 ghost use Rattle.std.specs.{Prelude.{None, length, slice_index}, Char.{is_ascii_digit}, Fmt.{decimal}, List.{list_all}};
 ghost use Rattle.bpf_text_lex.specs.Numbers.{is_numeral, is_negative, is_number, value_of, number_in};
 
-/// Why a word is no number of a field.
-#[derive(Clone, Copy)]
-pub enum NumberError {
-    /// The word is no number: a number is `0` or digits without a zero in front, with a minus sign
-    /// before it only where it isn't 0.
-    Form,
-    /// The number is negative or above the field's limit.
-    Field,
-}
+use crate::text_error::TextFault;
 
 /// Whether all bytes are decimal digits.
 pub fn has_only_digits(word: &[u8]) -> bool
@@ -25,10 +17,7 @@ pub fn has_only_digits(word: &[u8]) -> bool
 fn has_no_zero_in_front(word: &[u8]) -> bool
     ensures { result ≡ ((length word.now == 1) || nat_lt 48 (slice_index word.now 0)) }
 {
-    if word.is_empty() {
-        return false;
-    }
-    word.len() == 1 || word[0] > b'0'
+    word.len() == 1 || (!word.is_empty() && word[0] > b'0')
 }
 
 /// Whether the word is an unsigned number of any size: `0`, or digits without a zero in front.
@@ -42,10 +31,7 @@ pub fn is_numeral(word: &[u8]) -> bool
 pub fn is_negative(word: &[u8]) -> bool
     ensures { result ≡ is_negative word.now }
 {
-    if word.len() < 2 || word[0] != b'-' || word[1] <= b'0' {
-        return false;
-    }
-    is_numeral(&word[1..])
+    word.len() > 1 && word[0] == b'-' && word[1] > b'0' && is_numeral(&word[1..])
 }
 
 /// Whether the word is a number of any size.
@@ -72,20 +58,22 @@ fn value_up_to(digits: &[u8], limit: u64) -> Option<u64>
 }
 
 /// The number of a field, by the cases of its definition.
-fn number_in(word: &[u8], limit: u64) -> Result<u64, NumberError>
+fn number_in(word: &[u8], limit: u64) -> Result<u64, TextFault>
     ensures { result ≡ number_in limit word.now }
 {
     if is_numeral(word) {
-        return value_up_to(word, limit).ok_or(NumberError::Field);
+        return value_up_to(word, limit).ok_or(TextFault::Field);
     }
     if is_negative(word) {
-        return Err(NumberError::Field);
+        return Err(TextFault::Field);
     }
-    Err(NumberError::Form)
+    Err(TextFault::Form)
 }
 
-/// The number of a field whose numbers are 0 to the limit, or why the word is none.
-pub fn read_number(word: &[u8], limit: u64) -> Result<u64, NumberError>
+/// The number of a field whose numbers are 0 to the limit. It is `Form` where the word is no number:
+/// a number is `0` or digits without a zero in front, with a minus sign before it only where it isn't
+/// 0. It is `Field` where the number is negative or above the limit.
+pub fn read_number(word: &[u8], limit: u64) -> Result<u64, TextFault>
     ensures cases { result ≡ number_in limit word.now }
 
     // A number is read from its decimal digits, and from nothing else.

@@ -5,7 +5,7 @@ use Rattle.std.specs.{Prelude.{FitsSigned, nat_lt}, Char.{is_ascii_digit}, List.
 use Rattle.std.proofs.lemmas.Bool.{ne_eqb, lt-ltb, leb-true, and_parts, and_from, cond-true, cond-false}
 use Rattle.std.specs.Fmt.{decimal, signed_decimal}
 use Rattle.bpf_text_lex.{proofs.SpellingLaws.{in_field, decimal_digits}, specs.Lines.{trim_start, trim}}
-use Rattle.bpf_text_lex.specs.{Fields.{as_field}, declared.{mnemonic.Mnemonic.{Mnemonic}, value.Value.{Value}}}
+use Rattle.bpf_text_lex.specs.declared.{mnemonic.Mnemonic.{Mnemonic}, value.Value.{Value}}
 use Rattle.bpf_text_lex.specs.{declared.value.Operands.{Operands}, MnemonicWords.{mnemonic_word}}
 use Rattle.bpf_text_lex.specs.PrintedLines.{distance_spelling, value_spelling, operands_spelling}
 use Rattle.bpf_text_lex.proofs.Bounds.{InBound, near_bound, far_bound}
@@ -13,8 +13,8 @@ use Rattle.bpf_text_lex.specs.declared.value.Value.TheVariants as value
 use Rattle.bpf_text_lex.specs.declared.value.Operands.TheVariants as operands
 use Rattle.bpf_insn_types.specs.declared.insn.Insn.{Insn}
 use Rattle.bpf_text_operands.specs.{declared.kind.Kind.{Kind}, SignedNumbers.{is_register}, Statements.{insn_of_line}}
-use Rattle.bpf_text_operands.specs.Operands.{kinds_of, pair, as_reg, as_imm, as_wide, as_distance, as_far_distance}
-use Rattle.bpf_text_operands.specs.Operands.{value_at, cut_comma, one_operand, two_operands, three_operands, both_at}
+use Rattle.bpf_text_operands.specs.{Operands.{kinds_of, pair}, SignedNumbers.{made}}
+use Rattle.bpf_text_operands.specs.Operands.{value_at, cut_comma, two_operands, three_operands, both_at}
 use Rattle.bpf_text_operands.{specs.Operands.{three_at, operands_at}, proofs.MnemonicLaws.{HasWord, mnemonic_back}}
 use Rattle.bpf_text_operands.specs.Statements.{statement_at, insn_of_mnemonic, some_insn, built, with_operands}
 use Rattle.bpf_text_operands.proofs.PlainLaws.{Plain, plain-append, plain-digits, plain-no_comma, trim_start-text}
@@ -32,7 +32,8 @@ module _ (find : List ℕ → Option ℕ) (slot : ℕ) where
 
   one_back : (k : Kind) (x : List ℕ) (u : Value) → Reads k x u → operands_at find slot (kinds.One k) x
       ≡ Ok (operands.One u)
-  one_back k x u r = ap (λ w. one_operand (value_at find slot k w)) (trim-plain x r.plain) ∙ ap one_operand r.read
+  one_back k x u r =
+      ap (λ w. made operands.One (value_at find slot k w)) (trim-plain x r.plain) ∙ ap (made operands.One) r.read
 
   both_back : (a b : Kind) (x y front : List ℕ) (u w : Value) → Reads a x u → Reads b y w → trim front ≡ x
       → both_at find slot a b (Some (front, 32 ∷ y)) ≡ Ok (u, w)
@@ -146,14 +147,14 @@ module _ (find : List ℕ → Option ℕ) (slot : ℕ) where
   reg_reads r le = record {
     plain = plain_register r le;
     filled = omega arith;
-    read = ap as_reg (register_decimal r le);
+    read = ap (made value.Reg) (register_decimal r le);
   }
 
   pub imm_reads : (z : ℤ) → FitsSigned w32 z → Reads kind.Imm (value_spelling (value.Imm z)) (value.Imm z)
   imm_reads z fits = record {
     plain = plain_signed (2 ^ 31) z (omega arith) (far_bound z fits);
     filled = filled_signed z fits;
-    read = ap as_imm (signed_back z fits);
+    read = ap (made value.Imm) (signed_back z fits);
   }
 
   pub near_reads : (z : ℤ) → FitsSigned w16 z → Reads kind.Distance (value_spelling (value.Distance z))
@@ -162,7 +163,7 @@ module _ (find : List ℕ → Option ℕ) (slot : ℕ) where
     plain = plain_distance (2 ^ 15) z (omega arith) (near_bound z fits);
     filled = filled_distance z;
     read =
-        ap as_distance (distance_back find (2 ^ 15) slot z (omega arith) (near_bound z fits));
+        ap (made value.Distance) (distance_back find (2 ^ 15) slot z (omega arith) (near_bound z fits));
   }
 
   pub far_reads : (z : ℤ) → FitsSigned w32 z → Reads kind.FarDistance (value_spelling (value.FarDistance z))
@@ -171,7 +172,7 @@ module _ (find : List ℕ → Option ℕ) (slot : ℕ) where
     plain = plain_distance (2 ^ 31) z (omega arith) (far_bound z fits);
     filled = filled_distance z;
     read =
-        ap as_far_distance (distance_back find (2 ^ 31) slot z (omega arith) (far_bound z fits));
+        ap (made value.FarDistance) (distance_back find (2 ^ 31) slot z (omega arith) (far_bound z fits));
   }
 
   pub address_reads : (r : ℕ) (z : ℤ) → r ≤ 10 → FitsSigned w16 z
@@ -212,7 +213,7 @@ module _ (find : List ℕ → Option ℕ) (slot : ℕ) where
     plain = plain_signed (2 ^ 31) z (omega arith) (far_bound z fits);
     filled = filled_signed z fits;
     read = cond-false (is_register (signed_decimal z)) _ _ (number_no_register z (far_bound z fits))
-        ∙ ap as_imm (signed_back z fits);
+        ∙ ap (made value.Imm) (signed_back z fits);
   }
 
   register_word : (word : List ℕ) → 0 < length word → list_all is_ascii_digit word ≡ true → is_register (114 ∷ word)
@@ -227,12 +228,12 @@ module _ (find : List ℕ → Option ℕ) (slot : ℕ) where
         plain = plain_register r le;
         filled = omega arith;
         read = cond-true (is_register (114 ∷ decimal r)) _ _ (register_word (decimal r) d.filled d.digits)
-            ∙ ap as_reg (register_decimal r le);
+            ∙ ap (made value.Reg) (register_decimal r le);
       }
 
   pub wide_reads : (n : ℕ) → n < 2 ^ 64 → Reads kind.Wide (value_spelling (value.Wide n)) (value.Wide n)
   wide_reads n fits = record {
     plain = plain_decimal n fits;
     filled = (decimal_digits n fits).filled;
-    read = ap (λ r. as_wide (as_field r)) (in_field (2 ^ 64 - 1) n (omega arith) (omega arith));
+    read = ap (made value.Wide) (in_field (2 ^ 64 - 1) n (omega arith) (omega arith));
   }

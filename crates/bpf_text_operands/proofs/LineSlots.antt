@@ -1,11 +1,11 @@
 -- A line takes the slots of the instruction that it is.
-use Rattle.std.proofs.Common.{◌≡◌, ℕ, ℤ, ◌-◌, ◌^◌, Bool, true, false, cond, ◌&&◌, ◌||◌, ◌==◌, List, length, drop}
+use Rattle.std.proofs.Common.{◌≡◌, ℕ, ℤ, pos, ◌-◌, ◌^◌, Bool, true, false, cond, ◌&&◌, ◌||◌, ◌==◌, List, length, drop}
 use Rattle.std.{proofs.Common.{Option, Some, None, Result, Ok, Err, refl, sym, ap, ◌∙◌}, specs.Prelude.{is_ok}}
 use Rattle.std.proofs.lemmas.Bool.{and_from, or_left, or_right, cond-true}
 use Rattle.bpf_insn_types.specs.{declared.insn.{ImmKind.{ImmKind}, Insn.{Insn}}, Slots.{slots_of}}
 use Rattle.bpf_insn_types.specs.declared.insn.ImmKind.TheVariants as load
-use Rattle.bpf_text_lex.specs.declared.{numbers.NumberError.{NumberError}, text_error.TextFault.{TextFault}}
-use Rattle.bpf_text_lex.{specs.{Fields.{as_field}, Lines.{trim}, Names.{is_name}}, proofs.SpellingLaws.{numeral_if}}
+use Rattle.bpf_text_lex.specs.declared.text_error.TextFault.{TextFault}
+use Rattle.bpf_text_lex.{specs.{Lines.{trim}, Names.{is_name}}, proofs.SpellingLaws.{numeral_if}}
 use Rattle.bpf_text_lex.specs.{Numbers.{is_numeral, is_negative, is_number, number_in}, declared.value.Value.{Value}}
 use Rattle.bpf_text_lex.specs.declared.{mnemonic.Mnemonic.{Mnemonic}, value.Operands.{Operands}}
 use Rattle.bpf_text_lex.specs.declared.value.Operands.TheVariants.{Zero, One, Two, Three}
@@ -14,10 +14,10 @@ use Rattle.bpf_text_lex.specs.declared.mnemonic.Mnemonic.TheVariants as mnemonic
 use Rattle.bpf_text_lex.specs.declared.value.Value.TheVariants as value
 use Rattle.bpf_text_operands.specs.declared.kind.{Kind.{Kind}, Kinds.{Kinds}}
 use Rattle.bpf_text_operands.specs.SignedNumbers.{is_register, register_at, ahead, back, signed_at, is_ahead, is_offset}
-use Rattle.bpf_text_operands.specs.SignedNumbers.{offset_at, to_label, distance_at}
-use Rattle.bpf_text_operands.specs.Operands.{kinds_of, pair, as_reg, as_imm, as_wide, as_distance, as_far_distance}
+use Rattle.bpf_text_operands.specs.SignedNumbers.{made, offset_at, to_label, distance_at}
+use Rattle.bpf_text_operands.specs.Operands.{kinds_of, pair}
 use Rattle.bpf_text_operands.specs.Operands.{as_address, is_bracketed, inside, base_part, offset_part, value_at}
-use Rattle.bpf_text_operands.specs.Operands.{cut_comma, one_operand, two_operands, three_operands, both_at, three_at}
+use Rattle.bpf_text_operands.specs.Operands.{cut_comma, both_at, three_at}
 use Rattle.bpf_text_operands.specs.Operands.{operands_at, fits, both_fit, three_fit, all_fit}
 use Rattle.bpf_text_operands.specs.Statements.{statement_at, two_slots_of, insn_of_mnemonic, some_insn, built}
 use Rattle.bpf_text_operands.specs.Statements.{with_operands, insn_of_line, mnemonic_slots, slots_where, slots_at}
@@ -34,33 +34,10 @@ both_read (Ok u) (Err fault) x e = absurd cc
 both_read (Err fault) (Ok v) x e = absurd cc
 both_read (Err fault) (Err other) x e = absurd cc
 
-reg_read : (r : Result ℕ TextFault) (v : Value) → as_reg r ≡ Ok v → is_ok r ≡ true
-reg_read (Ok n) v e = refl
-reg_read (Err fault) v e = absurd cc
-
-imm_read : (r : Result ℤ TextFault) (v : Value) → as_imm r ≡ Ok v → (z : ℤ) × (r ≡ Ok z)
-imm_read (Ok z) v e = (z, refl)
-imm_read (Err fault) v e = absurd cc
-
-wide_read : (r : Result ℕ NumberError) (v : Value) → as_wide (as_field r) ≡ Ok v → (n : ℕ) × (r ≡ Ok n)
-wide_read (Ok n) v e = (n, refl)
-wide_read (Err error) v e = absurd cc
-
-near_read : (r : Result ℤ TextFault) (v : Value) → as_distance r ≡ Ok v → (z : ℤ) × (r ≡ Ok z)
-near_read (Ok z) v e = (z, refl)
-near_read (Err fault) v e = absurd cc
-
-far_read : (r : Result ℤ TextFault) (v : Value) → as_far_distance r ≡ Ok v → (z : ℤ) × (r ≡ Ok z)
-far_read (Ok z) v e = (z, refl)
-far_read (Err fault) v e = absurd cc
-
-ahead_read : (r : Result ℕ NumberError) (z : ℤ) → ahead r ≡ Ok z → (n : ℕ) × (r ≡ Ok n)
-ahead_read (Ok n) z e = (n, refl)
-ahead_read (Err error) z e = absurd cc
-
-address_read : (r : Result (ℕ × ℤ) TextFault) (v : Value) → as_address r ≡ Ok v → (x : ℕ × ℤ) × (r ≡ Ok x)
-address_read (Ok x) v e = (x, refl)
-address_read (Err fault) v e = absurd cc
+-- what was made is made of a value
+made_read : {A B : Type 0} (f : A → B) (r : Result A TextFault) (y : B) → made f r ≡ Ok y → (x : A) × (r ≡ Ok x)
+made_read f (Ok x) y e = (x, refl)
+made_read f (Err fault) y e = absurd cc
 
 ok_is_ok : {A : Type 0} (r : Result A TextFault) (x : A) → r ≡ Ok x → is_ok r ≡ true
 ok_is_ok r x e = ap is_ok e
@@ -72,7 +49,7 @@ signed_read bound word z e = by_sign (is_negative word) refl e
         (ahead (number_in (bound - 1) word)) ≡ Ok z → (is_numeral word || is_negative word) ≡ true
     by_sign true same h = or_right (is_numeral word) (is_negative word) same
     by_sign false same h =
-        let n = ahead_read (number_in (bound - 1) word) z h in
+        let n = made_read pos (number_in (bound - 1) word) z h in
         or_left (is_numeral word) (is_negative word) (numeral_if (bound - 1) word n.0 n.1)
 
 offset_read : (bound : ℕ) (word : List ℕ) (z : ℤ) → offset_at bound word ≡ Ok z → is_offset word ≡ true
@@ -97,21 +74,25 @@ module _ (find : List ℕ → Option ℕ) (slot : ℕ) where
 
   -- a word that is read as an operand of a kind has its form
   value_fits : (k : Kind) (word : List ℕ) (v : Value) → value_at find slot k word ≡ Ok v → fits k word ≡ true
-  value_fits kind.Reg word v e = reg_read (register_at word) v e
+  value_fits kind.Reg word v e = (let r = made_read value.Reg (register_at word) v e in
+      ok_is_ok (register_at word) r.0 r.1)
   value_fits kind.RegOrImm word v e = by_register (is_register word) e
     where
-      by_register : (b : Bool) → cond b (as_reg (register_at word)) (as_imm (signed_at (2 ^ 31) word)) ≡ Ok v
-          → cond b (is_ok (register_at word)) (is_number word) ≡ true
-      by_register true h = reg_read (register_at word) v h
-      by_register false h = (let z = imm_read (signed_at (2 ^ 31) word) v h in signed_read (2 ^ 31) word z.0 z.1)
-  value_fits kind.Imm word v e = (let z = imm_read (signed_at (2 ^ 31) word) v e in signed_read (2 ^ 31) word z.0 z.1)
+      by_register : (b : Bool) → cond b (made value.Reg (register_at word)) (made value.Imm (signed_at (2 ^ 31) word))
+          ≡ Ok v → cond b (is_ok (register_at word)) (is_number word) ≡ true
+      by_register true h = (let r = made_read value.Reg (register_at word) v h in ok_is_ok (register_at word) r.0 r.1)
+      by_register false h = (let z = made_read value.Imm (signed_at (2 ^ 31) word) v h in
+          signed_read (2 ^ 31) word z.0 z.1)
+  value_fits kind.Imm word v e = (let z = made_read value.Imm (signed_at (2 ^ 31) word) v e in
+      signed_read (2 ^ 31) word z.0 z.1)
   value_fits kind.Wide word v e =
-      let n = wide_read (number_in (2 ^ 64 - 1) word) v e in
+      let n = made_read value.Wide (number_in (2 ^ 64 - 1) word) v e in
       or_left (is_numeral word) (is_negative word) (numeral_if (2 ^ 64 - 1) word n.0 n.1)
-  value_fits kind.Distance word v e = (let z = near_read (distance_at find (2 ^ 15) slot word) v e in
+  value_fits kind.Distance word v e = (let z = made_read value.Distance (distance_at find (2 ^ 15) slot word) v e in
       distance_read (2 ^ 15) word z.0 z.1)
-  value_fits kind.FarDistance word v e = (let z = far_read (distance_at find (2 ^ 31) slot word) v e in
-      distance_read (2 ^ 31) word z.0 z.1)
+  value_fits kind.FarDistance word v e =
+      let z = made_read value.FarDistance (distance_at find (2 ^ 31) slot word) v e in
+      distance_read (2 ^ 31) word z.0 z.1
   value_fits kind.Address word v e = by_brackets (is_bracketed word) e
     where
       by_brackets : (b : Bool) → cond b
@@ -119,7 +100,7 @@ module _ (find : List ℕ → Option ℕ) (slot : ℕ) where
           (Err faults.Form) ≡ Ok v →
           (b && (is_ok (register_at (base_part (inside word))) && is_offset (offset_part (inside word)))) ≡ true
       by_brackets true h =
-          let x = address_read (pair (register_at (base_part (inside word)))
+          let x = made_read (λ x. value.Address x.0 x.1) (pair (register_at (base_part (inside word)))
           (offset_at (2 ^ 15) (offset_part (inside word)))) v h in
           let parts = both_read (register_at (base_part (inside word))) (offset_at (2 ^ 15) (offset_part (inside word)))
           x.0 x.1 in
@@ -144,20 +125,6 @@ module _ (find : List ℕ → Option ℕ) (slot : ℕ) where
       and_from (fits a (trim parts.0)) (both_fit b c (cut_comma parts.1)) (value_fits a (trim parts.0) read.0.0
       read.0.1) (both_fits b c (cut_comma parts.1) read.1.0 read.1.1)
 
-  one_read : (r : Result Value TextFault) (o : Operands) → one_operand r ≡ Ok o → (v : Value) × (r ≡ Ok v)
-  one_read (Ok v) o e = (v, refl)
-  one_read (Err fault) o e = absurd cc
-
-  two_read : (r : Result (Value × Value) TextFault) (o : Operands) → two_operands r ≡ Ok o → (x : Value × Value)
-      × (r ≡ Ok x)
-  two_read (Ok x) o e = (x, refl)
-  two_read (Err fault) o e = absurd cc
-
-  three_read : (r : Result (Value × (Value × Value)) TextFault) (o : Operands) → three_operands r ≡ Ok o
-      → (x : Value × (Value × Value)) × (r ≡ Ok x)
-  three_read (Ok x) o e = (x, refl)
-  three_read (Err fault) o e = absurd cc
-
   nothing_read : (b : Bool) (o : Operands) → cond b (Ok Zero) (Err faults.Form) ≡ Ok o → b ≡ true
   nothing_read true o e = refl
   nothing_read false o e = absurd cc
@@ -166,12 +133,14 @@ module _ (find : List ℕ → Option ℕ) (slot : ℕ) where
   operands_fit : (ks : Kinds) (text : List ℕ) (o : Operands) → operands_at find slot ks text ≡ Ok o
       → all_fit ks text ≡ true
   operands_fit kinds.Zero text o e = nothing_read (length text == 0) o e
-  operands_fit (kinds.One a) text o e = (let v = one_read (value_at find slot a (trim text)) o e in
+  operands_fit (kinds.One a) text o e = (let v = made_read One (value_at find slot a (trim text)) o e in
       value_fits a (trim text) v.0 v.1)
-  operands_fit (kinds.Two a b) text o e = (let x = two_read (both_at find slot a b (cut_comma text)) o e in
-      both_fits a b (cut_comma text) x.0 x.1)
-  operands_fit (kinds.Three a b c) text o e = (let x = three_read (three_at find slot a b c (cut_comma text)) o e in
-      three_fits a b c (cut_comma text) x.0 x.1)
+  operands_fit (kinds.Two a b) text o e =
+      let x = made_read (λ x. Two x.0 x.1) (both_at find slot a b (cut_comma text)) o e in
+      both_fits a b (cut_comma text) x.0 x.1
+  operands_fit (kinds.Three a b c) text o e =
+      let x = made_read (λ x. Three x.0 x.1.0 x.1.1) (three_at find slot a b c (cut_comma text)) o e in
+      three_fits a b c (cut_comma text) x.0 x.1
 
   -- ---- the slots of a mnemonic's instruction
 

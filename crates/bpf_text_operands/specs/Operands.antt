@@ -3,14 +3,15 @@ use Rattle.std.specs.Prelude.{ℕ, ℤ, ◌+◌, ◌-◌, ◌^◌, ◌==◌, ◌
 use Rattle.std.specs.Prelude.{length, take, drop, slice_index, position, Option, Some, None, is_ok, Result, Ok, Err}
 use Rattle.std.specs.List.{position_or_len}
 use Rattle.bpf_insn_types.specs.declared.insn.ImmKind.TheVariants as load
-use Rattle.bpf_text_lex.specs.{Lines.{trim}, Names.{is_name}, Numbers.{is_number}, FaultNumbers.{text_fault_number}}
-use Rattle.bpf_text_lex.specs.{declared.{text_error.TextFault.{TextFault}, value.Value.{Value}}, Fields.{field_of}}
+use Rattle.bpf_text_lex.specs.{Lines.{trim}, Names.{is_name}, Numbers.{is_number, number_in}}
+use Rattle.bpf_text_lex.specs.FaultNumbers.{text_fault_number}
+use Rattle.bpf_text_lex.specs.declared.{text_error.TextFault.{TextFault}, value.Value.{Value}}
 use Rattle.bpf_text_lex.specs.declared.{mnemonic.Mnemonic.{Mnemonic}, value.Operands.{Operands}}
 use Rattle.bpf_text_lex.specs.declared.text_error.TextFault.TheVariants as faults
 use Rattle.bpf_text_lex.specs.declared.mnemonic.Mnemonic.TheVariants as mnemonic
 use Rattle.bpf_text_lex.specs.declared.value.Value.TheVariants as value
 use Rattle.bpf_text_lex.specs.declared.value.Operands.TheVariants as operands
-use Rattle.bpf_text_operands.specs.{declared.kind.{Kind.{Kind}, Kinds.{Kinds}}, SignedNumbers.{distance_at}}
+use Rattle.bpf_text_operands.specs.{declared.kind.{Kind.{Kind}, Kinds.{Kinds}}, SignedNumbers.{made, distance_at}}
 use Rattle.bpf_text_operands.specs.SignedNumbers.{is_register, register_at, signed_at, is_offset, offset_at}
 use Rattle.bpf_text_operands.specs.declared.kind.Kind.TheVariants as kind
 use Rattle.bpf_text_operands.specs.declared.kind.Kinds.TheVariants as kinds
@@ -50,30 +51,9 @@ pair (Ok a) (Err fault) = Err fault
 pair (Err fault) (Ok b) = Err fault
 pair (Err fault) (Err other) = Err (least fault other)
 
--- what is read, as an operand
-abbrev pub as_reg : Result ℕ TextFault → Result Value TextFault
-as_reg (Ok r) = Ok (value.Reg r)
-as_reg (Err fault) = Err fault
-
-abbrev pub as_imm : Result ℤ TextFault → Result Value TextFault
-as_imm (Ok n) = Ok (value.Imm n)
-as_imm (Err fault) = Err fault
-
-abbrev pub as_wide : Result ℕ TextFault → Result Value TextFault
-as_wide (Ok n) = Ok (value.Wide n)
-as_wide (Err fault) = Err fault
-
-abbrev pub as_distance : Result ℤ TextFault → Result Value TextFault
-as_distance (Ok d) = Ok (value.Distance d)
-as_distance (Err fault) = Err fault
-
-abbrev pub as_far_distance : Result ℤ TextFault → Result Value TextFault
-as_far_distance (Ok d) = Ok (value.FarDistance d)
-as_far_distance (Err fault) = Err fault
-
+-- the memory at a register and an offset that were read
 abbrev pub as_address : Result (ℕ × ℤ) TextFault → Result Value TextFault
-as_address (Ok a) = Ok (value.Address a.0 a.1)
-as_address (Err fault) = Err fault
+as_address r = made (λ x. value.Address x.0 x.1) r
 
 -- a sign, 43 or 45
 abbrev pub is_sign : ℕ → Bool
@@ -102,13 +82,13 @@ address_at word =
 
 -- the operand that a word of a kind is, at a slot, where labels are found by this function
 abbrev pub value_at : (List ℕ → Option ℕ) → ℕ → Kind → List ℕ → Result Value TextFault
-value_at find slot kind.Reg word = as_reg (register_at word)
-value_at find slot kind.RegOrImm word = if is_register word then as_reg (register_at word)
-    else as_imm (signed_at (2 ^ 31) word)
-value_at find slot kind.Imm word = as_imm (signed_at (2 ^ 31) word)
-value_at find slot kind.Wide word = as_wide (field_of (2 ^ 64 - 1) word)
-value_at find slot kind.Distance word = as_distance (distance_at find (2 ^ 15) slot word)
-value_at find slot kind.FarDistance word = as_far_distance (distance_at find (2 ^ 31) slot word)
+value_at find slot kind.Reg word = made value.Reg (register_at word)
+value_at find slot kind.RegOrImm word = if is_register word then made value.Reg (register_at word)
+    else made value.Imm (signed_at (2 ^ 31) word)
+value_at find slot kind.Imm word = made value.Imm (signed_at (2 ^ 31) word)
+value_at find slot kind.Wide word = made value.Wide (number_in (2 ^ 64 - 1) word)
+value_at find slot kind.Distance word = made value.Distance (distance_at find (2 ^ 15) slot word)
+value_at find slot kind.FarDistance word = made value.FarDistance (distance_at find (2 ^ 31) slot word)
 value_at find slot kind.Address word = address_at word
 
 -- a text cut at this place, where one byte goes
@@ -120,18 +100,12 @@ cut text (Some n) = Some (take n text, drop (n + 1) text)
 abbrev pub cut_comma : List ℕ → Option (List ℕ × List ℕ)
 cut_comma text = cut text (position (λ b. b == 44) text)
 
--- operands of which one, two or three were read
-abbrev pub one_operand : Result Value TextFault → Result Operands TextFault
-one_operand (Ok a) = Ok (operands.One a)
-one_operand (Err fault) = Err fault
-
+-- operands of which two or three were read
 abbrev pub two_operands : Result (Value × Value) TextFault → Result Operands TextFault
-two_operands (Ok x) = Ok (operands.Two x.0 x.1)
-two_operands (Err fault) = Err fault
+two_operands r = made (λ x. operands.Two x.0 x.1) r
 
 abbrev pub three_operands : Result (Value × (Value × Value)) TextFault → Result Operands TextFault
-three_operands (Ok x) = Ok (operands.Three x.0 x.1.0 x.1.1)
-three_operands (Err fault) = Err fault
+three_operands r = made (λ x. operands.Three x.0 x.1.0 x.1.1) r
 
 -- two operands on both sides of a comma
 abbrev pub both_at : (List ℕ → Option ℕ) → ℕ → Kind → Kind → Option (List ℕ × List ℕ) → Result (Value × Value) TextFault
@@ -148,7 +122,7 @@ three_at find slot a b c (Some parts) =
 -- the operands of these kinds that a text is, parted by commas with blanks round them
 abbrev pub operands_at : (List ℕ → Option ℕ) → ℕ → Kinds → List ℕ → Result Operands TextFault
 operands_at find slot kinds.Zero text = if length text == 0 then Ok operands.Zero else Err faults.Form
-operands_at find slot (kinds.One a) text = one_operand (value_at find slot a (trim text))
+operands_at find slot (kinds.One a) text = made operands.One (value_at find slot a (trim text))
 operands_at find slot (kinds.Two a b) text = two_operands (both_at find slot a b (cut_comma text))
 operands_at find slot (kinds.Three a b c) text = three_operands (three_at find slot a b c (cut_comma text))
 

@@ -2,31 +2,34 @@
 use Rattle.std.specs.Prelude.{ℕ, ℤ, pos, neg_ℤ, ◌+◌, ◌-◌, ◌==◌, ◌&&◌, ◌||◌, nat_lt, nat_le, Bool, if◌then◌else◌, List}
 use Rattle.std.specs.{Prelude.{length, drop, slice_index, Option, Some, None, Result, Ok, Err}, Char.{is_ascii_digit}}
 use Rattle.std.specs.List.{list_all}
-use Rattle.bpf_text_lex.specs.{declared.numbers.NumberError.{NumberError}, Names.{is_name}, Fields.{number_fault}}
+use Rattle.bpf_text_lex.specs.Names.{is_name}
 use Rattle.bpf_text_lex.specs.{Numbers.{is_numeral, is_negative, number_in}, declared.text_error.TextFault.{TextFault}}
 use Rattle.bpf_text_lex.specs.declared.text_error.TextFault.TheVariants as faults
+
+-- what is made of a value, where there is no fault
+abbrev pub made : {A B : Type 0} → (A → B) → Result A TextFault → Result B TextFault
+made f (Ok x) = Ok (f x)
+made f (Err fault) = Err fault
 
 -- an `r` and digits
 abbrev pub is_register : List ℕ → Bool
 is_register word = (slice_index word 0 == 114) && (nat_lt 1 (length word) && list_all is_ascii_digit (drop 1 word))
 
 -- a number as a register's
-abbrev pub as_register : Result ℕ NumberError → Result ℕ TextFault
+abbrev pub as_register : Result ℕ TextFault → Result ℕ TextFault
 as_register (Ok n) = Ok n
-as_register (Err error) = Err faults.Register
+as_register (Err fault) = Err faults.Register
 
 -- the register that a word names
 abbrev pub register_at : List ℕ → Result ℕ TextFault
 register_at word = if is_register word then as_register (number_in 10 (drop 1 word)) else Err faults.Form
 
 -- a number with a plus sign or without a sign, and one with a minus sign
-abbrev pub ahead : Result ℕ NumberError → Result ℤ TextFault
-ahead (Ok n) = Ok (pos n)
-ahead (Err error) = Err (number_fault error)
+abbrev pub ahead : Result ℕ TextFault → Result ℤ TextFault
+ahead r = made pos r
 
-abbrev pub back : Result ℕ NumberError → Result ℤ TextFault
-back (Ok n) = Ok (neg_ℤ (pos n))
-back (Err error) = Err (number_fault error)
+abbrev pub back : Result ℕ TextFault → Result ℤ TextFault
+back r = made (λ n. neg_ℤ (pos n)) r
 
 -- the number of a word, in a field of -bound to bound - 1
 abbrev pub signed_at : ℕ → List ℕ → Result ℤ TextFault

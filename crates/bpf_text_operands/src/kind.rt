@@ -34,18 +34,6 @@ pub enum Kinds {
     Three(Kind, Kind, Kind),
 }
 
-/// The kinds of operands that a two-slot load takes.
-fn kinds_of_load(kind: ImmKind) -> Kinds
-    ensures { result ≡ kinds_of (Mnemonic.LoadImm kind) }
-{
-    match kind {
-        ImmKind::Number => Kinds::Two(Kind::Reg, Kind::Wide),
-        ImmKind::MapFd | ImmKind::Variable | ImmKind::Map => Kinds::Two(Kind::Reg, Kind::Imm),
-        ImmKind::Code => Kinds::Two(Kind::Reg, Kind::FarDistance),
-        ImmKind::MapFdValue | ImmKind::MapValue => Kinds::Three(Kind::Reg, Kind::Imm, Kind::Imm),
-    }
-}
-
 /// The kinds of operands that a mnemonic takes.
 pub(crate) fn kinds_of(mnemonic: Mnemonic) -> Kinds
     ensures { result ≡ kinds_of mnemonic }
@@ -62,6 +50,13 @@ pub(crate) fn kinds_of(mnemonic: Mnemonic) -> Kinds
         Mnemonic::Load(_) | Mnemonic::LoadSx(_) => Kinds::Two(Kind::Reg, Kind::Address),
         Mnemonic::StoreImm(_) => Kinds::Two(Kind::Address, Kind::Imm),
         Mnemonic::Store(_) | Mnemonic::Atomic(..) => Kinds::Two(Kind::Address, Kind::Reg),
-        Mnemonic::LoadImm(kind) => kinds_of_load(kind),
+        Mnemonic::LoadImm(ImmKind::Number) => Kinds::Two(Kind::Reg, Kind::Wide),
+        Mnemonic::LoadImm(ImmKind::Code) => Kinds::Two(Kind::Reg, Kind::FarDistance),
+        Mnemonic::LoadImm(ImmKind::MapFd | ImmKind::Variable | ImmKind::Map) => {
+            Kinds::Two(Kind::Reg, Kind::Imm)
+        }
+        Mnemonic::LoadImm(ImmKind::MapFdValue | ImmKind::MapValue) => {
+            Kinds::Three(Kind::Reg, Kind::Imm, Kind::Imm)
+        }
     }
 }

@@ -1,21 +1,18 @@
 //! Registers, numbers with a sign, and distances.
 
 ghost use Rattle.std.specs.{Prelude.{◌≡◌, ◌≤◌, ◌<◌, ◌-◌, ◌^◌, pos, neg_ℤ, IfOk, FitsSigned}, Int.{w16}};
-ghost use Rattle.bpf_text_lex.specs.{Numbers.{number_in}, Fields.{number_fault, field_of}};
+ghost use Rattle.bpf_text_lex.specs.Numbers.{number_in};
 ghost use Rattle.bpf_text_operands.specs.SignedNumbers.{is_register, register_at, ahead, back, signed_at, is_ahead};
 ghost use Rattle.bpf_text_operands.specs.SignedNumbers.{is_offset, offset_at, distance_to};
 
 use bpf_insn_types::Reg;
-use bpf_text_lex::{NumberError, TextFault, has_only_digits, is_negative, is_numeral, read_number};
+use bpf_text_lex::{TextFault, has_only_digits, is_negative, is_numeral, read_number};
 
 /// Whether a word is an `r` and digits.
 pub(crate) fn is_register(word: &[u8]) -> bool
     ensures { result ≡ is_register word.now }
 {
-    if word.len() < 2 || word[0] != b'r' {
-        return false;
-    }
-    has_only_digits(&word[1..])
+    word.len() > 1 && word[0] == b'r' && has_only_digits(&word[1..])
 }
 
 /// The register that a word names.
@@ -31,33 +28,13 @@ pub(crate) fn register_at(word: &[u8]) -> Result<Reg, TextFault>
     }
 }
 
-/// The fault of a word that is no number of its field.
-fn fault_of(error: NumberError) -> TextFault
-    ensures { result ≡ number_fault error }
-{
-    match error {
-        NumberError::Form => TextFault::Form,
-        NumberError::Field => TextFault::Field,
-    }
-}
-
-/// The number of a word, in a field of 64 bits without a sign.
-pub(crate) fn unsigned_at(word: &[u8]) -> Result<u64, TextFault>
-    ensures { result ≡ field_of (2 ^ 64 - 1) word.now }
-{
-    read_number(word, u64::MAX).map_err(fault_of)
-}
-
 /// A number without a minus sign, up to a limit.
 fn ahead(digits: &[u8], limit: u64) -> Result<i32, TextFault>
     requires { limit < 2 ^ 31 }
     ensures value { result ≡ ahead (number_in limit digits.now) }
     ensures small { IfOk result (λ n. limit < 2 ^ 15 → FitsSigned w16 n) }
 {
-    match read_number(digits, limit) {
-        Ok(number) => Ok(number as i32),
-        Err(error) => Err(fault_of(error)),
-    }
+    Ok(read_number(digits, limit)? as i32)
 }
 
 /// The negative of a number.
@@ -74,10 +51,7 @@ fn back(digits: &[u8], limit: u64) -> Result<i32, TextFault>
     ensures value { result ≡ back (number_in limit digits.now) }
     ensures small { IfOk result (λ n. limit ≤ 2 ^ 15 → FitsSigned w16 n) }
 {
-    match read_number(digits, limit) {
-        Ok(number) => Ok(minus(number)),
-        Err(error) => Err(fault_of(error)),
-    }
+    Ok(minus(read_number(digits, limit)?))
 }
 
 /// The number of a word, in a field of 32 bits.
@@ -94,10 +68,7 @@ pub(crate) fn signed_at(word: &[u8]) -> Result<i32, TextFault>
 fn is_ahead(word: &[u8]) -> bool
     ensures { result ≡ is_ahead word.now }
 {
-    if word.is_empty() || word[0] != b'+' {
-        return false;
-    }
-    is_numeral(&word[1..])
+    !word.is_empty() && word[0] == b'+' && is_numeral(&word[1..])
 }
 
 /// Whether a word is a number of any size that has a sign.

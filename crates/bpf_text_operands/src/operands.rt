@@ -4,18 +4,15 @@ ghost use Rattle.std.specs.Prelude.{◌≡◌, ◌<◌, ◌≤◌, ◌-◌, ◌^
 ghost use Rattle.std.specs.{Prelude.{position, ◌==◌}, Int.{w16}};
 ghost use Rattle.bpf_text_operands.specs.{LabelTable.{label_slots}, Operands.{both_fit, three_fit, all_fit}};
 ghost use Rattle.bpf_text_operands.specs.SignedNumbers.{register_at, signed_at, offset_at, distance_at};
-ghost use Rattle.bpf_text_operands.specs.Operands.{pair, as_reg, as_imm, as_wide, as_distance, as_far_distance};
+ghost use Rattle.bpf_text_operands.specs.Operands.{pair};
 ghost use Rattle.bpf_text_operands.specs.Operands.{is_sign, is_bracketed, inside, base_part, offset_part, address_at};
 ghost use Rattle.bpf_text_operands.specs.Operands.{value_at, cut_comma, both_at, three_at, operands_at, fits};
-ghost use Rattle.bpf_text_lex.specs.Fields.{field_of};
 
 use crate::kind::{Kind, Kinds};
 use crate::labels::Labels;
-use crate::numbers::{
-    distance_to, is_offset, is_register, offset_at, register_at, signed_at, unsigned_at,
-};
+use crate::numbers::{distance_to, is_offset, is_register, offset_at, register_at, signed_at};
 use crate::pairs::pair;
-use bpf_text_lex::{Operands, TextFault, Value, is_name, is_number, trim};
+use bpf_text_lex::{Operands, TextFault, Value, is_name, is_number, read_number, trim};
 
 /// The bound of distances and offsets of 16 bits, which lie from its negative to below it.
 const NEAR: u64 = 1 << 15;
@@ -41,10 +38,7 @@ fn sign_at(text: &[u8]) -> Option<usize>
 fn is_bracketed(word: &[u8]) -> bool
     ensures { result ≡ is_bracketed word.now }
 {
-    if word.len() < 2 {
-        return false;
-    }
-    word[0] == b'[' && word[word.len() - 1] == b']'
+    word.len() > 1 && word[0] == b'[' && word[word.len() - 1] == b']'
 }
 
 /// What is between the brackets: the base, and the offset from its sign on.
@@ -104,7 +98,7 @@ fn value_at(kind: Kind, word: &[u8], labels: &Labels<'_>, slot: u32) -> Result<V
         Kind::Reg => Ok(Value::Reg(register_at(word)?)),
         Kind::RegOrImm if is_register(word) => Ok(Value::Reg(register_at(word)?)),
         Kind::RegOrImm | Kind::Imm => Ok(Value::Imm(signed_at(word)?)),
-        Kind::Wide => Ok(Value::Wide(unsigned_at(word)?)),
+        Kind::Wide => Ok(Value::Wide(read_number(word, u64::MAX)?)),
         Kind::Distance => Ok(Value::Distance(near(distance_at(word, NEAR, labels, slot))?)),
         Kind::FarDistance => Ok(Value::FarDistance(distance_at(word, FAR, labels, slot)?)),
         Kind::Address => address_at(word),
