@@ -4,7 +4,7 @@ ghost use Rattle.std.specs.Prelude.{◌≡◌, ◌≤◌, ◌<◌, ◌*◌, List
 ghost use Rattle.std.specs.Prelude.{MatchResult};
 ghost use Rattle.bpf_insn_types.specs.{Slots.{slots_of}, Outcome.{MatchesUnlessMemory}, Values.{AreInsns}};
 ghost use Rattle.bpf_insn_types.specs.declared.insn.Insn.{Insn};
-ghost use Rattle.bpf_insn.specs.Reading.{signed_op_at, alu_op_at, alu_insn, mov_at, alu_reg_insn, endian_at, call_at};
+ghost use Rattle.bpf_insn.specs.Reading.{signed_op_at, alu_op_at, alu_insn, mov_at, endian_at, call_at};
 ghost use Rattle.bpf_insn.specs.Reading.{atomic_at, atomic_insn, imm_kind_at, is_second, load_imm_at, insn_of_form};
 ghost use Rattle.bpf_insn.specs.Reading.{insn_of_slot, front_slot, first_insn, FailsFirst, reading};
 ghost use Rattle.bpf_insn.specs.{CodecRefusal.{codec_refusal}, Spelling.{program_spelling}};
@@ -96,65 +96,30 @@ fn mov(width: Width, dst: Reg, src: Reg, offset: i16) -> Result<Insn, CodecFault
     })
 }
 
-/// Arithmetic with a register as its second operand.
-fn alu_register(
-    width: Width,
-    code: AluCode,
-    dst: Reg,
-    src: Reg,
-    offset: i16,
-) -> Result<Insn, CodecFault>
-    ensures { result ≡ alu_reg_insn width code dst src offset }
-{
-    match code {
-        AluCode::Mov => mov(width, dst, src, offset),
-        _ => alu(width, code, dst, Operand::Reg(src), offset),
-    }
-}
-
 /// A byte order, whose immediate says how many bits.
 fn endian(order: ByteOrder, dst: Reg, imm: i32) -> Result<Insn, CodecFault>
     ensures { result ≡ endian_at order dst imm }
 {
-    match imm {
-        16 => Ok(Insn::Endian {
-            order,
-            bits: EndianBits::B16,
-            dst,
-        }),
-        32 => Ok(Insn::Endian {
-            order,
-            bits: EndianBits::B32,
-            dst,
-        }),
-        64 => Ok(Insn::Endian {
-            order,
-            bits: EndianBits::B64,
-            dst,
-        }),
-        _ => Err(CodecFault::Immediate),
-    }
+    let bits = match imm {
+        16 => EndianBits::B16,
+        32 => EndianBits::B32,
+        64 => EndianBits::B64,
+        _ => return Err(CodecFault::Immediate),
+    };
+    Ok(Insn::Endian { order, bits, dst })
 }
 
 /// A call, whose source says what it names.
 fn call(src: u8, imm: i32) -> Result<Insn, CodecFault>
     ensures { result ≡ call_at src imm }
 {
-    match src {
-        0 => Ok(Insn::Call {
-            callee: Callee::Helper,
-            imm,
-        }),
-        1 => Ok(Insn::Call {
-            callee: Callee::Local,
-            imm,
-        }),
-        2 => Ok(Insn::Call {
-            callee: Callee::Btf,
-            imm,
-        }),
-        _ => Err(CodecFault::CallSource),
-    }
+    let callee = match src {
+        0 => Callee::Helper,
+        1 => Callee::Local,
+        2 => Callee::Btf,
+        _ => return Err(CodecFault::CallSource),
+    };
+    Ok(Insn::Call { callee, imm })
 }
 
 /// The atomic operation of an immediate.
@@ -263,7 +228,8 @@ fn insn_of_form(
     let Slot { offset, imm, .. } = slot;
     match form {
         Form::AluImm(width, code) => alu(width, code, dst, Operand::Imm(imm), offset),
-        Form::AluReg(width, code) => alu_register(width, code, dst, src, offset),
+        Form::AluReg(width, AluCode::Mov) => mov(width, dst, src, offset),
+        Form::AluReg(width, code) => alu(width, code, dst, Operand::Reg(src), offset),
         Form::Neg(width) => Ok(Insn::Neg { width, dst }),
         Form::Endian(order) => endian(order, dst, imm),
         Form::Ja => Ok(Insn::Ja { offset }),

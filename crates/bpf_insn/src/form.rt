@@ -2,7 +2,7 @@
 
 ghost use Rattle.std.specs.Prelude.{◌≡◌, ◌/◌, ◌%◌, ◌≤◌};
 ghost use Rattle.bpf_insn.specs.Opcode.{alu_code, alu_class, jump_code, jump_class, size_bits, opcode, alu_code_at};
-ghost use Rattle.bpf_insn.specs.Opcode.{compare_at, size_at, alu_form, jump_form, load_form, store_imm_form};
+ghost use Rattle.bpf_insn.specs.Opcode.{compare_at, size_at, alu_form, jump_form, load_form};
 ghost use Rattle.bpf_insn.specs.Opcode.{store_form, form_at};
 
 use bpf_insn_types::{ByteOrder, Compare, Size, Width};
@@ -135,16 +135,6 @@ fn load(opcode: u8) -> Option<Form>
     }
 }
 
-/// The forms of stores of an immediate.
-fn store_imm(opcode: u8) -> Option<Form>
-    ensures { result ≡ store_imm_form (opcode / 32) (size_at (opcode / 8 % 4)) }
-{
-    match opcode / 32 {
-        3 => Some(Form::StoreImm(size_of_bits(opcode / 8 % 4))),
-        _ => None,
-    }
-}
-
 /// The forms of stores of a register and of atomics.
 fn store(opcode: u8) -> Option<Form>
     ensures { result ≡ store_form (opcode / 32) (size_at (opcode / 8 % 4)) }
@@ -166,7 +156,8 @@ pub(crate) fn form_of(opcode: u8) -> Option<Form>
         0 if opcode == 0x18 => Some(Form::LoadImm),
         0 => None,
         1 => load(opcode),
-        2 => store_imm(opcode),
+        2 if opcode / 32 == 3 => Some(Form::StoreImm(size_of_bits(opcode / 8 % 4))),
+        2 => None,
         3 => store(opcode),
         4 => arithmetic(Width::W32, opcode),
         5 => jump(Width::W64, opcode),

@@ -1,9 +1,9 @@
 //! A unit's assembler text, read.
 
-ghost use Rattle.std.specs.Prelude.{◌≡◌, ◌≤◌, length};
-ghost use Rattle.bpf_text_lex.specs.{Lines.{contents_of}, Refusals.{text_refusal}};
+ghost use Rattle.std.specs.Prelude.{◌≡◌};
+ghost use Rattle.bpf_text_lex.specs.Refusals.{text_refusal};
 ghost use Rattle.bpf_insn_types.specs.Outcome.{MatchesUnlessMemory};
-ghost use Rattle.bpf_text.specs.AssemblerText.{unit_of, assembler_text};
+ghost use Rattle.bpf_text.specs.AssemblerText.{assembler_text};
 
 use crate::label::read_labels;
 use crate::program::read_insns;

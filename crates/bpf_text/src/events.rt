@@ -1,10 +1,10 @@
 //! Events as a text.
 
-ghost use Rattle.std.specs.{Prelude.{◌≡◌, ◌≤◌, length, [], slice_index, IfOk}, List.{list_all}};
-ghost use Rattle.bpf_text_lex.specs.{Lines.{contents_of}, Words.{words_of}, Refusals.{at_line, text_refusal}};
+ghost use Rattle.std.specs.{Prelude.{◌≡◌, []}, List.{list_all}};
+ghost use Rattle.bpf_text_lex.specs.{Words.{words_of}, Refusals.{at_line, text_refusal}};
 ghost use Rattle.bpf_insn_types.specs.Outcome.{MatchesUnlessMemory};
 ghost use Rattle.bpf_text.specs.EventsText.{event_kind_at, is_event, event_at, events_in, events_of};
-ghost use Rattle.bpf_text.specs.EventsText.{events_behind, schedule_of, events_text};
+ghost use Rattle.bpf_text.specs.EventsText.{events_behind, events_text};
 
 use bpf_text_lex::{Lines, TextError, TextFault, Words, is_number, read_fields_after, read_number};
 use loop_core_model::{Event, EventKind};

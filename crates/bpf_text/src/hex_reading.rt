@@ -1,10 +1,10 @@
 //! The hex form of a unit, read.
 
-ghost use Rattle.std.specs.Prelude.{◌≡◌, ◌≤◌, ◌+◌, length, [], IfOk, vec_len};
+ghost use Rattle.std.specs.Prelude.{◌≡◌, ◌≤◌, ◌+◌, [], IfOk, vec_len};
 ghost use Rattle.hex.specs.Hex.{decode_of};
-ghost use Rattle.bpf_text_lex.specs.{Lines.{contents_of}, Words.{words_of}, Refusals.{at_line, text_refusal}};
+ghost use Rattle.bpf_text_lex.specs.{Words.{words_of}, Refusals.{at_line, text_refusal}};
 ghost use Rattle.bpf_insn_types.specs.Outcome.{MatchesUnlessMemory};
-ghost use Rattle.bpf_text.specs.HexText.{as_bytes, bytes_of_lines, bytes_behind, hex_parts_of, hex_text};
+ghost use Rattle.bpf_text.specs.HexText.{as_bytes, bytes_of_lines, bytes_behind, hex_text};
 
 use bpf_text_lex::{Lines, TextError, TextFault, next_word, read_head};
 use hex::FromHexError;

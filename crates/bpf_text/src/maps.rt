@@ -2,7 +2,7 @@
 
 ghost use Rattle.std.specs.Prelude.{◌≡◌, ◌≤◌, ◌<◌, ◌+◌, ◌-◌, ◌^◌, length, IsTrue, IfOk, vec_len, [], ◌∷◌, slice_index};
 ghost use Rattle.std.specs.Prelude.{◌==◌};
-ghost use Rattle.bpf_text_lex.specs.{Lines.{contents_of}, Numbers.{number_in}, Words.{words_of}};
+ghost use Rattle.bpf_text_lex.specs.{Numbers.{number_in}, Words.{words_of}};
 ghost use Rattle.bpf_text_lex.specs.Refusals.{at_line, text_refusal};
 ghost use Rattle.bpf_insn_types.specs.Outcome.{MatchesUnlessMemory};
 ghost use Rattle.bpf_text.specs.MapsText.{lists, label_number, is_map_label, is_map_head, is_turn, fits_as_map};

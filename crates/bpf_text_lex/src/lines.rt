@@ -2,7 +2,7 @@
 
 ghost use Rattle.std.specs.Prelude.{◌≡◌, ◌+◌, ◌<◌, ◌≤◌, ◌^◌, ◌==◌, [], ◌∷◌, length, position, not, ◌||◌, IfSome};
 ghost use Rattle.std.specs.Prelude.{IfNone, IfOk, IfErr};
-ghost use Rattle.bpf_text_lex.specs.Lines.{lines_of, before_comment, is_blank, trim_start, trim_end, trim, content_of};
+ghost use Rattle.bpf_text_lex.specs.Lines.{lines_of, before_comment, is_blank, trim_start, trim_end, trim};
 ghost use Rattle.bpf_text_lex.specs.Lines.{contents_of, contents_from};
 
 use crate::text_error::{TextError, TextFault};

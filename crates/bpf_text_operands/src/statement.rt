@@ -1,7 +1,7 @@
 //! A line that isn't a label.
 
 ghost use Rattle.std.specs.Prelude.{◌≡◌, Some, None, IfSome, IfNone, ◌≤◌};
-ghost use Rattle.bpf_text_operands.specs.{LabelTable.{label_slots}, Statements.{mnemonic_slots, slots_at, built}};
+ghost use Rattle.bpf_text_operands.specs.{LabelTable.{label_slots}, Statements.{mnemonic_slots, slots_at}};
 ghost use Rattle.bpf_text_operands.specs.Statements.{first_word, after_word, statement_at, insn_of_line};
 
 use crate::building::insn_of_mnemonic;
