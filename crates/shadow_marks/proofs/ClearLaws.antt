@@ -1,9 +1,9 @@
 -- Marks are taken away page by page.
-use Rattle.std.proofs.Common.{◌≡◌, ◌≢◌, ℕ, ◌+◌, ◌*◌, ◌/◌, ◌%◌, ◌<◌, ◌≤◌, min, max, Bool, true, false, not, ◌||◌, eqb}
+use Rattle.std.proofs.Common.{◌≡◌, ◌≢◌, ℕ, ◌↔◌, ◌+◌, ◌/◌, ◌%◌, ◌<◌, ◌≤◌, max, Bool, true, false, not, ◌||◌, eqb}
 use Rattle.std.proofs.Common.{List, [], ◌∷◌, length, set, get_or, inl, inr, refl, sym, ◌∙◌, ap, subst, arith}
 use Rattle.std.{proofs.Common.{length-set, get_or-set_same, get_or-set_other}, specs.{Int.{bit_at}, List.{list_any}}}
-use Rattle.std.specs.{Prelude.{slice_index, bit_or, if◌then◌else◌}, Vec.{with_items}, declared.vec.Vec.{Vec}}
-use Rattle.std.proofs.lemmas.{Bool.{cases_eq, cases_lt, Decides.{nat_tests}}, List.{with_items_is}}
+use Rattle.std.specs.{Prelude.{slice_index, bit_or}}
+use Rattle.std.proofs.lemmas.{Bool.{cases_eq, true≢false, Decides.{nat_tests}}}
 use Rattle.std.proofs.lemmas.Nat.{le_or_l, le_or_r, Bits.{bit_at-zero}}
 use Rattle.array_maps.specs.declared.access.Op.{Op, TheVariants.{Add, Or, And, Xor, AddH}}
 use Rattle.array_maps.specs.Accesses.{Action, Read, Write, ReadWrite, Reduce}
@@ -12,9 +12,8 @@ use Rattle.loop_core_model.specs.Marks.{Visit, Marks, no_marks, last_reader, mar
 use Rattle.shadow_marks.specs.declared.planes.Tested.{Tested, TheVariants.{Lrpd as ByLrpd, Flow as ByFlow}}
 use Rattle.shadow_marks.specs.{declared.planes.Planes.{Planes}, Standing.{StandAt, StandFor, IsUnmarkedPage, no_visits}}
 use Rattle.shadow_marks.specs.Standing.{words_for, IsBitPlane, plane_by, AreTested, ArePlanes, test_of, TestedStandAt}
-use Rattle.shadow_marks.specs.{Ending.{KeepsShape}, Runs.{SetsRun}}
-use Rattle.shadow_marks.specs.Clearing.{ClearsBits, SetsNumbers, OperatorsClear, TestedClears, ClearsPage}
-use Rattle.shadow_marks.proofs.BetweenLaws.{between_in, between_below, between_above}
+use Rattle.shadow_marks.specs.{Ending.{KeepsShape}}
+use Rattle.shadow_marks.specs.Clearing.{ClearsBits, OperatorsClear, TestedClears, ClearsPage}
 
 -- a word that is zero has no bit set
 pub zero_bits : (words : List ℕ) (page e : ℕ) → e / 64 ≡ page → slice_index words page ≡ 0 → bit_of words e ≡ false
@@ -29,40 +28,6 @@ bits_cleared words page within = record {
   here = λ e is. zero_bits (set words page 0) page e is (get_or-set_same words page 0 0 within);
   others = λ e other. ap (λ (word : ℕ). eqb (bit_at word (e % 64)) 1) (get_or-set_other words page (e / 64) 0 0 other);
 }
-
--- a page's numbers are set
-pub numbers_set : (old new : List ℕ) (page past number : ℕ) → past ≡ min (length old) (64 * page + 64)
-    → SetsRun old new (64 * page) past number → SetsNumbers old new page number
-numbers_set old new page past number is changes = record {
-  count = changes.count;
-  here = λ e below at.
-      changes.numbers e
-      ∙ ap (λ (b : Bool). if b then number else slice_index old e)
-      (between_in (64 * page) past e (omega (arith, at)) (omega (arith, at, is, below)));
-  others = λ e other.
-      changes.numbers e
-      ∙ ap (λ (b : Bool). if b then number else slice_index old e) (elim (cases_lt e (64 * page)) [
-        | inl early ↦ between_below (64 * page) past e early
-        | inr late ↦ between_above (64 * page) past e (omega (arith, late, other, is))
-      ]);
-}
-
--- vectors that were lent out
-refilled : {Z : Type 0} → (v : Vec ℕ Z) (now new : List ℕ) → now ≡ v.items → length new ≡ length now
-    → (with_items v new).items ≡ new
-refilled v now new same long = with_items_is v new (long ∙ ap length same ∙ sym v.ok.0)
-
-pub cleared_in : {Z : Type 0} → (v : Vec ℕ Z) (now new : List ℕ) (page : ℕ) → now ≡ v.items → ClearsBits now new page
-    → ClearsBits v.items (with_items v new).items page
-cleared_in v now new page same clears =
-    subst (λ (words : List ℕ). ClearsBits v.items words page) (sym (refilled v now new same clears.count))
-    (subst (λ (words : List ℕ). ClearsBits words new page) same clears)
-
-pub set_in : {Z : Type 0} → (v : Vec ℕ Z) (now new : List ℕ) (page number : ℕ) → now ≡ v.items
-    → SetsNumbers now new page number → SetsNumbers v.items (with_items v new).items page number
-set_in v now new page number same sets =
-    subst (λ (numbers : List ℕ). SetsNumbers v.items numbers page number) (sym (refilled v now new same sets.count))
-    (subst (λ (numbers : List ℕ). SetsNumbers numbers new page number) same sets)
 
 -- a plane still has no bit past its end
 cleared_bit : (old new : List ℕ) (page e : ℕ) → ClearsBits old new page → bit_of old e ≡ false → bit_of new e ≡ false
@@ -174,47 +139,42 @@ both_zero a b none =
     let right = le_or_r a b in
     record { left = omega (arith, left, none); right = omega (arith, right, none) }
 
-pub unmarked_by_words : (planes : Planes) (page plain add or and xor addh : ℕ)
-    → not (eqb (bit_or (bit_or (bit_or (bit_or (bit_or plain add) or) and) xor) addh) 0) ≡ false
-    → plain ≡ slice_index planes.plain.items page → add ≡ slice_index planes.operators.add.items page
-    → or ≡ slice_index planes.operators.or.items page → and ≡ slice_index planes.operators.and.items page
-    → xor ≡ slice_index planes.operators.xor.items page → addh ≡ slice_index planes.operators.addh.items page
-    → IsUnmarkedPage planes page
-unmarked_by_words planes page plain add or and xor addh unset is_plain is_add is_or is_and is_xor is_addh =
-    let five = both_zero (bit_or (bit_or (bit_or (bit_or plain add) or) and) xor) addh
-    (none_of (bit_or (bit_or (bit_or (bit_or (bit_or plain add) or) and) xor) addh) unset) in
-    let four = both_zero (bit_or (bit_or (bit_or plain add) or) and) xor five.left in
-    let three = both_zero (bit_or (bit_or plain add) or) and four.left in
-    let two = both_zero (bit_or plain add) or three.left in
-    let one = both_zero plain add two.left in
-    record {
-      plain = sym is_plain ∙ one.left;
-      by = elim [
-        | Add ↦ sym is_add ∙ one.right
-        | Or ↦ sym is_or ∙ two.right
-        | And ↦ sym is_and ∙ three.right
-        | Xor ↦ sym is_xor ∙ four.right
-        | AddH ↦ sym is_addh ∙ five.right
-      ];
-    }
-
 -- and where none of a page's words has a bit, their union has none
 no_bit : (a b : ℕ) → a ≡ 0 → b ≡ 0 → bit_or a b ≡ 0
 no_bit a b left right = ap (λ n. bit_or n b) left ∙ ap (λ n. bit_or 0 n) right
 
-pub no_words : (planes : Planes) (page plain add or and xor addh : ℕ) → plain ≡ slice_index planes.plain.items page
+pub unmarked_words : (planes : Planes) (page plain add or and xor addh : ℕ) → plain ≡ slice_index planes.plain.items page
     → add ≡ slice_index planes.operators.add.items page → or ≡ slice_index planes.operators.or.items page
     → and ≡ slice_index planes.operators.and.items page → xor ≡ slice_index planes.operators.xor.items page
-    → addh ≡ slice_index planes.operators.addh.items page → IsUnmarkedPage planes page
-    → not (eqb (bit_or (bit_or (bit_or (bit_or (bit_or plain add) or) and) xor) addh) 0) ≡ false
-no_words planes page plain add or and xor addh is_plain is_add is_or is_and is_xor is_addh none =
-    ap (λ n. not (eqb n 0)) (no_bit _ _ (no_bit _ _ (no_bit _ _ (no_bit _ _ (no_bit _ _ (is_plain ∙ none.plain)
-    (is_add ∙ none.by Add)) (is_or ∙ none.by Or)) (is_and ∙ none.by And)) (is_xor ∙ none.by Xor))
-    (is_addh ∙ none.by AddH))
+    → addh ≡ slice_index planes.operators.addh.items page →
+    (not (eqb (bit_or (bit_or (bit_or (bit_or (bit_or plain add) or) and) xor) addh) 0) ≡ false)
+    ↔ IsUnmarkedPage planes page
+unmarked_words planes page plain add or and xor addh is_plain is_add is_or is_and is_xor is_addh = (
+  λ unset.
+      let five = both_zero _ addh (none_of _ unset) in
+      let four = both_zero _ xor five.left in
+      let three = both_zero _ and four.left in
+      let two = both_zero _ or three.left in
+      let one = both_zero plain add two.left in
+      record {
+        plain = sym is_plain ∙ one.left;
+        by = elim [
+          | Add ↦ sym is_add ∙ one.right
+          | Or ↦ sym is_or ∙ two.right
+          | And ↦ sym is_and ∙ three.right
+          | Xor ↦ sym is_xor ∙ four.right
+          | AddH ↦ sym is_addh ∙ five.right
+        ];
+      },
+  λ none.
+      ap (λ n. not (eqb n 0)) (no_bit _ _ (no_bit _ _ (no_bit _ _ (no_bit _ _ (no_bit _ _ (is_plain ∙ none.plain)
+      (is_add ∙ none.by Add)) (is_or ∙ none.by Or)) (is_and ∙ none.by And)) (is_xor ∙ none.by Xor))
+      (is_addh ∙ none.by AddH)),
+)
 
 -- each action is plain or a reduce, so iterations of which neither is marked did nothing
 pub never : (b : Bool) → b ≡ true → b ≡ false → ⊥
-never b t f = let both : true ≡ false = sym t ∙ f in cc
+never b t f = true≢false (sym t ∙ f)
 
 left_false : (a b : Bool) → (a || b) ≡ false → a ≡ false
 left_false true b h = h

@@ -4,7 +4,7 @@ ghost use Rattle.std.specs.Prelude.{◌≡◌, ◌*◌, ◌<◌, ◌≤◌, ℕ,
 ghost use Rattle.loop_core_model.specs.Marks.{Visit};
 ghost use Rattle.shadow_marks.specs.{Iteration.{element_count, IsEmptied}, Standing.{StandFor, no_visits}};
 ghost use Rattle.shadow_marks.specs.Standing.{words_for, EachPlane, ArePlanes, AreTested, AreLrpdPlanes, AreFlowPlanes};
-ghost use Rattle.shadow_marks.specs.{Ending.{KeepsShape}, Runs.{SetsRun}, Clearing.{TestedClears, ClearsPage}};
+ghost use Rattle.shadow_marks.specs.{Ending.{KeepsShape}, Clearing.{TestedClears, ClearsPage}};
 ghost use Rattle.shadow_marks.specs.Clearing.{ClearsBits, SetsNumbers, OperatorsClear, LrpdClears, FlowClears};
 
 use crate::iter_flags::IterFlags;
@@ -32,7 +32,7 @@ impl Planes {
         requires within { page < words_for self.old.elements }
         ensures { ClearsPage self.old self.new page }
     {
-        clear_bits(&mut self.plain, page);
+        clear_bits(self.plain.as_mut_slice(), page);
         self.operators.clear_page(page);
         self.tested.clear_page(self.elements as usize, page);
     }
@@ -43,11 +43,11 @@ impl OperatorPlanes {
         requires { EachPlane (λ words. page < length words) self.old }
         ensures { OperatorsClear self.old self.new page }
     {
-        clear_bits(&mut self.add, page);
-        clear_bits(&mut self.or, page);
-        clear_bits(&mut self.and, page);
-        clear_bits(&mut self.xor, page);
-        clear_bits(&mut self.addh, page);
+        clear_bits(self.add.as_mut_slice(), page);
+        clear_bits(self.or.as_mut_slice(), page);
+        clear_bits(self.and.as_mut_slice(), page);
+        clear_bits(self.xor.as_mut_slice(), page);
+        clear_bits(self.addh.as_mut_slice(), page);
     }
 }
 
@@ -71,10 +71,10 @@ impl LrpdPlanes {
         requires within { page < words_for elements }
         ensures { LrpdClears self.old self.new page }
     {
-        clear_bits(&mut self.written, page);
-        clear_bits(&mut self.written_by_two, page);
-        clear_bits(&mut self.read_only, page);
-        clear_bits(&mut self.read_and_written, page);
+        clear_bits(self.written.as_mut_slice(), page);
+        clear_bits(self.written_by_two.as_mut_slice(), page);
+        clear_bits(self.read_only.as_mut_slice(), page);
+        clear_bits(self.read_and_written.as_mut_slice(), page);
     }
 }
 
@@ -84,8 +84,8 @@ impl FlowPlanes {
         requires within { page < words_for elements }
         ensures { FlowClears self.old self.new page }
     {
-        set_numbers(&mut self.first, page, NO_WRITER);
-        set_numbers(&mut self.last, page, 0);
+        set_numbers(self.first.as_mut_slice(), page, NO_WRITER);
+        set_numbers(self.last.as_mut_slice(), page, 0);
     }
 }
 
@@ -109,6 +109,7 @@ fn clear_bits(words: &mut [u64], page: usize)
 }
 
 /// Sets the numbers of a page's elements to one number.
+#[tactic(auto, using(crate::proofs::BetweenLaws::between_in))]
 #[inline]
 fn set_numbers(numbers: &mut [u32], page: usize, number: u32)
     requires { PAGE * page ≤ length numbers.old }
@@ -116,15 +117,6 @@ fn set_numbers(numbers: &mut [u32], page: usize, number: u32)
 {
     let first = PAGE as usize * page;
     let past = numbers.len().min(first + PAGE as usize);
-    set_all(numbers, first, past, number);
-}
-
-/// Sets the numbers of elements from a first one up to another to one number.
-fn set_all(numbers: &mut [u32], first: usize, past: usize, number: u32)
-    requires rising { first ≤ past }
-    requires within { past ≤ length numbers.old }
-    ensures { SetsRun numbers.old numbers.new first past number }
-{
     for e in first..past {
         numbers[e] = number;
     }
