@@ -9,6 +9,15 @@ use Rattle.lane_planes.specs.Writes.{HasLanes}
 pub loaded : (at n : ℕ) (xs : List ℕ) → at + n ≤ length xs → HasLanes n (λ k. get_or xs (at + k) 0) (chunk at n xs)
 loaded at n xs room = record { count = length-chunk at n xs room; each = λ k small. get_or-chunk at n xs k 0 small }
 
+-- lanes out of a plane's slice are lanes out of the plane, whose words fit too
+pub out_of : {slice plane : List ℕ} → slice ≡ plane → (n at : ℕ) (lanes : List ℕ)
+    → HasLanes n (λ k. get_or slice (at + k) 0) lanes → HasLanes n (λ k. get_or plane (at + k) 0) lanes
+out_of same n at lanes are = subst (λ (words : List ℕ). HasLanes n (λ k. get_or words (at + k) 0) lanes) same are
+
+pub fits_of : {slice plane : List ℕ} → slice ≡ plane → ((i : ℕ) → get_or slice i 0 < 2 ^ 64) → (i : ℕ)
+    → get_or plane i 0 < 2 ^ 64
+fits_of same fit i = subst (λ (words : List ℕ). get_or words i 0 < 2 ^ 64) same (fit i)
+
 pub combined : (f : ℕ → ℕ → ℕ) (n : ℕ) (p q : ℕ → ℕ) (xs ys : List ℕ) → HasLanes n p xs → HasLanes n q ys
     → HasLanes n (λ k. f (p k) (q k)) (zip2 f xs ys)
 combined f n p q xs ys in_xs in_ys = record {

@@ -4,6 +4,7 @@ use Rattle.std.specs.List.{filter, range_with_len}
 use Rattle.loop_core_model.specs.{Marks.{Visit, Marks, marks_of, marked_conflict}, Planes.{bit_of, elements_in_plane}}
 use Rattle.shadow_marks.specs.declared.planes.{LrpdPlanes.{LrpdPlanes}, FlowPlanes.{FlowPlanes}, Tested.{Tested}}
 use Rattle.shadow_marks.specs.declared.planes.{Tested.TheVariants.{Lrpd, Flow}, Planes.{Planes}}
+use Rattle.shadow_marks.specs.declared.planes.OperatorPlanes.{OperatorPlanes}
 use Rattle.shadow_marks.specs.Standing.{IsBitPlane, StandAt, StandFor, test_of}
 use Rattle.lane_planes.specs.Words.{in_some, without_reductions, FlowWords}
 
@@ -37,12 +38,15 @@ abbrev pub TestedFit : Tested → ℕ → Type 0
 TestedFit (Lrpd planes) many = LrpdFit planes many
 TestedFit (Flow planes) many = FlowFit planes many
 
+-- the words of the operators' planes at an index
+abbrev pub words_by : OperatorPlanes → ℕ → List ℕ
+words_by planes i = slice_index planes.addh.items i ∷ slice_index planes.xor.items i ∷ slice_index planes.and.items i
+    ∷ slice_index planes.or.items i ∷ slice_index planes.add.items i ∷ []
+
 -- a word without the reduction-only elements of these planes
 abbrev pub cleared_word : Planes → (word i : ℕ) → ℕ
-cleared_word planes word i = without_reductions word (slice_index planes.plain.items i)
-    (slice_index planes.operators.addh.items i ∷ slice_index planes.operators.xor.items i
-    ∷ slice_index planes.operators.and.items i
-    ∷ slice_index planes.operators.or.items i ∷ slice_index planes.operators.add.items i ∷ [])
+cleared_word planes word i =
+    without_reductions word (slice_index planes.plain.items i) (words_by planes.operators i)
 
 -- the plane of conflicts: where the test fails, without the elements that are reduction-only
 pub record ConflictWords (planes : Planes) (words : List ℕ) : Type 0 where
@@ -65,7 +69,4 @@ abbrev pub LastsFit : Tested → Type 0
 LastsFit tested = (planes : FlowPlanes) → tested ≡ Flow planes → (e : ℕ) → slice_index planes.last.items e ≤ 4294967295
 
 abbrev pub OperatorWordsFit : Planes → (many : ℕ) → Type 0
-OperatorWordsFit planes many = (i : ℕ) → i < many →
-    in_some (slice_index planes.operators.addh.items i ∷ slice_index planes.operators.xor.items i
-    ∷ slice_index planes.operators.and.items i
-    ∷ slice_index planes.operators.or.items i ∷ slice_index planes.operators.add.items i ∷ []) < 2 ^ 64
+OperatorWordsFit planes many = (i : ℕ) → i < many → in_some (words_by planes.operators i) < 2 ^ 64

@@ -1,11 +1,12 @@
 //! Which elements conflict.
 
-ghost use Rattle.std.specs.Prelude.{◌≡◌, ℕ, ◌+◌, ◌^◌, ◌<◌, ◌≤◌, length, slice_index, [], ◌∷◌};
-ghost use Rattle.lane_planes.specs.{Conflicts.{LrpdFit, lrpd_word}, Words.{in_some, without_reductions}};
+ghost use Rattle.std.specs.Prelude.{◌≡◌, ◌+◌, ◌<◌, ◌≤◌, length, slice_index};
+ghost use Rattle.shadow_marks.specs.Standing.{EachPlane};
+ghost use Rattle.lane_planes.specs.Conflicts.{LrpdFit, lrpd_word, cleared_word, OperatorWordsFit};
 ghost use Rattle.lane_planes.specs.Writes.{Writes};
 
 use crate::loading::words_at;
-use shadow_marks::LrpdPlanes;
+use shadow_marks::{LrpdPlanes, Planes};
 use std::simd::prelude::*;
 
 /// Tells where the LRPD test fails, whether or not elements are reduction-only.
@@ -31,75 +32,47 @@ fn lrpd_at<const N: usize>(planes: &LrpdPlanes, into: &mut [u64], at: usize)
     requires room { at + N ≤ length into.old }
     ensures { Writes (lrpd_word planes.now) at (at + N) into.old into.new }
 {
-    let reader = words_at::<N>(&planes.read_only, at);
-    let writer = words_at::<N>(&planes.written, at);
-    let both = words_at::<N>(&planes.read_and_written, at);
-    let two = words_at::<N>(&planes.written_by_two, at);
+    let reader = words_at::<N>(planes.read_only.as_slice(), at);
+    let writer = words_at::<N>(planes.written.as_slice(), at);
+    let both = words_at::<N>(planes.read_and_written.as_slice(), at);
+    let two = words_at::<N>(planes.written_by_two.as_slice(), at);
     ((reader & writer) | (both & two)).copy_to_slice(&mut into[at..]);
 }
 
-/// The planes that tell which elements are reduction-only.
-#[derive(Clone, Copy)]
-pub(crate) struct ReductionPlanes<'a> {
-    pub(crate) plain: &'a [u64],
-    pub(crate) add: &'a [u64],
-    pub(crate) or: &'a [u64],
-    pub(crate) and: &'a [u64],
-    pub(crate) xor: &'a [u64],
-    pub(crate) addh: &'a [u64],
-}
-
 /// Clears the bits of reduction-only elements.
-pub(crate) fn clear_reductions<const N: usize>(into: &mut [u64], planes: ReductionPlanes)
+pub(crate) fn clear_reductions<const N: usize>(planes: &Planes, into: &mut [u64])
     requires lanes { (0 < N) × (N ≤ 64) }
-    requires same_plain { length into.old ≡ length planes.plain.now }
-    requires same_add { length into.old ≡ length planes.add.now }
-    requires same_or { length into.old ≡ length planes.or.now }
-    requires same_and { length into.old ≡ length planes.and.now }
-    requires same_xor { length into.old ≡ length planes.xor.now }
-    requires same_addh { length into.old ≡ length planes.addh.now }
-    ensures words { Writes (λ i. without_reductions (slice_index into.old i) (slice_index planes.entry.plain.now i)
-        (slice_index planes.entry.addh.now i ∷ slice_index planes.entry.xor.now i ∷ slice_index planes.entry.and.now i
-        ∷ slice_index planes.entry.or.now i ∷ slice_index planes.entry.add.now i ∷ [])) 0 (length into.old) into.old
-        into.new }
-    ensures fit { (i : ℕ) → i < length into.old → in_some (slice_index planes.entry.addh.now i
-        ∷ slice_index planes.entry.xor.now i ∷ slice_index planes.entry.and.now i ∷ slice_index planes.entry.or.now i
-        ∷ slice_index planes.entry.add.now i ∷ []) < 2 ^ 64 }
+    requires plain { length into.old ≡ length planes.now.plain.items }
+    requires operators { EachPlane (λ words. length into.old ≡ length words) planes.now.operators }
+    ensures words { Writes (λ i. cleared_word planes.now (slice_index into.old i) i) 0 (length into.old) into.old into.new }
+    ensures fit { OperatorWordsFit planes.now (length into.old) }
 {
     let mut at = 0;
     while at + N <= into.len() {
-        clear_reductions_at::<N>(into, planes, at);
+        clear_reductions_at::<N>(planes, into, at);
         at += N;
     }
     while at < into.len() {
-        clear_reductions_at::<1>(into, planes, at);
+        clear_reductions_at::<1>(planes, into, at);
         at += 1;
     }
 }
 
 #[inline(always)]
-fn clear_reductions_at<const N: usize>(into: &mut [u64], planes: ReductionPlanes, at: usize)
-    requires same_plain { length into.old ≡ length planes.plain.now }
-    requires same_add { length into.old ≡ length planes.add.now }
-    requires same_or { length into.old ≡ length planes.or.now }
-    requires same_and { length into.old ≡ length planes.and.now }
-    requires same_xor { length into.old ≡ length planes.xor.now }
-    requires same_addh { length into.old ≡ length planes.addh.now }
+fn clear_reductions_at<const N: usize>(planes: &Planes, into: &mut [u64], at: usize)
+    requires plain { length into.old ≡ length planes.now.plain.items }
+    requires operators { EachPlane (λ words. length into.old ≡ length words) planes.now.operators }
     requires room { at + N ≤ length into.old }
-    ensures words { Writes (λ i. without_reductions (slice_index into.old i) (slice_index planes.entry.plain.now i)
-        (slice_index planes.entry.addh.now i ∷ slice_index planes.entry.xor.now i ∷ slice_index planes.entry.and.now i
-        ∷ slice_index planes.entry.or.now i ∷ slice_index planes.entry.add.now i ∷ [])) at (at + N) into.old into.new }
-    ensures fit { (i : ℕ) → in_some (slice_index planes.entry.addh.now i ∷ slice_index planes.entry.xor.now i
-        ∷ slice_index planes.entry.and.now i ∷ slice_index planes.entry.or.now i ∷ slice_index planes.entry.add.now i
-        ∷ []) < 2 ^ 64 }
+    ensures words { Writes (λ i. cleared_word planes.now (slice_index into.old i) i) at (at + N) into.old into.new }
+    ensures fit { OperatorWordsFit planes.now (length into.old) }
 {
     let here = words_at::<N>(into, at);
-    let plain = words_at::<N>(planes.plain, at);
-    let add = words_at::<N>(planes.add, at);
-    let or = words_at::<N>(planes.or, at);
-    let and = words_at::<N>(planes.and, at);
-    let xor = words_at::<N>(planes.xor, at);
-    let addh = words_at::<N>(planes.addh, at);
+    let plain = words_at::<N>(planes.plain.as_slice(), at);
+    let add = words_at::<N>(planes.operators.add.as_slice(), at);
+    let or = words_at::<N>(planes.operators.or.as_slice(), at);
+    let and = words_at::<N>(planes.operators.and.as_slice(), at);
+    let xor = words_at::<N>(planes.operators.xor.as_slice(), at);
+    let addh = words_at::<N>(planes.operators.addh.as_slice(), at);
     let two = (add & or)
         | ((add | or) & and)
         | ((add | or | and) & xor)

@@ -4,7 +4,7 @@ ghost use Rattle.std.specs.Prelude.{◌≡◌, ◌<◌, ◌≤◌, length};
 ghost use Rattle.shadow_marks.specs.Standing.{ArePlanes, words_for};
 ghost use Rattle.lane_planes.specs.Conflicts.{IsConflictPlane, FailingWords, LastsFit, TestedFit};
 
-use crate::conflict::{ReductionPlanes, clear_reductions, lrpd_into};
+use crate::conflict::{clear_reductions, lrpd_into};
 use crate::flow::flow_into;
 use shadow_marks::{Planes, Tested};
 
@@ -29,8 +29,7 @@ pub(crate) fn leave_conflicts<const N: usize>(planes: &Planes, into: &mut [u64])
     requires fit { LastsFit planes.now.tested }
     ensures { IsConflictPlane planes.now into.new }
 {
-    let reductions = reduction_planes(planes);
-    clear_reductions::<N>(into, reductions);
+    clear_reductions::<N>(planes, into);
 }
 
 /// Writes where the test fails, whether or not elements are reduction-only.
@@ -45,24 +44,5 @@ pub(crate) fn failing_into<const N: usize>(tested: &Tested, into: &mut [u64])
         Tested::Flow(planes) => {
             flow_into::<N>(into, planes.first.as_slice(), planes.last.as_slice())
         }
-    }
-}
-
-/// The planes that tell which elements are reduction-only.
-fn reduction_planes(planes: &Planes) -> ReductionPlanes<'_>
-    ensures plain { result.plain.now ≡ planes.now.plain.items }
-    ensures add { result.add.now ≡ planes.now.operators.add.items }
-    ensures or { result.or.now ≡ planes.now.operators.or.items }
-    ensures and { result.and.now ≡ planes.now.operators.and.items }
-    ensures xor { result.xor.now ≡ planes.now.operators.xor.items }
-    ensures addh { result.addh.now ≡ planes.now.operators.addh.items }
-{
-    ReductionPlanes {
-        plain: planes.plain.as_slice(),
-        add: planes.operators.add.as_slice(),
-        or: planes.operators.or.as_slice(),
-        and: planes.operators.and.as_slice(),
-        xor: planes.operators.xor.as_slice(),
-        addh: planes.operators.addh.as_slice(),
     }
 }
