@@ -1,6 +1,6 @@
 -- A plane of conflicts says what the marks tell.
-use Rattle.std.proofs.Common.{◌≡◌, ℕ, zero, suc, ◌+◌, ◌-◌, ◌*◌, ◌/◌, ◌%◌, ◌^◌, ◌<◌, ◌≤◌, min, false, List, [], ◌∷◌}
-use Rattle.std.{proofs.Common.{length, refl, sym, ◌∙◌, ap, subst, ⊎_elim, arith}, specs.List.{filter, range_with_len}}
+use Rattle.std.proofs.Common.{◌≡◌, ℕ, zero, suc, ◌+◌, ◌-◌, ◌*◌, ◌/◌, ◌%◌, ◌<◌, ◌≤◌, min, false, List}
+use Rattle.std.{proofs.Common.{length, refl, sym, ◌∙◌, ap, ⊎_elim, arith}, specs.List.{filter, range_with_len}}
 use Rattle.std.{specs.Prelude.{◌==◌, ◌&&◌, ◌||◌, not, nat_lt, slice_index, bit_and}, proofs.Math.Bool.{and_comm}}
 use Rattle.std.proofs.lemmas.{Bool.{cases_lt}, List.{get_or_past}, Nat.Bits.{bit_at-zero, bit_at_above}}
 use Rattle.array_maps.specs.declared.access.Op.TheVariants.{Add, Or, And, Xor, AddH}
@@ -10,7 +10,7 @@ use Rattle.loop_core_model.proofs.{MarkLaws.{first_is_number}, PlaneLaws.{plane_
 use Rattle.shadow_marks.specs.declared.planes.{Tested.{Tested, TheVariants.{Lrpd, Flow}}, Planes.{Planes}}
 use Rattle.shadow_marks.specs.declared.planes.LrpdPlanes.{LrpdPlanes}
 use Rattle.shadow_marks.specs.Standing.{ArePlanes, AreTested, StandAt, StandFor, TestedStandAt, test_of, words_for}
-use Rattle.lane_planes.specs.{Words.{stands_at, in_some, without_reductions}, Writes.{Writes}}
+use Rattle.lane_planes.specs.{Words.{stands_at}}
 use Rattle.lane_planes.specs.Conflicts.{lrpd_word, words_by, FailingWords, LastsFit, OperatorWordsFit, ConflictWords, IsConflictPlane}
 use Rattle.lane_planes.proofs.{BitMeaning.{bit, bit-and, bit-or}, MergeLaws.{word_within}}
 use Rattle.lane_planes.proofs.ReductionLaws.{marked_bit, clear_bit}

@@ -1,38 +1,15 @@
 -- Where no access is marked, nothing is marked.
 use Rattle.std.proofs.Common.{◌≡◌, ℕ, zero, suc, ◌+◌, ◌-◌, ◌*◌, ◌/◌, ◌%◌, ◌^◌, ◌<◌, ◌≤◌, min, Bool, true, false, List}
-use Rattle.std.{proofs.Common.{length, None, refl, sym, ◌∙◌, ap, subst, ⊎_elim, arith}, specs.Int.{bit_at}}
+use Rattle.std.{proofs.Common.{length, refl, sym, ◌∙◌, ap, subst, ⊎_elim, arith}, specs.Int.{bit_at}}
 use Rattle.std.{specs.Prelude.{◌==◌, nat_lt, slice_index, slice_set}, proofs.lemmas.{Bool.{cases_lt}, Nat.{pow_pos}}}
 use Rattle.std.proofs.lemmas.List.{get_or-set_same, get_or-set_other}
 use Rattle.std.proofs.lemmas.Nat.Bits.{bit_at-zero, bit_at-lt, same_from_bits_below}
-use Rattle.array_maps.specs.declared.access.Op.{Op, TheVariants.{Add, Or, And, Xor, AddH}}
-use Rattle.loop_core_model.specs.{Marks.{Visit, Marks, marks_of, first_number}, Planes.{bit_of}}
+use Rattle.loop_core_model.specs.{Marks.{no_marks}, Planes.{bit_of}}
 use Rattle.shadow_marks.specs.declared.planes.{FlowPlanes.{FlowPlanes}, Tested.{Tested, TheVariants.{Lrpd, Flow}}}
-use Rattle.shadow_marks.{specs.declared.planes.Planes.{Planes}, proofs.ClearLaws.{zero_bits, never, no_visit}}
-use Rattle.shadow_marks.specs.Standing.{IsBitPlane, AreTested, TestedStandAt, IsUnmarkedPage, plane_by}
+use Rattle.shadow_marks.{specs.declared.planes.Planes.{Planes}, proofs.ClearLaws.{never, unmarked_stand}}
+use Rattle.shadow_marks.specs.Standing.{IsBitPlane, AreTested, TestedStandAt, IsUnmarkedPage}
 use Rattle.lane_planes.{specs.{Words.{HasBits, stands_at}, Merged.{StandForSome, WordsFit}}, proofs.BitMeaning.{bit}}
 use Rattle.lane_planes.proofs.PageLaws.{FlowIdle, TestedIdle, IsIdle}
-
--- nothing is marked
-pub record AreIdle (marks : Marks) : Type 0 where
-  pub written : marks.written ≡ false
-  pub written_by_two : marks.written_by_two ≡ false
-  pub read_only : marks.read_only ≡ false
-  pub read_and_written : marks.read_and_written ≡ false
-  pub first : marks.first ≡ None
-  pub last : marks.last ≡ 0
-
-pub idle_marks : (visits : List Visit) → (marks_of visits).plain ≡ false → ((op : Op) → (marks_of visits).by op ≡ false)
-    → AreIdle (marks_of visits)
-idle_marks visits plain by =
-    let none = no_visit visits plain by in
-    record {
-      written = ap (λ marks. marks.written) none;
-      written_by_two = ap (λ marks. marks.written_by_two) none;
-      read_only = ap (λ marks. marks.read_only) none;
-      read_and_written = ap (λ marks. marks.read_and_written) none;
-      first = ap (λ marks. marks.first) none;
-      last = ap (λ marks. marks.last) none;
-    }
 
 unset : (x : ℕ) → x < 2 → (x == 1) ≡ false → x ≡ 0
 unset zero small h = refl
@@ -53,62 +30,39 @@ zero_word words page fits none =
     unset (bit_at (slice_index words page) k) (bit_at-lt (slice_index words page) k) is ∙ sym (bit_at-zero k))
 
 -- a page whose elements have no marks
-module _ (elements page : ℕ) (marks : ℕ → Marks) (idle : (e : ℕ) → e / 64 ≡ page → e < elements → AreIdle (marks e))
-  where
-    clear_plane : (words : List ℕ) → IsBitPlane elements words → ((e : ℕ) → e / 64 ≡ page → e < elements
-        → bit_of words e ≡ false) → slice_index words page < 2 ^ 64 → slice_index words page ≡ 0
-    clear_plane words whole each fits =
-        zero_word words page fits (λ e here. ⊎_elim (λ (below : e < elements). each e here below)
-        (λ (out : elements ≤ e).
-        whole.past e out) (cases_lt e elements))
+module _ (elements page : ℕ) where
+  clear_plane : (words : List ℕ) → IsBitPlane elements words → ((e : ℕ) → e / 64 ≡ page → e < elements
+      → bit_of words e ≡ false) → slice_index words page < 2 ^ 64 → slice_index words page ≡ 0
+  clear_plane words whole each fits =
+      zero_word words page fits (λ e here. ⊎_elim (λ (below : e < elements). each e here below)
+      (λ (out : elements ≤ e). whole.past e out) (cases_lt e elements))
 
-    idle_tested : (tested : Tested) → AreTested elements tested → WordsFit tested
-        → ((e : ℕ) → e < elements → TestedStandAt tested e (marks e)) → TestedIdle tested page
-    idle_tested (Lrpd planes) whole fit stand =
-        let fits = fit planes refl in
-        record {
-          written = clear_plane planes.written.items whole.written (λ e here below. (stand e below).written
-              ∙ (idle e here below).written) (fits.written page);
-          written_by_two = clear_plane planes.written_by_two.items whole.written_by_two
-              (λ e here below. (stand e below).written_by_two ∙ (idle e here below).written_by_two)
-              (fits.written_by_two page);
-          read_only = clear_plane planes.read_only.items whole.read_only (λ e here below. (stand e below).read_only
-              ∙ (idle e here below).read_only) (fits.read_only page);
-          read_and_written = clear_plane planes.read_and_written.items whole.read_and_written
-              (λ e here below. (stand e below).read_and_written ∙ (idle e here below).read_and_written)
-              (fits.read_and_written page);
-        }
-    idle_tested (Flow planes) whole fit stand = record {
-      first = λ e here inside.
-          let below : e < elements = subst (λ n. e < n) whole.first inside in
-          (stand e below).first ∙ ap first_number (idle e here below).first;
-      last = λ e here inside.
-          let below : e < elements = subst (λ n. e < n) whole.last inside in
-          (stand e below).last ∙ (idle e here below).last;
-    }
+  idle_tested : (tested : Tested) → AreTested elements tested → WordsFit tested
+      → ((e : ℕ) → e / 64 ≡ page → e < elements → TestedStandAt tested e no_marks) → TestedIdle tested page
+  idle_tested (Lrpd planes) whole fit stand =
+      let fits = fit planes refl in
+      record {
+        written = clear_plane _ whole.written (λ e here below. (stand e here below).written) (fits.written page);
+        written_by_two = clear_plane _ whole.written_by_two (λ e here below. (stand e here below).written_by_two)
+            (fits.written_by_two page);
+        read_only = clear_plane _ whole.read_only (λ e here below. (stand e here below).read_only)
+            (fits.read_only page);
+        read_and_written = clear_plane _ whole.read_and_written
+            (λ e here below. (stand e here below).read_and_written) (fits.read_and_written page);
+      }
+  idle_tested (Flow planes) whole fit stand = record {
+    first = λ e here inside. (stand e here (subst (λ n. e < n) whole.first inside)).first;
+    last = λ e here inside. (stand e here (subst (λ n. e < n) whole.last inside)).last;
+  }
 
 -- in a page that no iteration touched nothing is marked
 pub untouched_idle : (planes : Planes) (page : ℕ) → StandForSome planes → IsUnmarkedPage planes page
     → WordsFit planes.tested → IsIdle planes page
-untouched_idle planes page some untouched fit =
-    let visits = some.visits in
-    let idle : (e : ℕ) → e / 64 ≡ page → e < planes.elements → AreIdle (marks_of (some.visits e)) =
-    λ e here below. idle_marks (visits e) (sym (some.stand.marks e below).plain ∙ zero_bits planes.plain.items page e
-    here
-    untouched.plain)
-    (λ op. sym ((some.stand.marks e below).by op) ∙ zero_bits (plane_by planes.operators op) page e here
-    (untouched.by op))
-    in
-    record {
-      plain = untouched.plain;
-      add = untouched.by Add;
-      or = untouched.by Or;
-      and = untouched.by And;
-      xor = untouched.by Xor;
-      addh = untouched.by AddH;
-      tested = idle_tested planes.elements page (λ e. marks_of (visits e)) idle planes.tested some.stand.whole.tested
-          fit (λ e below. (some.stand.marks e below).tested);
-    }
+untouched_idle planes page some untouched fit = record {
+  unmarked = untouched;
+  tested = idle_tested planes.elements page planes.tested some.stand.whole.tested fit
+      (λ e here below. (unmarked_stand planes page e (some.visits e) untouched here (some.stand.marks e below)).tested);
+}
 
 -- so none of its elements has a first writer before a last reader
 flow_has_no_words : (planes : Planes) (flow : FlowPlanes) → planes.tested ≡ Flow flow → WordsFit planes.tested

@@ -3,7 +3,6 @@ pub mod BitLaws
 pub mod BitMeaning
 pub mod Writing
 pub mod Counts
-pub mod SamePlanes
 pub mod MergeLaws
 pub mod WholeLaws
 pub mod PageLaws

@@ -1,60 +1,47 @@
 -- Merged planes have merged marks.
 use Rattle.std.proofs.Common.{◌≡◌, ℕ, ◌*◌, ◌/◌, ◌%◌, ◌<◌, ◌≤◌, min, max, Bool, List, length, refl, sym, ◌∙◌, ap, subst}
 use Rattle.std.{proofs.Common.{arith}, specs.Prelude.{◌&&◌, ◌||◌, slice_index, bit_and, bit_or}}
-use Rattle.array_maps.specs.declared.access.Op.{Op, TheVariants.{Add, Or, And, Xor, AddH}}
 use Rattle.loop_core_model.specs.{Marks.{Visit, Marks, marks_of, merged, first_number}, Planes.{bit_of}}
 use Rattle.loop_core_model.proofs.MarkLaws.{first_is_number, marks_merge}
 use Rattle.shadow_marks.specs.declared.planes.{Tested.{Tested, TheVariants.{Lrpd, Flow}}, Planes.{Planes}}
-use Rattle.shadow_marks.specs.Standing.{ArePlanes, AreTested, StandAt, StandFor, TestedStandAt, plane_by, words_for}
+use Rattle.shadow_marks.specs.Standing.{ArePlanes, AreTested, StandAt, StandFor, TestedStandAt, words_for}
 use Rattle.shadow_marks.specs.Ending.{KeepsShape}
-use Rattle.lane_planes.specs.Merged.{Ored, WrittenByTwo, FirstsFit, MergedPlanes, MergedTested, joined_visits}
+use Rattle.lane_planes.specs.Merged.{Ored, FirstsFit, MergedPlanes, MergedTested, joined_visits}
 use Rattle.lane_planes.proofs.BitMeaning.{bit, bit-and, bit-or}
 
 -- the word of an element is there
 pub word_within : (e elements : ℕ) → e < elements → e / 64 < words_for elements
 word_within e elements within = omega arith
 
-pub ored_at : (at upto : ℕ) (mine theirs joined : List ℕ) (e : ℕ) (p q : Bool) → at ≤ e / 64 → e / 64 < upto
-    → Ored at upto mine theirs joined → bit_of mine e ≡ p → bit_of theirs e ≡ q → bit_of joined e ≡ (p || q)
-ored_at at upto mine theirs joined e p q late within ored is_p is_q =
-    ap (λ word. bit word (e % 64)) (ored.written (e / 64) late within)
-    ∙ bit-or (slice_index mine (e / 64)) (slice_index theirs (e / 64)) (e % 64)
-    ∙ ap (λ b. b || bit_of theirs e) is_p ∙ ap (λ b. p || b) is_q
+-- a bit of two words ored, and of two pairs
+pub either_bit : (x y k : ℕ) (p q : Bool) → bit x k ≡ p → bit y k ≡ q → bit (bit_or x y) k ≡ (p || q)
+either_bit x y k p q is_p is_q = bit-or x y k ∙ (λ i. is_p i || is_q i)
 
-pub two_at : (at upto : ℕ) (mine theirs written also joined : List ℕ) (e : ℕ) (p q r s : Bool) → at ≤ e / 64
-    → e / 64 < upto → WrittenByTwo at upto mine theirs written also joined →
-    bit_of mine e ≡ p → bit_of theirs e ≡ q → bit_of written e ≡ r → bit_of also e ≡ s
-    → bit_of joined e ≡ ((p || q) || (r && s))
-two_at at upto mine theirs written also joined e p q r s late within two is_p is_q is_r is_s =
-    let i = e / 64 in
-    let k = e % 64 in
-    ap (λ word. bit word k) (two.written i late within)
-    ∙ bit-or (bit_or (slice_index mine i) (slice_index theirs i)) (bit_and (slice_index written i) (slice_index also i))
-    k
-    ∙ ap (λ b. b || bit (bit_and (slice_index written i) (slice_index also i)) k)
-    (bit-or (slice_index mine i) (slice_index theirs i) k ∙ ap (λ b. b || bit_of theirs e) is_p
-    ∙ ap (λ b. p || b) is_q)
-    ∙ ap (λ b. (p || q) || b) (bit-and (slice_index written i) (slice_index also i) k
-    ∙ ap (λ b. b && bit_of also e) is_r ∙ ap (λ b. r && b) is_s)
+pub two_bit : (x y z w k : ℕ) (p q r s : Bool) → bit x k ≡ p → bit y k ≡ q → bit z k ≡ r → bit w k ≡ s
+    → bit (bit_or (bit_or x y) (bit_and z w)) k ≡ ((p || q) || (r && s))
+two_bit x y z w k p q r s is_p is_q is_r is_s =
+    either_bit (bit_or x y) (bit_and z w) k _ _ (either_bit x y k p q is_p is_q)
+    (bit-and z w k ∙ (λ i. is_r i && is_s i))
+
+ored_at : (many : ℕ) (mine theirs joined : List ℕ) (e : ℕ) (p q : Bool) → e / 64 < many
+    → Ored 0 many mine theirs joined → bit_of mine e ≡ p → bit_of theirs e ≡ q → bit_of joined e ≡ (p || q)
+ored_at many mine theirs joined e p q within ored is_p is_q =
+    ap (λ word. bit word (e % 64)) (ored.written (e / 64) (omega arith) within)
+    ∙ either_bit (slice_index mine (e / 64)) (slice_index theirs (e / 64)) (e % 64) p q is_p is_q
 
 tested_at : (elements e : ℕ) (mine theirs joined : Tested) (a b : Marks) → e < elements → AreTested elements mine
     → MergedTested 0 (words_for elements) mine theirs joined →
     FirstsFit mine → FirstsFit theirs → TestedStandAt mine e a → TestedStandAt theirs e b
     → TestedStandAt joined e (merged a b)
 tested_at elements e (Lrpd mine) (Lrpd theirs) (Lrpd joined) a b below whole words fit_a fit_b at_a at_b =
-    let low : 0 ≤ e / 64 = omega arith in
     let word = word_within e elements below in
     let many = words_for elements in
     record {
-      written = ored_at 0 many mine.written.items theirs.written.items joined.written.items e _ _ low word words.written
-          at_a.written at_b.written;
-      written_by_two = two_at 0 many mine.written_by_two.items theirs.written_by_two.items mine.written.items
-          theirs.written.items joined.written_by_two.items e _ _ _ _ low word words.written_by_two at_a.written_by_two
-          at_b.written_by_two at_a.written at_b.written;
-      read_only = ored_at 0 many mine.read_only.items theirs.read_only.items joined.read_only.items e _ _ low word
-          words.read_only at_a.read_only at_b.read_only;
-      read_and_written = ored_at 0 many mine.read_and_written.items theirs.read_and_written.items
-          joined.read_and_written.items e _ _ low word words.read_and_written at_a.read_and_written
+      written = ored_at many _ _ _ e _ _ word words.written at_a.written at_b.written;
+      written_by_two = ap (λ word. bit word (e % 64)) (words.written_by_two.written (e / 64) (omega arith) word)
+          ∙ two_bit _ _ _ _ (e % 64) _ _ _ _ at_a.written_by_two at_b.written_by_two at_a.written at_b.written;
+      read_only = ored_at many _ _ _ e _ _ word words.read_only at_a.read_only at_b.read_only;
+      read_and_written = ored_at many _ _ _ e _ _ word words.read_and_written at_a.read_and_written
           at_b.read_and_written;
     }
 tested_at elements e (Flow mine) (Flow theirs) (Flow joined) a b below whole words fit_a fit_b at_a at_b =
@@ -69,38 +56,17 @@ tested_at elements e (Flow mine) (Flow theirs) (Flow joined) a b below whole wor
       last = words.last.written e (omega arith) in_last ∙ ap (λ n. max n (slice_index theirs.last.items e)) at_a.last
           ∙ ap (max a.last) at_b.last;
     }
-tested_at elements e (Lrpd mine) (Flow theirs) joined a b below whole words fit_a fit_b at_a at_b = absurd words
-tested_at elements e (Flow mine) (Lrpd theirs) joined a b below whole words fit_a fit_b at_a at_b = absurd words
-tested_at elements e (Lrpd mine) (Lrpd theirs) (Flow joined) a b below whole words fit_a fit_b at_a at_b = absurd words
-tested_at elements e (Flow mine) (Flow theirs) (Lrpd joined) a b below whole words fit_a fit_b at_a at_b = absurd words
-
-by_at : (op : Op) (mine theirs joined : Planes) → MergedPlanes mine theirs joined → (e : ℕ) (a b : Marks)
-    → e < mine.elements → StandAt mine e a → StandAt theirs e b →
-    bit_of (plane_by joined.operators op) e ≡ (a.by op || b.by op)
-by_at op mine theirs joined words e a b below at_a at_b =
-    let low : 0 ≤ e / 64 = omega arith in
-    let many = words_for mine.elements in
-    let ored : (o : Op) → Ored 0 many (plane_by mine.operators o) (plane_by theirs.operators o)
-    (plane_by joined.operators o) =
-    elim [
-      | Add ↦ words.operators.add
-      | Or ↦ words.operators.or
-      | And ↦ words.operators.and
-      | Xor ↦ words.operators.xor
-      | AddH ↦ words.operators.addh
-    ] in
-    ored_at 0 many (plane_by mine.operators op) (plane_by theirs.operators op) (plane_by joined.operators op) e _ _ low
-    (word_within e mine.elements below) (ored op) (at_a.by op) (at_b.by op)
+tested_at elements e _ _ _ a b below whole words fit_a fit_b at_a at_b = absurd words
 
 pub merged_at : (mine theirs joined : Planes) → ArePlanes mine → MergedPlanes mine theirs joined → FirstsFit mine.tested
     → FirstsFit theirs.tested →
     (e : ℕ) (a b : Marks) → e < mine.elements → StandAt mine e a → StandAt theirs e b → StandAt joined e (merged a b)
 merged_at mine theirs joined whole words fit_a fit_b e a b below at_a at_b =
-    let low : 0 ≤ e / 64 = omega arith in
+    let many = words_for mine.elements in
+    let word = word_within e mine.elements below in
     record {
-      plain = ored_at 0 (words_for mine.elements) mine.plain.items theirs.plain.items joined.plain.items e _ _ low
-          (word_within e mine.elements below) words.plain at_a.plain at_b.plain;
-      by = λ op. by_at op mine theirs joined words e a b below at_a at_b;
+      plain = ored_at many _ _ _ e _ _ word words.plain at_a.plain at_b.plain;
+      by = λ op. ored_at many _ _ _ e _ _ word (words.operators op) (at_a.by op) (at_b.by op);
       tested = tested_at mine.elements e mine.tested theirs.tested joined.tested a b below whole.tested words.tested
           fit_a fit_b at_a.tested at_b.tested;
     }

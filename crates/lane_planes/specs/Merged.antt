@@ -1,12 +1,13 @@
 -- What planes are after others were merged into them, word by word. A page is 64 elements: it has one word of each
 -- plane of bits, and up to 64 of the numbers.
-use Rattle.std.specs.Prelude.{◌≡◌, ℕ, ◌*◌, ◌^◌, ◌<◌, ◌≤◌, min, max, List, ◌++◌, length, slice_index, bit_and, bit_or}
+use Rattle.std.specs.Prelude.{◌≡◌, ℕ, ◌*◌, ◌^◌, ◌<◌, ◌≤◌, min, List, ◌++◌, length, slice_index, bit_and, bit_or}
+use Rattle.array_maps.specs.declared.access.Op.{Op}
 use Rattle.loop_core_model.specs.Marks.{Visit, Marks, merged}
 use Rattle.shadow_marks.specs.declared.planes.{LrpdPlanes.{LrpdPlanes}, FlowPlanes.{FlowPlanes}, Tested.{Tested}}
 use Rattle.shadow_marks.specs.declared.planes.{Tested.TheVariants.{Lrpd, Flow}, OperatorPlanes.{OperatorPlanes}}
-use Rattle.shadow_marks.specs.{declared.planes.Planes.{Planes}, Standing.{StandAt, StandFor, words_for}}
+use Rattle.shadow_marks.specs.{declared.planes.Planes.{Planes}, Standing.{plane_by, StandAt, StandFor, words_for}}
 use Rattle.shadow_marks.specs.Ending.{KeepsShape}
-use Rattle.lane_planes.specs.Writes.{Writes}
+use Rattle.lane_planes.specs.{declared.kept.Kept.{Kept, TheVariants.{Lesser, Greater}}, Kept.{kept_of}, Writes.{Writes}}
 
 -- in the pages from one up to another each word is the one or the other
 abbrev pub Ored : (at upto : ℕ) (mine theirs joined : List ℕ) → Type 0
@@ -18,62 +19,10 @@ WrittenByTwo at upto mine theirs written also_written joined =
     Writes (λ i. bit_or (bit_or (slice_index mine i) (slice_index theirs i)) (bit_and (slice_index written i)
     (slice_index also_written i))) at upto mine joined
 
--- each number is the lesser, or the greater, of two
-abbrev pub Lesser : (at upto : ℕ) (mine theirs joined : List ℕ) → Type 0
-Lesser at upto mine theirs joined = Writes (λ i. min (slice_index mine i) (slice_index theirs i)) (64 * at)
-    (min (64 * upto) (length mine)) mine joined
-
-abbrev pub Greater : (at upto : ℕ) (mine theirs joined : List ℕ) → Type 0
-Greater at upto mine theirs joined = Writes (λ i. max (slice_index mine i) (slice_index theirs i)) (64 * at)
-    (min (64 * upto) (length mine)) mine joined
-
--- planes of one length each, so that they can be merged
-pub record SameLrpd (mine theirs : LrpdPlanes) : Type 0 where
-  pub written : length mine.written.items ≡ length theirs.written.items
-  pub written_by_two : length mine.written_by_two.items ≡ length theirs.written_by_two.items
-  pub once : length mine.written_by_two.items ≡ length mine.written.items
-  pub read_only : length mine.read_only.items ≡ length theirs.read_only.items
-  pub read_and_written : length mine.read_and_written.items ≡ length theirs.read_and_written.items
-
-pub record SameFlow (mine theirs : FlowPlanes) : Type 0 where
-  pub first : length mine.first.items ≡ length theirs.first.items
-  pub last : length mine.last.items ≡ length theirs.last.items
-
-pub record SameOperators (mine theirs : OperatorPlanes) : Type 0 where
-  pub add : length mine.add.items ≡ length theirs.add.items
-  pub or : length mine.or.items ≡ length theirs.or.items
-  pub and : length mine.and.items ≡ length theirs.and.items
-  pub xor : length mine.xor.items ≡ length theirs.xor.items
-  pub addh : length mine.addh.items ≡ length theirs.addh.items
-
-abbrev pub SameTested : Tested → Tested → Type 0
-SameTested (Lrpd mine) (Lrpd theirs) = SameLrpd mine theirs
-SameTested (Flow mine) (Flow theirs) = SameFlow mine theirs
-SameTested _ _ = ⊥
-
--- planes that have the pages from one up to another
-pub record LrpdReach (planes : LrpdPlanes) (upto : ℕ) : Type 0 where
-  pub written : upto ≤ length planes.written.items
-  pub written_by_two : upto ≤ length planes.written_by_two.items
-  pub read_only : upto ≤ length planes.read_only.items
-  pub read_and_written : upto ≤ length planes.read_and_written.items
-
-pub record FlowReach (planes : FlowPlanes) (at upto : ℕ) : Type 0 where
-  pub first_at : 64 * at ≤ length planes.first.items
-  pub first : upto ≤ words_for (length planes.first.items)
-  pub last_at : 64 * at ≤ length planes.last.items
-  pub last : upto ≤ words_for (length planes.last.items)
-
-pub record OperatorsReach (planes : OperatorPlanes) (upto : ℕ) : Type 0 where
-  pub add : upto ≤ length planes.add.items
-  pub or : upto ≤ length planes.or.items
-  pub and : upto ≤ length planes.and.items
-  pub xor : upto ≤ length planes.xor.items
-  pub addh : upto ≤ length planes.addh.items
-
-abbrev pub TestedReach : Tested → (at upto : ℕ) → Type 0
-TestedReach (Lrpd planes) at upto = LrpdReach planes upto
-TestedReach (Flow planes) at upto = FlowReach planes at upto
+-- of two numbers each is the one that is kept
+abbrev pub Keeps : Kept → (at upto : ℕ) (mine theirs joined : List ℕ) → Type 0
+Keeps kept at upto mine theirs joined = Writes (λ i. kept_of kept (slice_index mine i) (slice_index theirs i))
+    (64 * at) (min (64 * upto) (length mine)) mine joined
 
 -- first writers are numbers of 32 bits
 abbrev pub FirstsFit : Tested → Type 0
@@ -91,12 +40,9 @@ abbrev pub WordsFit : Tested → Type 0
 WordsFit tested = (planes : LrpdPlanes) → tested ≡ Lrpd planes → LrpdWordsFit planes
 
 -- in the pages from one up to another, the planes of the operators
-pub record MergedOperators (at upto : ℕ) (mine theirs joined : OperatorPlanes) : Type 0 where
-  pub add : Ored at upto mine.add.items theirs.add.items joined.add.items
-  pub or : Ored at upto mine.or.items theirs.or.items joined.or.items
-  pub and : Ored at upto mine.and.items theirs.and.items joined.and.items
-  pub xor : Ored at upto mine.xor.items theirs.xor.items joined.xor.items
-  pub addh : Ored at upto mine.addh.items theirs.addh.items joined.addh.items
+abbrev pub MergedOperators : (at upto : ℕ) (mine theirs joined : OperatorPlanes) → Type 0
+MergedOperators at upto mine theirs joined = (op : Op) → Ored at upto (plane_by mine op) (plane_by theirs op)
+    (plane_by joined op)
 
 -- the planes of one test
 pub record MergedLrpd (at upto : ℕ) (mine theirs joined : LrpdPlanes) : Type 0 where
@@ -108,8 +54,8 @@ pub record MergedLrpd (at upto : ℕ) (mine theirs joined : LrpdPlanes) : Type 0
       joined.read_and_written.items
 
 pub record MergedFlow (at upto : ℕ) (mine theirs joined : FlowPlanes) : Type 0 where
-  pub first : Lesser at upto mine.first.items theirs.first.items joined.first.items
-  pub last : Greater at upto mine.last.items theirs.last.items joined.last.items
+  pub first : Keeps Lesser at upto mine.first.items theirs.first.items joined.first.items
+  pub last : Keeps Greater at upto mine.last.items theirs.last.items joined.last.items
 
 abbrev pub MergedTested : (at upto : ℕ) → Tested → Tested → Tested → Type 0
 MergedTested at upto (Lrpd mine) (Lrpd theirs) (Lrpd joined) = MergedLrpd at upto mine theirs joined

@@ -1,10 +1,9 @@
 //! Planes of two disjoint sets of iterations, merged.
 
-ghost use Rattle.std.specs.Prelude.{◌≡◌, ◌*◌, ◌<◌, ◌≤◌};
-ghost use Rattle.shadow_marks.specs.Standing.{ArePlanes, test_of, words_for};
-ghost use Rattle.lane_planes.specs.Merged.{IsMerge, MergedOperators, MergedLrpd, MergedFlow, MergedTested, MergedPages};
-ghost use Rattle.lane_planes.specs.Merged.{SameOperators, SameTested, SameLrpd, SameFlow, OperatorsReach, TestedReach};
-ghost use Rattle.lane_planes.specs.Merged.{LrpdReach, FlowReach, FirstsFit};
+ghost use Rattle.std.specs.Prelude.{◌≡◌, ◌*◌, ◌<◌, ◌≤◌, length};
+ghost use Rattle.shadow_marks.specs.Standing.{ArePlanes, AreFlowPlanes, EachPlane, test_of, words_for};
+ghost use Rattle.lane_planes.specs.Merged.{IsMerge, MergedOperators, MergedLrpd, MergedFlow, MergedPages, FirstsFit};
+ghost use Rattle.lane_planes.specs.Conflicts.{LrpdFit};
 
 use crate::bits::{or_into, written_by_two_into};
 use crate::indices::keep_into;
@@ -51,9 +50,21 @@ pub(crate) fn merge_pages<const N: usize>(
         past,
     );
     merge_operators::<N>(&mut into.operators, &from.operators, first, past);
-    merge_tested::<N>(&mut into.tested, &from.tested, first, past);
+    match &mut into.tested {
+        Tested::Lrpd(mine) => {
+            if let Tested::Lrpd(theirs) = &from.tested {
+                merge_lrpd::<N>(mine, theirs, first, past);
+            }
+        }
+        Tested::Flow(mine) => {
+            if let Tested::Flow(theirs) = &from.tested {
+                merge_flow::<N>(mine, theirs, first, past);
+            }
+        }
+    }
 }
 
+/// Merges the planes of operators, which have as many words each.
 fn merge_operators<const N: usize>(
     into: &mut OperatorPlanes,
     from: &OperatorPlanes,
@@ -61,9 +72,10 @@ fn merge_operators<const N: usize>(
     past: usize,
 )
     requires lanes { (0 < N) × (N ≤ 64) }
-    requires same { SameOperators into.old from.now }
+    requires mine { EachPlane (λ words. length words ≡ length from.now.add.items) into.old }
+    requires theirs { EachPlane (λ words. length words ≡ length from.now.add.items) from.now }
     requires order { first ≤ past }
-    requires room { OperatorsReach into.old past }
+    requires room { past ≤ length from.now.add.items }
     ensures { MergedOperators first past into.old from.now into.new }
 {
     or_into::<N>(into.add.as_mut_slice(), from.add.as_slice(), first, past);
@@ -73,32 +85,12 @@ fn merge_operators<const N: usize>(
     or_into::<N>(into.addh.as_mut_slice(), from.addh.as_slice(), first, past);
 }
 
-fn merge_tested<const N: usize>(into: &mut Tested, from: &Tested, first: usize, past: usize)
-    requires lanes { (0 < N) × (N ≤ 64) }
-    requires same { SameTested into.old from.now }
-    requires order { first ≤ past }
-    requires room { TestedReach into.old first past }
-    ensures { MergedTested first past into.old from.now into.new }
-{
-    match into {
-        Tested::Lrpd(mine) => {
-            if let Tested::Lrpd(theirs) = from {
-                merge_lrpd::<N>(mine, theirs, first, past);
-            }
-        }
-        Tested::Flow(mine) => {
-            if let Tested::Flow(theirs) = from {
-                merge_flow::<N>(mine, theirs, first, past);
-            }
-        }
-    }
-}
-
 fn merge_lrpd<const N: usize>(into: &mut LrpdPlanes, from: &LrpdPlanes, first: usize, past: usize)
     requires lanes { (0 < N) × (N ≤ 64) }
-    requires same { SameLrpd into.old from.now }
+    requires mine { LrpdFit into.old (length from.now.written.items) }
+    requires theirs { LrpdFit from.now (length from.now.written.items) }
     requires order { first ≤ past }
-    requires room { LrpdReach into.old past }
+    requires room { past ≤ length from.now.written.items }
     ensures { MergedLrpd first past into.old from.now into.new }
 {
     written_by_two_into::<N>(
@@ -131,9 +123,11 @@ fn merge_lrpd<const N: usize>(into: &mut LrpdPlanes, from: &LrpdPlanes, first: u
 
 fn merge_flow<const N: usize>(into: &mut FlowPlanes, from: &FlowPlanes, first: usize, past: usize)
     requires lanes { (0 < N) × (N ≤ 64) }
-    requires same { SameFlow into.old from.now }
+    requires mine { AreFlowPlanes (length from.now.first.items) into.old }
+    requires theirs { AreFlowPlanes (length from.now.first.items) from.now }
+    requires start { 64 * first ≤ length from.now.first.items }
     requires order { first ≤ past }
-    requires room { FlowReach into.old first past }
+    requires room { past ≤ words_for (length from.now.first.items) }
     ensures { MergedFlow first past into.old from.now into.new }
 {
     keep_into::<N>(

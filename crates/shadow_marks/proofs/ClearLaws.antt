@@ -218,7 +218,7 @@ idle_visit index actions visits none =
     max_zero : (n : ℕ) → max 0 n ≡ n
     max_zero n = omega arith
 
-pub no_visit : (visits : List Visit) → (marks_of visits).plain ≡ false → ((op : Op) → (marks_of visits).by op ≡ false)
+no_visit : (visits : List Visit) → (marks_of visits).plain ≡ false → ((op : Op) → (marks_of visits).by op ≡ false)
     → marks_of visits ≡ no_marks
 no_visit [] plain by = refl
 no_visit (v ∷ visits) plain by =
@@ -229,7 +229,7 @@ no_visit (v ∷ visits) plain by =
     ∙ no_visit visits (right_false (list_any is_plain v.actions) (marks_of visits).plain plain)
     (λ op. right_false (list_any (reduces_by op) v.actions) ((marks_of visits).by op) (by op))
 
-unmarked_stand : (planes : Planes) (page e : ℕ) (visits : List Visit) → IsUnmarkedPage planes page → e / 64 ≡ page
+pub unmarked_stand : (planes : Planes) (page e : ℕ) (visits : List Visit) → IsUnmarkedPage planes page → e / 64 ≡ page
     → StandAt planes e (marks_of visits) → StandAt planes e no_marks
 unmarked_stand planes page e visits none here stand =
     subst (λ (marks : Marks). StandAt planes e marks)

@@ -1,4 +1,4 @@
-use Rattle.std.proofs.Common.{◌≡◌, ℕ, length, sym, ◌∙◌, subst, arith}
+use Rattle.std.proofs.Common.{◌≡◌, length, sym, ◌∙◌, subst, arith}
 use Rattle.shadow_marks.proofs.FoldLaws.{each_plane}
 use Rattle.lane_planes.{specs.Conflicts.{FailingWords}, proofs.ConflictLaws.{conflict_plane}}
 use Rattle.lane_planes.proofs.judging.leave_conflicts.Goals as goal

@@ -1,9 +1,18 @@
-use Rattle.lane_planes.proofs.SamePlanes.{same_operators, operators_reach}
+use Rattle.std.proofs.Common.{sym, ◌∙◌, ap, subst, ◌≤◌}
+use Rattle.array_maps.specs.declared.access.Op.TheVariants.{Add}
+use Rattle.shadow_marks.{specs.Standing.{words_for}, proofs.FoldLaws.{each_plane}}
 use Rattle.lane_planes.proofs.merging.merge_pages.Goals as goal
 
-pub merge_operators-requires-clause-same : goal.merge_operators-requires-clause-same
-merge_operators-requires-clause-same g c = same_operators c.args.into.now c.args.from.now c.requires.mine
-    c.requires.theirs c.requires.elements
+pub merge_operators-requires-clause-mine : goal.merge_operators-requires-clause-mine
+merge_operators-requires-clause-mine g c =
+    each_plane _ _ (λ op. (c.requires.mine.by op).count ∙ ap words_for c.requires.elements
+    ∙ sym (c.requires.theirs.by Add).count)
+
+pub merge_operators-requires-clause-theirs : goal.merge_operators-requires-clause-theirs
+merge_operators-requires-clause-theirs g c =
+    each_plane _ _ (λ op. (c.requires.theirs.by op).count ∙ sym (c.requires.theirs.by Add).count)
 
 pub merge_operators-requires-clause-room : goal.merge_operators-requires-clause-room
-merge_operators-requires-clause-room g c = operators_reach c.args.past c.args.into.now c.requires.mine c.requires.room
+merge_operators-requires-clause-room g c =
+    subst (λ n. c.args.past ≤ n) (ap words_for c.requires.elements ∙ sym (c.requires.theirs.by Add).count)
+    c.requires.room
