@@ -1,6 +1,6 @@
 //! One bit of a plane.
 
-ghost use Rattle.std.specs.Prelude.{◌≡◌, ◌/◌, ◌%◌, ◌^◌, ◌<◌, ◌&&◌, length};
+ghost use Rattle.std.specs.Prelude.{◌≡◌, ◌/◌, ◌%◌, ◌^◌, ◌<◌, length};
 ghost use Rattle.loop_core_model.specs.Planes.{bit_of};
 ghost use Rattle.shadow_marks.specs.Bits.{OrsBit};
 
@@ -11,15 +11,6 @@ pub fn is_set(words: &[u64], e: u32) -> bool
     ensures { result ≡ bit_of words.now e }
 {
     words[e as usize / 64] & mask(e) != 0
-}
-
-/// Whether a condition holds and an element's bit is set. Else the plane isn't looked at.
-#[inline]
-pub(crate) fn is_also_set(condition: bool, words: &[u64], e: u32) -> bool
-    requires { e / 64 < length words.now }
-    ensures { result ≡ (condition && bit_of words.now e) }
-{
-    condition && is_set(words, e)
 }
 
 /// Ors a bit into an element's. A bit that is set already isn't written again.

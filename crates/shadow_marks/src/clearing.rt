@@ -8,7 +8,7 @@ ghost use Rattle.shadow_marks.specs.{Ending.{KeepsShape}, Clearing.{TestedClears
 ghost use Rattle.shadow_marks.specs.Clearing.{ClearsBits, SetsNumbers, OperatorsClear, LrpdClears, FlowClears};
 
 use crate::iter_flags::IterFlags;
-use crate::planes::{FlowPlanes, LrpdPlanes, NO_WRITER, OperatorPlanes, Planes, Tested};
+use crate::planes::{NO_WRITER, OperatorPlanes, Planes, Tested};
 use loop_core_model::PAGE;
 
 impl Planes {
@@ -59,33 +59,17 @@ impl Tested {
         ensures { TestedClears self.old self.new page }
     {
         match self {
-            Tested::Lrpd(planes) => planes.clear_page(elements, page),
-            Tested::Flow(planes) => planes.clear_page(elements, page),
+            Tested::Lrpd(planes) => {
+                clear_bits(planes.written.as_mut_slice(), page);
+                clear_bits(planes.written_by_two.as_mut_slice(), page);
+                clear_bits(planes.read_only.as_mut_slice(), page);
+                clear_bits(planes.read_and_written.as_mut_slice(), page);
+            }
+            Tested::Flow(planes) => {
+                set_numbers(planes.first.as_mut_slice(), page, NO_WRITER);
+                set_numbers(planes.last.as_mut_slice(), page, 0);
+            }
         }
-    }
-}
-
-impl LrpdPlanes {
-    fn clear_page(&mut self, elements: usize, page: usize)
-        requires whole { AreLrpdPlanes elements self.old }
-        requires within { page < words_for elements }
-        ensures { LrpdClears self.old self.new page }
-    {
-        clear_bits(self.written.as_mut_slice(), page);
-        clear_bits(self.written_by_two.as_mut_slice(), page);
-        clear_bits(self.read_only.as_mut_slice(), page);
-        clear_bits(self.read_and_written.as_mut_slice(), page);
-    }
-}
-
-impl FlowPlanes {
-    fn clear_page(&mut self, elements: usize, page: usize)
-        requires whole { AreFlowPlanes elements self.old }
-        requires within { page < words_for elements }
-        ensures { FlowClears self.old self.new page }
-    {
-        set_numbers(self.first.as_mut_slice(), page, NO_WRITER);
-        set_numbers(self.last.as_mut_slice(), page, 0);
     }
 }
 

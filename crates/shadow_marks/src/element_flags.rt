@@ -1,6 +1,6 @@
 //! What the iteration under way did at one element.
 
-ghost use Rattle.std.specs.Prelude.{◌≡◌, false, not, ◌&&◌, ◌==◌, ◌^◌};
+ghost use Rattle.std.specs.Prelude.{◌≡◌, false, ◌==◌, ◌^◌};
 ghost use Rattle.array_maps.specs.declared.access.Op.{Op as Operator};
 ghost use Rattle.loop_core_model.specs.Flags.{flagged};
 ghost use Rattle.shadow_marks.specs.Kept.{bit_place, has_flag, flags_in, nothing_kept, with_flag, with_read};
@@ -62,22 +62,6 @@ impl ElementFlags {
         ensures { result ≡ false → (op : Operator) → (flags_in self).by op ≡ false }
     {
         self.bits & OPERATORS != 0
-    }
-
-    /// Whether the iteration has an exposed read of the element and doesn't write it.
-    #[inline]
-    pub(crate) fn reads_only(self) -> bool
-        ensures { result ≡ ((flags_in self).looked && not (flags_in self).wrote) }
-    {
-        self.has(Flag::Looked) && !self.has(Flag::Wrote)
-    }
-
-    /// Whether it has an exposed read of the element and writes it.
-    #[inline]
-    pub(crate) fn reads_and_writes(self) -> bool
-        ensures { result ≡ ((flags_in self).looked && (flags_in self).wrote) }
-    {
-        self.has(Flag::Looked) && self.has(Flag::Wrote)
     }
 
     /// The flags after one access more.

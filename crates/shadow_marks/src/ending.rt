@@ -1,17 +1,16 @@
 //! The end of an iteration: its flags come into the planes.
 
-ghost use Rattle.std.specs.Prelude.{◌≡◌, ◌+◌, ◌/◌, ◌<◌, ℕ, List, length, slice_index, min, max};
+ghost use Rattle.std.specs.Prelude.{◌≡◌, ◌+◌, ◌/◌, ◌<◌, ℕ, List, length};
 ghost use Rattle.array_maps.specs.Accesses.{Action};
 ghost use Rattle.loop_core_model.specs.Marks.{Visit, Marks, marks_of_one, merged};
 ghost use Rattle.shadow_marks.specs.{Iteration.{element_count, flags_at, AreFlagsOf, IsEmptied}, Kept.{flags_in}};
 ghost use Rattle.shadow_marks.specs.Standing.{EachPlane, ArePlanes, StandAt, StandFor, one_more};
-ghost use Rattle.shadow_marks.specs.{Bits.{ChangesNumber}, Ending.{OperatorsFold, KeepsShape, Folds}};
-ghost use Rattle.shadow_marks.specs.Ending.{LrpdHave, FlowHave, TestedHave, LrpdFolds, FlowFolds, TestedFolds};
+ghost use Rattle.shadow_marks.specs.Ending.{OperatorsFold, KeepsShape, Folds, TestedHave, TestedFolds};
 
-use crate::bits::{is_also_set, or_bit};
+use crate::bits::{is_set, or_bit};
 use crate::element_flags::{ElementFlags, Flag};
 use crate::iter_flags::IterFlags;
-use crate::planes::{FlowPlanes, LrpdPlanes, NO_WRITER, OperatorPlanes, Planes, Tested};
+use crate::planes::{NO_WRITER, OperatorPlanes, Planes, Tested};
 use array_maps::Op;
 
 impl Planes {
@@ -75,61 +74,25 @@ impl Tested {
         requires index { index < NO_WRITER }
         ensures { TestedFolds self.old self.new e (flags_in kept) index }
     {
+        let wrote = kept.has(Flag::Wrote);
+        let looked = kept.has(Flag::Looked);
         match self {
-            Tested::Lrpd(planes) => planes.fold(e, kept),
-            Tested::Flow(planes) => planes.fold(e, kept, index),
+            Tested::Lrpd(planes) => {
+                let by_two = wrote && is_set(&planes.written, e);
+                or_bit(&mut planes.written_by_two, e, by_two);
+                or_bit(&mut planes.written, e, wrote);
+                or_bit(&mut planes.read_only, e, looked && !wrote);
+                or_bit(&mut planes.read_and_written, e, looked && wrote);
+            }
+            Tested::Flow(planes) => {
+                let e = e as usize;
+                if wrote {
+                    planes.first[e] = planes.first[e].min(index);
+                }
+                if looked {
+                    planes.last[e] = planes.last[e].max(index + 1);
+                }
+            }
         }
-    }
-}
-
-impl LrpdPlanes {
-    #[inline]
-    fn fold(&mut self, e: u32, kept: ElementFlags)
-        requires { LrpdHave self.old e }
-        ensures { LrpdFolds self.old self.new e (flags_in kept) }
-    {
-        let by_two = is_also_set(kept.has(Flag::Wrote), &self.written, e);
-        or_bit(&mut self.written_by_two, e, by_two);
-        or_bit(&mut self.written, e, kept.has(Flag::Wrote));
-        or_bit(&mut self.read_only, e, kept.reads_only());
-        or_bit(&mut self.read_and_written, e, kept.reads_and_writes());
-    }
-}
-
-impl FlowPlanes {
-    #[inline]
-    fn fold(&mut self, e: u32, kept: ElementFlags, index: u32)
-        requires have { FlowHave self.old e }
-        requires index { index < NO_WRITER }
-        ensures { FlowFolds self.old self.new e (flags_in kept) index }
-    {
-        if kept.has(Flag::Wrote) {
-            keep_least(&mut self.first, e, index);
-        }
-        if kept.has(Flag::Looked) {
-            keep_greatest(&mut self.last, e, index + 1);
-        }
-    }
-}
-
-/// Keeps the lesser of an element's number and another.
-#[inline]
-fn keep_least(numbers: &mut [u32], e: u32, number: u32)
-    requires { e < length numbers.old }
-    ensures { ChangesNumber numbers.old numbers.new e (min (slice_index numbers.old e) number) }
-{
-    if number < numbers[e as usize] {
-        numbers[e as usize] = number;
-    }
-}
-
-/// Keeps the greater of an element's number and another.
-#[inline]
-fn keep_greatest(numbers: &mut [u32], e: u32, number: u32)
-    requires { e < length numbers.old }
-    ensures { ChangesNumber numbers.old numbers.new e (max (slice_index numbers.old e) number) }
-{
-    if number > numbers[e as usize] {
-        numbers[e as usize] = number;
     }
 }
