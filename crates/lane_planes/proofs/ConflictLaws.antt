@@ -1,6 +1,6 @@
 -- A plane of conflicts says what the marks tell.
 use Rattle.std.proofs.Common.{◌≡◌, ℕ, zero, suc, ◌+◌, ◌-◌, ◌*◌, ◌/◌, ◌%◌, ◌<◌, ◌≤◌, min, false, List}
-use Rattle.std.{proofs.Common.{length, refl, sym, ◌∙◌, ap, ⊎_elim, arith}, specs.List.{filter, range_with_len}}
+use Rattle.std.{proofs.Common.{length, sym, ◌∙◌, ap, ⊎_elim, arith}, specs.List.{filter, range_with_len}}
 use Rattle.std.{specs.Prelude.{◌==◌, ◌&&◌, ◌||◌, not, nat_lt, slice_index, bit_and}, proofs.Math.Bool.{and_comm}}
 use Rattle.std.proofs.lemmas.{Bool.{cases_lt}, List.{get_or_past}, Nat.Bits.{bit_at-zero, bit_at_above}}
 use Rattle.array_maps.specs.declared.access.Op.TheVariants.{Add, Or, And, Xor, AddH}
@@ -11,7 +11,8 @@ use Rattle.shadow_marks.specs.declared.planes.{Tested.{Tested, TheVariants.{Lrpd
 use Rattle.shadow_marks.specs.declared.planes.LrpdPlanes.{LrpdPlanes}
 use Rattle.shadow_marks.specs.Standing.{ArePlanes, AreTested, StandAt, StandFor, TestedStandAt, test_of, words_for}
 use Rattle.lane_planes.specs.{Words.{stands_at}}
-use Rattle.lane_planes.specs.Conflicts.{lrpd_word, words_by, FailingWords, LastsFit, OperatorWordsFit, ConflictWords, IsConflictPlane}
+use Rattle.lane_planes.specs.{Merged.{NumbersFit}}
+use Rattle.lane_planes.specs.Conflicts.{lrpd_word, words_by, FailingWords, OperatorWordsFit, ConflictWords, IsConflictPlane}
 use Rattle.lane_planes.proofs.{BitMeaning.{bit, bit-and, bit-or}, MergeLaws.{word_within}}
 use Rattle.lane_planes.proofs.ReductionLaws.{marked_bit, clear_bit}
 
@@ -33,7 +34,7 @@ lrpd_bit planes e =
     (e % 64) i)
 
 failing_at : (elements many e : ℕ) (tested : Tested) (failing : List ℕ) (marks : Marks) → e < elements
-    → many ≡ words_for elements → AreTested elements tested → LastsFit tested →
+    → many ≡ words_for elements → AreTested elements tested → NumbersFit tested →
     FailingWords tested many failing → TestedStandAt tested e marks → bit_of failing e ≡ marked_fails (test_of tested)
     marks
 failing_at elements many e (Lrpd planes) failing marks below words whole fit fails at =
@@ -45,7 +46,7 @@ failing_at elements many e (Flow planes) failing marks below words whole fit fai
     let long : length planes.first.items ≡ elements = whole.first in
     let small : e % 64 < min (length planes.first.items - 64 * (e / 64)) 64 = omega arith in
     let here : 64 * (e / 64) + e % 64 ≡ e = omega arith in
-    let last_fits = fit planes refl e in
+    let last_fits = fit.last e in
     let last_is : slice_index planes.last.items e ≡ marks.last = at.last in
     let last_small : marks.last ≤ 4294967296 = omega arith in
     (fails.each (e / 64) within).each (e % 64) small
@@ -70,7 +71,7 @@ failing_past elements many e (Flow planes) failing out within whole fails =
     (e % 64) (fails.each (e / 64) within).below above)
 
 conflict_at : (planes : Planes) (words : List ℕ) → ArePlanes planes → length words ≡ words_for planes.elements
-    → OperatorWordsFit planes (length words) → LastsFit planes.tested → ConflictWords planes words →
+    → OperatorWordsFit planes (length words) → NumbersFit planes.tested → ConflictWords planes words →
     (e : ℕ) (marks : Marks) → e < planes.elements → StandAt planes e marks
     → bit_of words e ≡ marked_conflict (test_of planes.tested) marks
 conflict_at planes words whole long words_fit lasts_fit are e marks below at =
@@ -112,7 +113,7 @@ conflict_elements planes words long each past visits stand =
     (λ e below. each e (marks_of (visits e)) below (stand.marks e below)) (λ e out within. past e out)
 
 pub conflict_plane : (planes : Planes) (words : List ℕ) → ArePlanes planes → length words ≡ words_for planes.elements
-    → OperatorWordsFit planes (length words) → LastsFit planes.tested → ConflictWords planes words
+    → OperatorWordsFit planes (length words) → NumbersFit planes.tested → ConflictWords planes words
     → IsConflictPlane planes words
 conflict_plane planes words whole long words_fit lasts_fit are =
     let marks = conflict_at planes words whole long words_fit lasts_fit are in

@@ -8,8 +8,8 @@ use Rattle.loop_core_model.specs.{Marks.{no_marks}, Planes.{bit_of}}
 use Rattle.shadow_marks.specs.declared.planes.{FlowPlanes.{FlowPlanes}, Tested.{Tested, TheVariants.{Lrpd, Flow}}}
 use Rattle.shadow_marks.{specs.declared.planes.Planes.{Planes}, proofs.ClearLaws.{never, unmarked_stand}}
 use Rattle.shadow_marks.specs.Standing.{IsBitPlane, AreTested, TestedStandAt, IsUnmarkedPage}
-use Rattle.lane_planes.{specs.{Words.{HasBits, stands_at}, Merged.{StandForSome, WordsFit}}, proofs.BitMeaning.{bit}}
-use Rattle.lane_planes.proofs.PageLaws.{FlowIdle, TestedIdle, IsIdle}
+use Rattle.lane_planes.{specs.{Words.{HasBits, stands_at}, Merged.{StandForSome, NumbersFit}}, proofs.BitMeaning.{bit}}
+use Rattle.lane_planes.proofs.PageLaws.{TestedIdle, IsIdle}
 
 unset : (x : ℕ) → x < 2 → (x == 1) ≡ false → x ≡ 0
 unset zero small h = refl
@@ -37,19 +37,16 @@ module _ (elements page : ℕ) where
       zero_word words page fits (λ e here. ⊎_elim (λ (below : e < elements). each e here below)
       (λ (out : elements ≤ e). whole.past e out) (cases_lt e elements))
 
-  idle_tested : (tested : Tested) → AreTested elements tested → WordsFit tested
+  idle_tested : (tested : Tested) → AreTested elements tested → NumbersFit tested
       → ((e : ℕ) → e / 64 ≡ page → e < elements → TestedStandAt tested e no_marks) → TestedIdle tested page
-  idle_tested (Lrpd planes) whole fit stand =
-      let fits = fit planes refl in
-      record {
-        written = clear_plane _ whole.written (λ e here below. (stand e here below).written) (fits.written page);
-        written_by_two = clear_plane _ whole.written_by_two (λ e here below. (stand e here below).written_by_two)
-            (fits.written_by_two page);
-        read_only = clear_plane _ whole.read_only (λ e here below. (stand e here below).read_only)
-            (fits.read_only page);
-        read_and_written = clear_plane _ whole.read_and_written
-            (λ e here below. (stand e here below).read_and_written) (fits.read_and_written page);
-      }
+  idle_tested (Lrpd planes) whole fit stand = record {
+    written = clear_plane _ whole.written (λ e here below. (stand e here below).written) (fit.written page);
+    written_by_two = clear_plane _ whole.written_by_two (λ e here below. (stand e here below).written_by_two)
+        (fit.written_by_two page);
+    read_only = clear_plane _ whole.read_only (λ e here below. (stand e here below).read_only) (fit.read_only page);
+    read_and_written = clear_plane _ whole.read_and_written (λ e here below. (stand e here below).read_and_written)
+        (fit.read_and_written page);
+  }
   idle_tested (Flow planes) whole fit stand = record {
     first = λ e here inside. (stand e here (subst (λ n. e < n) whole.first inside)).first;
     last = λ e here inside. (stand e here (subst (λ n. e < n) whole.last inside)).last;
@@ -57,7 +54,7 @@ module _ (elements page : ℕ) where
 
 -- in a page that no iteration touched nothing is marked
 pub untouched_idle : (planes : Planes) (page : ℕ) → StandForSome planes → IsUnmarkedPage planes page
-    → WordsFit planes.tested → IsIdle planes page
+    → NumbersFit planes.tested → IsIdle planes page
 untouched_idle planes page some untouched fit = record {
   unmarked = untouched;
   tested = idle_tested planes.elements page planes.tested some.stand.whole.tested fit
@@ -65,9 +62,6 @@ untouched_idle planes page some untouched fit = record {
 }
 
 -- so none of its elements has a first writer before a last reader
-flow_has_no_words : (planes : Planes) (flow : FlowPlanes) → planes.tested ≡ Flow flow → WordsFit planes.tested
-flow_has_no_words planes flow is others other = let bad : Flow flow ≡ Lrpd others = sym is ∙ other in absurd (cc)
-
 none_below : (first : ℕ) → nat_lt first (0 - 1) ≡ false
 none_below first = grind arith
 
@@ -83,17 +77,17 @@ pub untouched_word : (planes : Planes) (flow : FlowPlanes) (page : ℕ) → plan
     HasBits (min (length flow.first.items - 64 * page) 64) (λ k. stands_at flow.first.items flow.last.items
     (64 * page + k)) 0
 untouched_word planes flow page is some untouched =
-    let idle : FlowIdle flow page =
-    subst (λ t. TestedIdle t page) is (untouched_idle planes page some untouched (flow_has_no_words planes flow
-    is)).tested in
     let whole : AreTested planes.elements (Flow flow) = subst (AreTested planes.elements) is some.stand.whole.tested in
-    let same : length flow.first.items ≡ length flow.last.items = whole.first ∙ sym whole.last in
+    let long : length flow.first.items ≡ planes.elements = whole.first in
     no_bits (min (length flow.first.items - 64 * page) 64) (λ k. stands_at flow.first.items flow.last.items
     (64 * page + k))
     (λ k small.
     let here : (64 * page + k) / 64 ≡ page = omega arith in
-    let inside : 64 * page + k < length flow.last.items = omega arith in
-    ap (λ n. nat_lt (slice_index flow.first.items (64 * page + k)) (n - 1)) (idle.last (64 * page + k) here inside)
+    let below : 64 * page + k < planes.elements = omega arith in
+    let none : TestedStandAt (Flow flow) (64 * page + k) no_marks =
+    subst (λ t. TestedStandAt t (64 * page + k) no_marks) is (unmarked_stand planes page (64 * page + k)
+    (some.visits (64 * page + k)) untouched here (some.stand.marks (64 * page + k) below)).tested in
+    ap (λ n. nat_lt (slice_index flow.first.items (64 * page + k)) (n - 1)) none.last
     ∙ none_below (slice_index flow.first.items (64 * page + k)))
 
 -- a page more

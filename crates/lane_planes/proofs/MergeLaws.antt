@@ -1,12 +1,12 @@
 -- Merged planes have merged marks.
-use Rattle.std.proofs.Common.{◌≡◌, ℕ, ◌*◌, ◌/◌, ◌%◌, ◌<◌, ◌≤◌, min, max, Bool, List, length, refl, sym, ◌∙◌, ap, subst}
+use Rattle.std.proofs.Common.{◌≡◌, ℕ, ◌*◌, ◌/◌, ◌%◌, ◌<◌, ◌≤◌, min, max, Bool, List, length, sym, ◌∙◌, ap, subst}
 use Rattle.std.{proofs.Common.{arith}, specs.Prelude.{◌&&◌, ◌||◌, slice_index, bit_and, bit_or}}
 use Rattle.loop_core_model.specs.{Marks.{Visit, Marks, marks_of, merged, first_number}, Planes.{bit_of}}
 use Rattle.loop_core_model.proofs.MarkLaws.{first_is_number, marks_merge}
 use Rattle.shadow_marks.specs.declared.planes.{Tested.{Tested, TheVariants.{Lrpd, Flow}}, Planes.{Planes}}
 use Rattle.shadow_marks.specs.Standing.{ArePlanes, AreTested, StandAt, StandFor, TestedStandAt, words_for}
 use Rattle.shadow_marks.specs.Ending.{KeepsShape}
-use Rattle.lane_planes.specs.Merged.{Ored, FirstsFit, MergedPlanes, MergedTested, joined_visits}
+use Rattle.lane_planes.specs.Merged.{Ored, NumbersFit, MergedPlanes, MergedTested, joined_visits}
 use Rattle.lane_planes.proofs.BitMeaning.{bit, bit-and, bit-or}
 
 -- the word of an element is there
@@ -31,7 +31,7 @@ ored_at many mine theirs joined e p q within ored is_p is_q =
 
 tested_at : (elements e : ℕ) (mine theirs joined : Tested) (a b : Marks) → e < elements → AreTested elements mine
     → MergedTested 0 (words_for elements) mine theirs joined →
-    FirstsFit mine → FirstsFit theirs → TestedStandAt mine e a → TestedStandAt theirs e b
+    NumbersFit mine → NumbersFit theirs → TestedStandAt mine e a → TestedStandAt theirs e b
     → TestedStandAt joined e (merged a b)
 tested_at elements e (Lrpd mine) (Lrpd theirs) (Lrpd joined) a b below whole words fit_a fit_b at_a at_b =
     let word = word_within e elements below in
@@ -51,15 +51,15 @@ tested_at elements e (Flow mine) (Flow theirs) (Flow joined) a b below whole wor
       first = words.first.written e (omega arith) in_first ∙ ap (λ n. min n (slice_index theirs.first.items e))
           at_a.first ∙ ap (min (first_number a.first)) at_b.first
           ∙ sym (first_is_number.lesser_is a.first b.first
-          (subst (λ n. n ≤ 4294967295) at_a.first (fit_a mine refl e)) (subst (λ n. n ≤ 4294967295) at_b.first
-          (fit_b theirs refl e)));
+          (subst (λ n. n ≤ 4294967295) at_a.first (fit_a.first e)) (subst (λ n. n ≤ 4294967295) at_b.first
+          (fit_b.first e)));
       last = words.last.written e (omega arith) in_last ∙ ap (λ n. max n (slice_index theirs.last.items e)) at_a.last
           ∙ ap (max a.last) at_b.last;
     }
 tested_at elements e _ _ _ a b below whole words fit_a fit_b at_a at_b = absurd words
 
-pub merged_at : (mine theirs joined : Planes) → ArePlanes mine → MergedPlanes mine theirs joined → FirstsFit mine.tested
-    → FirstsFit theirs.tested →
+pub merged_at : (mine theirs joined : Planes) → ArePlanes mine → MergedPlanes mine theirs joined → NumbersFit mine.tested
+    → NumbersFit theirs.tested →
     (e : ℕ) (a b : Marks) → e < mine.elements → StandAt mine e a → StandAt theirs e b → StandAt joined e (merged a b)
 merged_at mine theirs joined whole words fit_a fit_b e a b below at_a at_b =
     let many = words_for mine.elements in

@@ -6,7 +6,7 @@ use Rattle.shadow_marks.specs.declared.planes.{Tested.TheVariants.{Lrpd, Flow}}
 use Rattle.shadow_marks.specs.{declared.planes.Planes.{Planes}, Standing.{ArePlanes, AreTested, IsUnmarkedPage}}
 use Rattle.shadow_marks.specs.Standing.{test_of}
 use Rattle.lane_planes.specs.{declared.kept.Kept.{Kept, TheVariants.{Lesser, Greater}}, Kept.{kept_of}, Writes.{Writes}}
-use Rattle.lane_planes.specs.Merged.{Ored, WrittenByTwo, Keeps, FirstsFit, MergedTested, MergedPages}
+use Rattle.lane_planes.specs.Merged.{Ored, WrittenByTwo, Keeps, NumbersFit, MergedTested, MergedPages}
 use Rattle.lane_planes.proofs.Writing.{writes_none, writes_same, writes_on}
 
 -- what is written at an index
@@ -149,7 +149,7 @@ module _ (page : ℕ) where
       (λ e late within. idle e late (omega arith) (omega arith))
 
   tested_idle : (elements : ℕ) (mine theirs mid : Tested) → AreTested elements mine → AreTested elements theirs
-      → 64 * page ≤ elements → FirstsFit mine → TestedIdle theirs page →
+      → 64 * page ≤ elements → NumbersFit mine → TestedIdle theirs page →
       MergedTested 0 page mine theirs mid → MergedTested page (page + 1) mid theirs mid
   tested_idle elements (Lrpd mine) (Lrpd theirs) (Lrpd mid) a b start fit idle before = record {
     written = ored_idle _ _ idle.written;
@@ -160,7 +160,7 @@ module _ (page : ℕ) where
   tested_idle elements (Flow mine) (Flow theirs) (Flow mid) a b start fit idle before = record {
     first = keeps_idle Lesser _ _ (before.first.long ∙ a.first ∙ sym b.first)
         (λ e late here inside.
-        let small = fit mine refl e in
+        let small = fit.first e in
         let was = before.first.above e (omega arith) in
         let none = idle.first e here inside in
         omega (arith, small, was, none));
@@ -171,7 +171,7 @@ module _ (page : ℕ) where
 
   -- a page more, as it stands
   pub merged_idle : (mine theirs mid : Planes) → ArePlanes mine → ArePlanes theirs → mine.elements ≡ theirs.elements
-      → 64 * page ≤ mine.elements → FirstsFit mine.tested → IsIdle theirs page →
+      → 64 * page ≤ mine.elements → NumbersFit mine.tested → IsIdle theirs page →
       MergedPages 0 page mine theirs mid → MergedPages 0 (page + 1) mine theirs mid
   merged_idle mine theirs mid a b same start fit idle before =
       merged_on page (page + 1) (omega arith) mine theirs mid mid a start before (record {

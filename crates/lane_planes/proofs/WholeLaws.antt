@@ -4,7 +4,7 @@ use Rattle.std.{specs.Prelude.{slice_index}, proofs.lemmas.Bool.{cases_lt}}
 use Rattle.shadow_marks.specs.declared.planes.{Tested.{Tested}, Planes.{Planes}}
 use Rattle.shadow_marks.specs.{declared.planes.Tested.TheVariants.{Lrpd, Flow}, Ending.{KeepsShape}}
 use Rattle.shadow_marks.specs.Standing.{IsBitPlane, ArePlanes, AreTested, plane_by, test_of, words_for}
-use Rattle.lane_planes.specs.{Writes.{Writes}, Merged.{Ored, WrittenByTwo, FirstsFit, MergedPages, MergedPlanes}}
+use Rattle.lane_planes.specs.{Writes.{Writes}, Merged.{Ored, WrittenByTwo, NumbersFit, MergedPages, MergedPlanes}}
 use Rattle.lane_planes.{specs.Merged.{MergedTested, IsMerge}, proofs.BitMeaning.{bit}}
 use Rattle.lane_planes.proofs.MergeLaws.{either_bit, two_bit, merged_at, joined_stand}
 
@@ -78,7 +78,7 @@ merge_keeps at upto mine theirs joined a b same words = record {
 }
 
 pub merges : (mine theirs joined : Planes) → ArePlanes mine → ArePlanes theirs → mine.elements ≡ theirs.elements
-    → FirstsFit mine.tested → FirstsFit theirs.tested → MergedPlanes mine theirs joined → IsMerge mine theirs joined
+    → NumbersFit mine.tested → NumbersFit theirs.tested → MergedPlanes mine theirs joined → IsMerge mine theirs joined
 merges mine theirs joined a b same fit_a fit_b words =
     let shape = merge_keeps 0 (words_for mine.elements) mine theirs joined a b same words in
     let marks = merged_at mine theirs joined a words fit_a fit_b in

@@ -1,5 +1,5 @@
 -- What a plane of conflicts is, word by word.
-use Rattle.std.specs.Prelude.{◌≡◌, ℕ, ◌+◌, ◌/◌, ◌^◌, ◌<◌, ◌≤◌, List, [], ◌∷◌, length, slice_index, bit_and, bit_or}
+use Rattle.std.specs.Prelude.{◌≡◌, ℕ, ◌+◌, ◌/◌, ◌^◌, ◌<◌, List, [], ◌∷◌, length, slice_index, bit_and, bit_or}
 use Rattle.std.specs.List.{filter, range_with_len}
 use Rattle.loop_core_model.specs.{Marks.{Visit, Marks, marks_of, marked_conflict}, Planes.{bit_of, elements_in_plane}}
 use Rattle.shadow_marks.specs.declared.planes.{LrpdPlanes.{LrpdPlanes}, FlowPlanes.{FlowPlanes}, Tested.{Tested}}
@@ -64,9 +64,6 @@ pub record IsConflictPlane (planes : Planes) (told : List ℕ) : Type 0 where
   pub elements : (visits : ℕ → List Visit) → StandFor planes visits → elements_in_plane told
       ≡ filter (λ e. marked_conflict (test_of planes.tested) (marks_of (visits e))) (range_with_len 0 planes.elements)
 
--- last readers, and the words of the operators' planes, are numbers of 32 and of 64 bits
-abbrev pub LastsFit : Tested → Type 0
-LastsFit tested = (planes : FlowPlanes) → tested ≡ Flow planes → (e : ℕ) → slice_index planes.last.items e ≤ 4294967295
-
+-- the words of the operators' planes have 64 bits
 abbrev pub OperatorWordsFit : Planes → (many : ℕ) → Type 0
 OperatorWordsFit planes many = (i : ℕ) → i < many → in_some (words_by planes.operators i) < 2 ^ 64

@@ -24,20 +24,20 @@ abbrev pub Keeps : Kept → (at upto : ℕ) (mine theirs joined : List ℕ) → 
 Keeps kept at upto mine theirs joined = Writes (λ i. kept_of kept (slice_index mine i) (slice_index theirs i))
     (64 * at) (min (64 * upto) (length mine)) mine joined
 
--- first writers are numbers of 32 bits
-abbrev pub FirstsFit : Tested → Type 0
-FirstsFit tested = (planes : FlowPlanes) → tested ≡ Flow planes → (e : ℕ) → slice_index planes.first.items e
-    ≤ 4294967295
-
--- and words have 64 bits
+-- first writers and last readers are numbers of 32 bits, and words have 64
 pub record LrpdWordsFit (planes : LrpdPlanes) : Type 0 where
   pub written : (i : ℕ) → slice_index planes.written.items i < 2 ^ 64
   pub written_by_two : (i : ℕ) → slice_index planes.written_by_two.items i < 2 ^ 64
   pub read_only : (i : ℕ) → slice_index planes.read_only.items i < 2 ^ 64
   pub read_and_written : (i : ℕ) → slice_index planes.read_and_written.items i < 2 ^ 64
 
-abbrev pub WordsFit : Tested → Type 0
-WordsFit tested = (planes : LrpdPlanes) → tested ≡ Lrpd planes → LrpdWordsFit planes
+pub record FlowNumbersFit (planes : FlowPlanes) : Type 0 where
+  pub first : (e : ℕ) → slice_index planes.first.items e ≤ 4294967295
+  pub last : (e : ℕ) → slice_index planes.last.items e ≤ 4294967295
+
+abbrev pub NumbersFit : Tested → Type 0
+NumbersFit (Lrpd planes) = LrpdWordsFit planes
+NumbersFit (Flow planes) = FlowNumbersFit planes
 
 -- in the pages from one up to another, the planes of the operators
 abbrev pub MergedOperators : (at upto : ℕ) (mine theirs joined : OperatorPlanes) → Type 0

@@ -1,6 +1,6 @@
 //! Where the flow test fails: a first writer before a last reader.
 
-ghost use Rattle.std.specs.Prelude.{◌≡◌, ℕ, ◌+◌, ◌/◌, ◌<◌, ◌≤◌, length, slice_index};
+ghost use Rattle.std.specs.Prelude.{◌≡◌, ℕ, ◌+◌, ◌/◌, ◌<◌, ◌≤◌, length};
 ghost use Rattle.lane_planes.specs.Words.{FlowWords, HasBits, stands_at};
 
 use crate::loading::numbers_at;
@@ -11,8 +11,7 @@ pub(crate) fn flow_into<const N: usize>(into: &mut [u64], first: &[u32], last: &
     requires lanes { (0 < N) × (N ≤ 64) }
     requires same { length first.now ≡ length last.now }
     requires words { length into.old ≡ (length first.now + 63) / 64 }
-    ensures words { FlowWords (length into.old) first.now last.now into.new }
-    ensures fit { (e : ℕ) → slice_index last.now e ≤ 4294967295 }
+    ensures { FlowWords (length into.old) first.now last.now into.new }
 {
     for word in 0..into.len() {
         let from = 64 * word;

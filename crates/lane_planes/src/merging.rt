@@ -2,13 +2,13 @@
 
 ghost use Rattle.std.specs.Prelude.{◌≡◌, ◌*◌, ◌<◌, ◌≤◌, length};
 ghost use Rattle.shadow_marks.specs.Standing.{ArePlanes, AreFlowPlanes, EachPlane, test_of, words_for};
-ghost use Rattle.lane_planes.specs.Merged.{IsMerge, MergedOperators, MergedLrpd, MergedFlow, MergedPages, FirstsFit};
+ghost use Rattle.lane_planes.specs.Merged.{IsMerge, MergedOperators, MergedLrpd, MergedFlow, MergedPages, NumbersFit};
 ghost use Rattle.lane_planes.specs.Conflicts.{LrpdFit};
 
 use crate::bits::{or_into, written_by_two_into};
 use crate::indices::keep_into;
 use crate::kept::Kept;
-use crate::loading::are_numbers;
+use crate::loading::{are_numbers, are_words};
 use shadow_marks::{FlowPlanes, LrpdPlanes, OperatorPlanes, Planes, Tested};
 
 /// Merges planes of other iterations into these, in vectors of N lanes. Both are for the same number of
@@ -21,8 +21,8 @@ pub fn merge<const N: usize>(into: &mut Planes, from: &Planes)
     requires test { test_of into.old.tested ≡ test_of from.now.tested }
     ensures { IsMerge into.old from.now into.new }
 {
-    are_firsts(&into.tested);
-    are_firsts(&from.tested);
+    have_numbers(&into.tested);
+    have_numbers(&from.tested);
     merge_pages::<N>(into, from, 0, from.plain.len());
 }
 
@@ -43,12 +43,7 @@ pub(crate) fn merge_pages<const N: usize>(
     requires room { past ≤ words_for into.old.elements }
     ensures { MergedPages first past into.old from.now into.new }
 {
-    or_into::<N>(
-        into.plain.as_mut_slice(),
-        from.plain.as_slice(),
-        first,
-        past,
-    );
+    or_into::<N>(&mut into.plain, &from.plain, first, past);
     merge_operators::<N>(&mut into.operators, &from.operators, first, past);
     match &mut into.tested {
         Tested::Lrpd(mine) => {
@@ -78,11 +73,11 @@ fn merge_operators<const N: usize>(
     requires room { past ≤ length from.now.add.items }
     ensures { MergedOperators first past into.old from.now into.new }
 {
-    or_into::<N>(into.add.as_mut_slice(), from.add.as_slice(), first, past);
-    or_into::<N>(into.or.as_mut_slice(), from.or.as_slice(), first, past);
-    or_into::<N>(into.and.as_mut_slice(), from.and.as_slice(), first, past);
-    or_into::<N>(into.xor.as_mut_slice(), from.xor.as_slice(), first, past);
-    or_into::<N>(into.addh.as_mut_slice(), from.addh.as_slice(), first, past);
+    or_into::<N>(&mut into.add, &from.add, first, past);
+    or_into::<N>(&mut into.or, &from.or, first, past);
+    or_into::<N>(&mut into.and, &from.and, first, past);
+    or_into::<N>(&mut into.xor, &from.xor, first, past);
+    or_into::<N>(&mut into.addh, &from.addh, first, past);
 }
 
 fn merge_lrpd<const N: usize>(into: &mut LrpdPlanes, from: &LrpdPlanes, first: usize, past: usize)
@@ -94,28 +89,18 @@ fn merge_lrpd<const N: usize>(into: &mut LrpdPlanes, from: &LrpdPlanes, first: u
     ensures { MergedLrpd first past into.old from.now into.new }
 {
     written_by_two_into::<N>(
-        into.written_by_two.as_mut_slice(),
-        from.written_by_two.as_slice(),
-        into.written.as_slice(),
-        from.written.as_slice(),
+        &mut into.written_by_two,
+        &from.written_by_two,
+        &into.written,
+        &from.written,
         first,
         past,
     );
+    or_into::<N>(&mut into.written, &from.written, first, past);
+    or_into::<N>(&mut into.read_only, &from.read_only, first, past);
     or_into::<N>(
-        into.written.as_mut_slice(),
-        from.written.as_slice(),
-        first,
-        past,
-    );
-    or_into::<N>(
-        into.read_only.as_mut_slice(),
-        from.read_only.as_slice(),
-        first,
-        past,
-    );
-    or_into::<N>(
-        into.read_and_written.as_mut_slice(),
-        from.read_and_written.as_slice(),
+        &mut into.read_and_written,
+        &from.read_and_written,
         first,
         past,
     );
@@ -130,27 +115,24 @@ fn merge_flow<const N: usize>(into: &mut FlowPlanes, from: &FlowPlanes, first: u
     requires room { past ≤ words_for (length from.now.first.items) }
     ensures { MergedFlow first past into.old from.now into.new }
 {
-    keep_into::<N>(
-        Kept::Lesser,
-        into.first.as_mut_slice(),
-        from.first.as_slice(),
-        first,
-        past,
-    );
-    keep_into::<N>(
-        Kept::Greater,
-        into.last.as_mut_slice(),
-        from.last.as_slice(),
-        first,
-        past,
-    );
+    keep_into::<N>(Kept::Lesser, &mut into.first, &from.first, first, past);
+    keep_into::<N>(Kept::Greater, &mut into.last, &from.last, first, past);
 }
 
-/// Tells that first writers are below 2^32. Nothing is computed.
-pub(crate) fn are_firsts(tested: &Tested)
-    ensures { FirstsFit tested.now }
+/// Tells that the numbers and words of planes fit their types. Nothing is computed.
+pub(crate) fn have_numbers(tested: &Tested)
+    ensures { NumbersFit tested.now }
 {
-    if let Tested::Flow(planes) = tested {
-        are_numbers(planes.first.as_slice());
+    match tested {
+        Tested::Lrpd(planes) => {
+            are_words(&planes.written);
+            are_words(&planes.written_by_two);
+            are_words(&planes.read_only);
+            are_words(&planes.read_and_written);
+        }
+        Tested::Flow(planes) => {
+            are_numbers(&planes.first);
+            are_numbers(&planes.last);
+        }
     }
 }

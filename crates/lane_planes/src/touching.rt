@@ -3,13 +3,12 @@
 ghost use Rattle.std.specs.Prelude.{◌≡◌, ◌+◌, ◌-◌, ◌*◌, ◌<◌, ◌≤◌, ℕ, min, length, slice_index};
 ghost use Rattle.shadow_marks.specs.declared.planes.Tested.TheVariants.{Flow};
 ghost use Rattle.shadow_marks.specs.Standing.{ArePlanes, test_of, words_for};
-ghost use Rattle.lane_planes.specs.{Words.{FlowWords, HasBits, stands_at}, Merged.{IsMerge, StandForSome, WordsFit}};
+ghost use Rattle.lane_planes.specs.{Words.{FlowWords, HasBits, stands_at}, Merged.{IsMerge, StandForSome}};
 ghost use Rattle.lane_planes.specs.Conflicts.{IsConflictPlane};
 
 use crate::flow::flow_word;
 use crate::judging::{failing_into, leave_conflicts};
-use crate::loading::{are_numbers, are_words};
-use crate::merging::{are_firsts, merge_pages};
+use crate::merging::{have_numbers, merge_pages};
 use shadow_marks::{FlowPlanes, Planes, Tested};
 
 /// Merges planes of other iterations into these as `merge` does, but goes only over the pages of 64 elements that
@@ -23,9 +22,8 @@ pub fn merge_touched<const N: usize>(into: &mut Planes, from: &Planes)
     requires test { test_of into.old.tested ≡ test_of from.now.tested }
     ensures { IsMerge into.old from.now into.new }
 {
-    are_firsts(&into.tested);
-    are_firsts(&from.tested);
-    have_words(&from.tested);
+    have_numbers(&into.tested);
+    have_numbers(&from.tested);
     let mut page = 0;
     while page < from.plain.len() {
         if from.is_marked(page) {
@@ -59,10 +57,8 @@ fn flow_where_touched<const N: usize>(planes: &Planes, flow: &FlowPlanes, into: 
     requires stand { StandForSome planes.now }
     requires tested { planes.now.tested ≡ Flow flow.now }
     requires words { length into.old ≡ words_for planes.now.elements }
-    ensures words { FlowWords (length into.old) flow.now.first.items flow.now.last.items into.new }
-    ensures fit { (e : ℕ) → slice_index flow.now.last.items e ≤ 4294967295 }
+    ensures { FlowWords (length into.old) flow.now.first.items flow.now.last.items into.new }
 {
-    are_numbers(flow.last.as_slice());
     for page in 0..into.len() {
         into[page] = touched_word::<N>(planes, flow, page);
     }
@@ -99,16 +95,4 @@ fn touched_up_to(planes: &Planes, page: usize) -> usize
         past += 1;
     }
     past
-}
-
-/// Tells that words are below 2^64. Nothing is computed.
-fn have_words(tested: &Tested)
-    ensures { WordsFit tested.now }
-{
-    if let Tested::Lrpd(planes) = tested {
-        are_words(planes.written.as_slice());
-        are_words(planes.written_by_two.as_slice());
-        are_words(planes.read_only.as_slice());
-        are_words(planes.read_and_written.as_slice());
-    }
 }

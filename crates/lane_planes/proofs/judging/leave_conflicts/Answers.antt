@@ -12,7 +12,7 @@ returns g c =
     let cleared = c.clear_reductions.ensures.words in
     let long : length c.clear_reductions.new.into ≡ length c.args.into.now = cleared.long in
     conflict_plane c.args.planes.now _ c.requires.whole (long ∙ c.requires.words)
-    (λ i small. c.clear_reductions.ensures.fit i (omega (arith, small, long))) c.requires.fit
+    (λ i small. c.clear_reductions.ensures.fit i (omega (arith, small, long))) c.have_numbers.ensures
     (record {
       failing = c.args.into.now;
       fails = subst (λ n. FailingWords c.args.planes.now.tested n c.args.into.now) (sym long) c.requires.failing;

@@ -10,5 +10,5 @@ returns g c =
     let pages : c.len.result ≡ words_for c.args.into.now.elements =
     first_of (search rules, omega (arith, count, long, c.requires.elements, c.len.ensures)) in
     merges c.args.into.now c.args.from.now c.merge_pages.new.into c.requires.mine c.requires.theirs c.requires.elements
-    c.are_firsts.ensures c.are_firsts-2.ensures
+    c.have_numbers.ensures c.have_numbers-2.ensures
     (subst (λ n. MergedPages 0 n c.args.into.now c.args.from.now c.merge_pages.new.into) pages c.merge_pages.ensures)

@@ -31,11 +31,11 @@ loop-page-preserved g c =
     first_of (search rules, omega (arith, count, long, c.loop-page-test.true)) in
     let start : 64 * c.loop-page.page ≤ c.args.into.now.elements = omega (arith, below, c.requires.elements) in
     let idle = untouched_idle c.args.from.now page c.requires.theirs (c.is_marked.ensures.0 c.if-is_marked.false)
-    c.have_words.ensures in
+    c.have_numbers-2.ensures in
     record {
       within = omega (arith, below);
       words = merged_idle page c.args.into.now c.args.from.now c.loop-page.into c.requires.mine
-          c.requires.theirs.stand.whole c.requires.elements start c.are_firsts.ensures idle c.loop-page.invariant.words;
+          c.requires.theirs.stand.whole c.requires.elements start c.have_numbers.ensures idle c.loop-page.invariant.words;
     }
 
 pub returns : goal.returns
@@ -47,5 +47,5 @@ returns g c =
     let all : c.loop-page.page ≡ words_for c.args.into.now.elements =
     first_of (search rules, omega (arith, count, long, within, c.requires.elements, c.loop-page-test.false)) in
     merges c.args.into.now c.args.from.now c.loop-page.into c.requires.mine theirs c.requires.elements
-    c.are_firsts.ensures c.are_firsts-2.ensures
+    c.have_numbers.ensures c.have_numbers-2.ensures
     (subst (λ n. MergedPages 0 n c.args.into.now c.args.from.now c.loop-page.into) all c.loop-page.invariant.words)
