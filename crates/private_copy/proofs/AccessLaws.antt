@@ -8,9 +8,10 @@ use Rattle.array_maps.specs.Accesses.{Action, Read, left_by}
 use Rattle.loop_core_model.specs.{Actions.{is_write}, Flags.{kind_of, flagged}, declared.access.Access.{Access as Kind}}
 use Rattle.loop_core_model.specs.declared.access.Access.TheVariants.{Read as Reads}
 use Rattle.shadow_marks.specs.Iteration.{element_count, flags_at}
-use Rattle.private_copy.specs.declared.page.{Combining.{Combining, TheVariants.{Mixed}}, Cell.{Cell}}
+use Rattle.private_copy.specs.declared.page.{Combining.{Combining, TheVariants.{Mixed as MixedCell}}, Cell.{Cell}}
+use Rattle.private_copy.specs.declared.reduction.Reduction.{Reduction, TheVariants.{Untouched, By, Mixed}}
 use Rattle.private_copy.specs.{declared.private.Private.{Private}, Reductions.{reduction_after}}
-use Rattle.private_copy.specs.Cells.{PlacedPages, cell_at, blank, blank_cells, mixed_cell, reduction_in}
+use Rattle.private_copy.specs.Cells.{PlacedPages, cell_at, blank, blank_cells, mixed_cell, left_cell, reduction_in}
 use Rattle.private_copy.specs.{Copies.{last_after, Accessed}, Shown.{copy_of, seen_word, last_in}}
 use Rattle.private_copy.specs.Steps.{IsAdmitted, CellIsSet}
 
@@ -105,21 +106,29 @@ accessed old mid new e kind action kept admitted keeps inside is_kind sees lasts
 pub last_own : (cell : Cell) → cell.writer ≢ 0 → last_in cell ≡ Some cell.value
 last_own cell written = ap (λ (b : Bool). if b then None else Some cell.value) (ne_eqb cell.writer 0 written)
 
+-- and what was combined there
+kept_reduction : (value number : ℕ) (reduction : Reduction) → reduction_in (left_cell value number reduction)
+    ≡ reduction
+kept_reduction value number Untouched = refl
+kept_reduction value number (By op combined) = refl
+kept_reduction value number Mixed = refl
+
 -- an access that leaves a word
-pub leaves : (old mid new : Private) (e : ℕ) (kind : Kind) (action : Action) (kept : Cell) →
-    IsAdmitted old e kind mid → CellIsSet mid e kept new → e < length (copy_of old).words →
-    kind ≡ kind_of action → is_write action ≡ true → kept.writer ≡ mid.begun
-    → kept.value ≡ left_by action (slice_index (copy_of old).words e) →
-    reduction_in kept ≡ reduction_after (reduction_in (cell_at old.pages e)) action →
+pub leaves : (old mid new : Private) (e : ℕ) (kind : Kind) (action : Action) (value : ℕ) (reduction : Reduction) →
+    IsAdmitted old e kind mid → CellIsSet mid e (left_cell value mid.begun reduction) new
+    → e < length (copy_of old).words → kind ≡ kind_of action → is_write action ≡ true
+    → value ≡ left_by action (slice_index (copy_of old).words e) →
+    reduction ≡ reduction_after (reduction_in (cell_at old.pages e)) action →
     Accessed (copy_of old) (record { element = e; action = action }) (copy_of new)
-leaves old mid new e kind action kept admitted keeps inside is_kind writing own is reduces =
+leaves old mid new e kind action value reduction admitted keeps inside is_kind writing is reduces =
     let some : 0 < mid.begun = admitted.some in
+    let kept : Cell = left_cell value mid.begun reduction in
     accessed old mid new e kind action kept admitted keeps inside is_kind
-    (seen_own kept old.begun (slice_index old.start.now e) (own ∙ admitted.begun) ∙ is)
-    (last_own kept (λ none. omega (arith, some, own, none)) ∙ ap Some is
+    (seen_own kept old.begun (slice_index old.start.now e) admitted.begun ∙ is)
+    (last_own kept (λ none. omega (arith, some, none)) ∙ ap Some is
     ∙ ap (λ (b : Bool). if b then Some (left_by action (slice_index (copy_of old).words e))
     else last_in (cell_at old.pages e)) (sym writing))
-    reduces
+    (kept_reduction value mid.begun reduction ∙ reduces)
 
 -- an access that reads
 pub reads : (old mid new : Private) (e saw : ℕ) (cell : Cell) → IsAdmitted old e Reads mid → cell ≡ cell_at old.pages e
@@ -150,7 +159,7 @@ words_small p k d inside =
     go false h w = w
 
 -- a cell that is mixed already is kept as it is
-pub stays_mixed : (p : Private) (e : ℕ) (cell : Cell) → cell ≡ cell_at p.pages e → cell.combining ≡ Mixed
+pub stays_mixed : (p : Private) (e : ℕ) (cell : Cell) → cell ≡ cell_at p.pages e → cell.combining ≡ MixedCell
     → CellIsSet p e (mixed_cell cell) p
 stays_mixed p e cell is mixed = record {
   start = refl;

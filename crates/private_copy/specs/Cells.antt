@@ -14,9 +14,25 @@ blank = record { value = 0; combined = 0; writer = 0; combining = Untouched }
 abbrev pub mixed_cell : Cell → Cell
 mixed_cell cell = record { value = cell.value; combined = cell.combined; writer = cell.writer; combining = Mixed }
 
--- the cell of an element at which a plain access by the iteration of a number left a value
-abbrev pub left_cell : (value number : ℕ) → Cell
-left_cell value number = record { value = value; combined = 0; writer = number; combining = Mixed }
+-- how a cell keeps what reduces combined: by which operator, and the operands combined
+abbrev pub combining_of : Reduction → Combining
+combining_of NoReduction = Untouched
+combining_of (ReducedBy op combined) = By op
+combining_of MixedReduction = Mixed
+
+abbrev pub combined_of : Reduction → ℕ
+combined_of NoReduction = 0
+combined_of (ReducedBy op combined) = combined
+combined_of MixedReduction = 0
+
+-- the cell of an element at which the iteration of a number left a value, with what its reduces combined
+abbrev pub left_cell : (value number : ℕ) → Reduction → Cell
+left_cell value number reduction = record {
+  value = value;
+  combined = combined_of reduction;
+  writer = number;
+  combining = combining_of reduction;
+}
 
 -- what reduces combined
 abbrev pub reduction_by : Combining → ℕ → Reduction

@@ -1,22 +1,10 @@
 //! Pages that are taken back.
 
 ghost use Rattle.std.specs.Prelude.{◌≡◌, ℕ, [], None};
-ghost use Rattle.private_copy.specs.{Cells.{total_of, cell_at, blank, blank_page}, Clearing.{AreSpare}};
+ghost use Rattle.private_copy.specs.{Cells.{total_of, cell_at, blank}, Clearing.{AreSpare}};
 
-use crate::page::{Combining, Page};
+use crate::page::Page;
 use crate::pages::Pages;
-
-impl Page {
-    /// Makes all cells those of elements that weren't accessed.
-    fn clear(&mut self)
-        ensures { self.new ≡ blank_page }
-    {
-        self.values = [0; 64];
-        self.combined = [0; 64];
-        self.writers = [0; 64];
-        self.combining = [Combining::Untouched; 64];
-    }
-}
 
 impl Pages {
     /// Takes all placed pages back: none is placed then, and they are spare ones.
@@ -44,7 +32,7 @@ fn take_back(place: &mut Option<Box<Page>>, spare: &mut Vec<Option<Box<Page>>>)
     ensures spare { AreSpare spare.new.items }
 {
     if let Some(mut page) = place.take() {
-        page.clear();
+        *page = Page::blank();
         let _kept = spare.push(Some(page));
     }
 }

@@ -1,7 +1,7 @@
 //! A page: what is kept of 64 elements.
 
-ghost use Rattle.std.specs.{Prelude.{◌≡◌, ◌==◌, true, None, Some, if◌then◌else◌}, Option.{unwrap_or}};
-ghost use Rattle.private_copy.specs.Cells.{reduction_in};
+ghost use Rattle.std.specs.{Prelude.{◌≡◌, ◌==◌, None, Some, if◌then◌else◌}, Option.{unwrap_or}};
+ghost use Rattle.private_copy.specs.Cells.{left_cell, reduction_in};
 
 use crate::reduction::Reduction;
 use array_maps::Op;
@@ -47,48 +47,22 @@ pub(crate) struct Page {
     pub(crate) combining: [Combining; 64],
 }
 
-impl Combining {
-    ghost use Rattle.private_copy.specs.declared.page.Combining.TheVariants.{Mixed};
-
-    /// Whether there was a plain access, or there were reduces by different operators.
-    #[inline]
-    pub(crate) fn is_mixed(self) -> bool
-        ensures { result ≡ true → self ≡ Mixed }
-    {
-        match self {
-            Combining::Mixed => true,
-            Combining::Untouched | Combining::By(_) => false,
-        }
-    }
-}
-
 impl Cell {
-    /// The cell of an element at which a reduce by the iteration of a number left a value.
+    /// The cell of an element at which the iteration of a number left a value, with what its reduces combined.
     #[inline]
-    pub(crate) fn after_reduce(value: u64, writer: u32, reduction: Reduction) -> Cell
-        ensures value { result.value ≡ value }
-        ensures writer { result.writer ≡ writer }
-        ensures reduction { reduction_in result ≡ reduction }
+    pub(crate) fn left(value: u64, writer: u32, reduction: Reduction) -> Cell
+        ensures { result ≡ left_cell value writer reduction }
     {
-        match reduction {
-            Reduction::Untouched => Cell {
-                value,
-                combined: 0,
-                writer,
-                combining: Combining::Untouched,
-            },
-            Reduction::By(op, combined) => Cell {
-                value,
-                combined,
-                writer,
-                combining: Combining::By(op),
-            },
-            Reduction::Mixed => Cell {
-                value,
-                combined: 0,
-                writer,
-                combining: Combining::Mixed,
-            },
+        let (combining, combined) = match reduction {
+            Reduction::Untouched => (Combining::Untouched, 0),
+            Reduction::By(op, combined) => (Combining::By(op), combined),
+            Reduction::Mixed => (Combining::Mixed, 0),
+        };
+        Cell {
+            value,
+            combined,
+            writer,
+            combining,
         }
     }
 

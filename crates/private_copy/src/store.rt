@@ -4,6 +4,7 @@ ghost use Rattle.std.specs.Prelude.{◌≡◌, ◌/◌, ◌^◌, ◌<◌, ◌≤
 
 use crate::page::{Cell, Combining};
 use crate::private::Private;
+use crate::reduction::Reduction;
 use array_maps::{Half, Op, Part, Rmw, Store, combine, exchange, part_of, with_half};
 use loop_core_model::Access;
 
@@ -29,30 +30,27 @@ impl<'a> Store for Private<'a> {
 
     fn store(&mut self, e: u32, value: u64) {
         self.admit(e, Access::Write);
-        self.leave(e, value);
+        self.keep(e, value, Reduction::Mixed);
     }
 
     fn update(&mut self, e: u32, op: Op, operand: u64) {
         let (cell, word) = self.admit(e, Access::Reduce(op));
-        let writer = self.begun;
-        self.keep(
-            e,
-            Cell::after_reduce(
-                combine(op, word, operand),
-                writer,
-                cell.reduction().with(op, operand),
-            ),
-        );
+        let reduction = cell.reduction().with(op, operand);
+        self.keep(e, combine(op, word, operand), reduction);
     }
 
     fn store_half(&mut self, e: u32, half: Half, value: u32) {
         let (_, word) = self.admit(e, Access::Both);
-        self.leave(e, with_half(half, word, value as u64));
+        self.keep(e, with_half(half, word, value as u64), Reduction::Mixed);
     }
 
     fn fetch(&mut self, e: u32, part: Part, rmw: Rmw, value: u64, compare: u64) -> u64 {
         let (_, old) = self.admit(e, Access::Both);
-        self.leave(e, exchange(part, rmw, old, value, compare));
+        self.keep(
+            e,
+            exchange(part, rmw, old, value, compare),
+            Reduction::Mixed,
+        );
         part_of(part, old)
     }
 
@@ -95,40 +93,19 @@ impl<'a> Private<'a> {
         requires cell { cell ≡ cell_at self.old.pages e }
         ensures { CellIsSet self.old e (mixed_cell cell) self.new }
     {
-        let mixed = cell.combining.is_mixed();
-        if mixed {
+        if let Combining::Mixed = cell.combining {
             return;
         }
         self.pages.mark_mixed(e);
     }
 
-    /// Keeps a word that the iteration leaves at an element by a plain access.
+    /// Keeps a word that the iteration leaves at an element, and what the element's reduces combined.
     #[inline]
-    fn leave(&mut self, e: u32, value: u64)
+    fn keep(&mut self, e: u32, value: u64, reduction: Reduction)
         requires within { e < length self.old.start.now }
         requires placed { has_page self.old.pages.order (page_of e) ≡ true }
-        ensures { CellIsSet self.old e (left_cell value self.old.begun) self.new }
+        ensures { CellIsSet self.old e (left_cell value self.old.begun reduction) self.new }
     {
-        let writer = self.begun;
-        self.keep(
-            e,
-            Cell {
-                value,
-                combined: 0,
-                writer,
-                combining: Combining::Mixed,
-            },
-        );
-    }
-
-    /// Keeps the cell of an element.
-    #[inline]
-    fn keep(&mut self, e: u32, cell: Cell)
-        requires within { e < length self.old.start.now }
-        requires placed { has_page self.old.pages.order (page_of e) ≡ true }
-        requires writer { cell.writer ≤ self.old.begun }
-        ensures { CellIsSet self.old e cell self.new }
-    {
-        self.pages.set(e, cell);
+        self.pages.set(e, Cell::left(value, self.begun, reduction));
     }
 }

@@ -2,9 +2,9 @@ use Rattle.std.proofs.Common.{refl, sym, ◌∙◌, ap}
 use Rattle.private_copy.{specs.Cells.{mixed_cell}, proofs.AccessLaws.{stays_mixed}}
 use Rattle.private_copy.proofs.private.Private.mark_mixed.Goals as goal
 
-pub returns-then-mixed : goal.returns-then-mixed
-returns-then-mixed c = stays_mixed c.args.self.now c.args.e c.args.cell c.requires.cell
-    (c.is_mixed-mixed.ensures c.if-mixed.true)
+pub returns-in-Mixed : goal.returns-in-Mixed
+returns-in-Mixed c = stays_mixed c.args.self.now c.args.e c.args.cell c.requires.cell
+    c.in-Mixed.is
 
 pub returns : goal.returns
 returns c = record {

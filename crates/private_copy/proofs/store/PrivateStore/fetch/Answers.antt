@@ -1,7 +1,7 @@
 use Rattle.std.{proofs.Common.{◌∙◌, ap, refl}, specs.Prelude.{slice_index}}
 use Rattle.array_maps.specs.Accesses.{ReadWrite, exchanged}
 use Rattle.loop_core_model.specs.declared.access.Access.TheVariants.{Both}
-use Rattle.private_copy.{specs.{Cells.{left_cell}, Shown.{copy_of}}, proofs.AccessLaws.{in_range, leaves}}
+use Rattle.private_copy.{specs.{declared.reduction.Reduction.TheVariants.{Mixed}, Shown.{copy_of}}, proofs.AccessLaws.{in_range, leaves}}
 use Rattle.private_copy.proofs.store.PrivateStore.fetch.Goals as goal
 
 pub admit-old-requires-clause-within : goal.admit-old-requires-clause-within
@@ -10,9 +10,8 @@ admit-old-requires-clause-within c = in_range c.args.self.now c.args.e c.require
 pub returns-clause-done : goal.returns-clause-done
 returns-clause-done c =
     let word = slice_index (copy_of c.args.self.now).words c.args.e in
-    leaves c.args.self.now c.admit-old.new.self c.leave.new.self c.args.e Both
+    leaves c.args.self.now c.admit-old.new.self c.keep.new.self c.args.e Both
     (ReadWrite word (exchanged c.args.part c.args.rmw word c.args.value c.args.compare))
-    (left_cell c.exchange.result c.admit-old.new.self.begun)
-    c.admit-old.ensures.admitted c.leave.ensures c.requires.within refl refl refl
+    c.exchange.result Mixed c.admit-old.ensures.admitted c.keep.ensures c.requires.within refl refl
     (c.exchange.ensures ∙ ap (λ w. exchanged c.args.part c.args.rmw w c.args.value c.args.compare)
     c.admit-old.ensures.word) refl

@@ -1,7 +1,7 @@
 use Rattle.std.proofs.Common.{refl}
 use Rattle.array_maps.specs.Accesses.{Write}
 use Rattle.loop_core_model.specs.declared.access.Access.TheVariants.{Write as Writes}
-use Rattle.private_copy.{specs.Cells.{left_cell}, proofs.AccessLaws.{in_range, leaves}}
+use Rattle.private_copy.{specs.declared.reduction.Reduction.TheVariants.{Mixed}, proofs.AccessLaws.{in_range, leaves}}
 use Rattle.private_copy.proofs.store.PrivateStore.store.Goals as goal
 
 pub admit-requires-clause-within : goal.admit-requires-clause-within
@@ -9,7 +9,6 @@ admit-requires-clause-within c = in_range c.args.self.now c.args.e c.requires.wi
 
 pub returns : goal.returns
 returns c = record {
-  done = leaves c.args.self.now c.admit.new.self c.leave.new.self c.args.e Writes (Write c.args.value)
-      (left_cell c.args.value c.admit.new.self.begun) c.admit.ensures.admitted c.leave.ensures
-      c.requires.within refl refl refl refl refl;
+  done = leaves c.args.self.now c.admit.new.self c.keep.new.self c.args.e Writes (Write c.args.value) c.args.value
+      Mixed c.admit.ensures.admitted c.keep.ensures c.requires.within refl refl refl refl;
 }

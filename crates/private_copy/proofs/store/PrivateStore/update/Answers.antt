@@ -11,11 +11,9 @@ admit-word-requires-clause-within c = in_range c.args.self.now c.args.e c.requir
 pub returns : goal.returns
 returns c = record {
   done = leaves c.args.self.now c.admit-word.new.self c.keep.new.self c.args.e (Reduces c.args.op)
-      (Reduce c.args.op c.args.operand) c.after_reduce.result
-      c.admit-word.ensures.admitted c.keep.ensures c.requires.within refl refl c.after_reduce.ensures.writer
-      (c.after_reduce.ensures.value ∙ c.combine.ensures ∙ ap (λ w. combined c.args.op w c.args.operand)
-      c.admit-word.ensures.word)
-      (c.after_reduce.ensures.reduction ∙ c.with.ensures
-      ∙ ap (λ (r : Reduction). reduced r c.args.op c.args.operand) (c.reduction.ensures
+      (Reduce c.args.op c.args.operand) c.combine.result c.with-reduction.result
+      c.admit-word.ensures.admitted c.keep.ensures c.requires.within refl refl
+      (c.combine.ensures ∙ ap (λ w. combined c.args.op w c.args.operand) c.admit-word.ensures.word)
+      (c.with-reduction.ensures ∙ ap (λ (r : Reduction). reduced r c.args.op c.args.operand) (c.reduction.ensures
       ∙ ap reduction_in c.admit-word.ensures.cell));
 }
