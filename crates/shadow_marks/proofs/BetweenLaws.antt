@@ -1,11 +1,7 @@
 -- Elements that follow each other.
-use Rattle.std.{proofs.Common.{◌≡◌, ℕ, ◌<◌, ◌≤◌, Bool, true, false, ◌&&◌, not, refl, ◌∙◌, ap}, specs.Prelude.{nat_lt}}
-use Rattle.std.proofs.lemmas.Bool.{lt-ltb, le-ltb}
+use Rattle.std.{proofs.Common.{◌≡◌, ℕ, ◌<◌, ◌≤◌, Bool, true, false, ◌&&◌, not, ◌∙◌, ap}, specs.Prelude.{nat_lt}}
+use Rattle.std.proofs.{Math.Bool.{and-false}, lemmas.Bool.{lt-ltb, le-ltb}}
 use Rattle.shadow_marks.specs.Runs.{is_between}
-
-and_none : (b : Bool) → (b && false) ≡ false
-and_none true = refl
-and_none false = refl
 
 pub between_in : (first past e : ℕ) → first ≤ e → e < past → is_between first past e ≡ true
 between_in first past e up under =
@@ -16,4 +12,4 @@ between_below first past e below = ap (λ (b : Bool). not b && nat_lt e past) (l
 
 pub between_above : (first past e : ℕ) → past ≤ e → is_between first past e ≡ false
 between_above first past e above =
-    ap (λ (b : Bool). not (nat_lt e first) && b) (le-ltb e past above) ∙ and_none (not (nat_lt e first))
+    ap (λ (b : Bool). not (nat_lt e first) && b) (le-ltb e past above) ∙ and-false (not (nat_lt e first))

@@ -1,13 +1,14 @@
 -- Marks are taken away page by page.
-use Rattle.std.proofs.Common.{◌≡◌, ◌≢◌, ℕ, ◌↔◌, ◌+◌, ◌/◌, ◌%◌, ◌<◌, ◌≤◌, max, Bool, true, false, not, ◌||◌, eqb}
+use Rattle.std.proofs.Common.{◌≡◌, ◌≢◌, ℕ, ◌↔◌, ◌+◌, ◌/◌, ◌%◌, ◌<◌, ◌≤◌, Bool, true, false, not, ◌||◌, eqb}
 use Rattle.std.proofs.Common.{List, [], ◌∷◌, length, set, get_or, inl, inr, refl, sym, ◌∙◌, ap, subst, arith}
 use Rattle.std.{proofs.Common.{length-set, get_or-set_same, get_or-set_other}, specs.{Int.{bit_at}, List.{list_any}}}
 use Rattle.std.specs.{Prelude.{slice_index, bit_or}}
 use Rattle.std.proofs.lemmas.{Bool.{cases_eq, true≢false, Decides.{nat_tests}}}
-use Rattle.std.proofs.lemmas.Nat.{le_or_l, le_or_r, Bits.{bit_at-zero}}
+use Rattle.std.proofs.{Math.Nat.{zero-max}, lemmas.Nat.{le_or_l, le_or_r, Bits.{bit_at-zero}}}
 use Rattle.array_maps.specs.declared.access.Op.{Op, TheVariants.{Add, Or, And, Xor, AddH}}
 use Rattle.array_maps.specs.Accesses.{Action, Read, Write, ReadWrite, Reduce}
 use Rattle.loop_core_model.specs.{Actions.{is_same, reduces_by}, Flags.{is_plain}, Planes.{bit_of}}
+use Rattle.loop_core_model.proofs.OneElement.{is_same-refl}
 use Rattle.loop_core_model.specs.Marks.{Visit, Marks, no_marks, last_reader, marks_of}
 use Rattle.shadow_marks.specs.declared.planes.Tested.{Tested, TheVariants.{Lrpd as ByLrpd, Flow as ByFlow}}
 use Rattle.shadow_marks.specs.{declared.planes.Planes.{Planes}, Standing.{StandAt, StandFor, IsUnmarkedPage, no_visits}}
@@ -52,18 +53,16 @@ tested_whole elements (ByLrpd old) (ByLrpd new) page clears are = record {
   read_only = cleared_plane elements _ _ page clears.read_only are.read_only;
   read_and_written = cleared_plane elements _ _ page clears.read_and_written are.read_and_written;
 }
-tested_whole elements (ByLrpd old) (ByFlow new) page clears are = absurd clears
-tested_whole elements (ByFlow old) (ByLrpd new) page clears are = absurd clears
 tested_whole elements (ByFlow old) (ByFlow new) page clears are = record {
   first = clears.first.count ∙ are.first;
   last = clears.last.count ∙ are.last;
 }
+tested_whole elements _ _ page clears are = absurd clears
 
 tested_test : (old new : Tested) (page : ℕ) → TestedClears old new page → test_of new ≡ test_of old
 tested_test (ByLrpd old) (ByLrpd new) page clears = refl
-tested_test (ByLrpd old) (ByFlow new) page clears = absurd clears
-tested_test (ByFlow old) (ByLrpd new) page clears = absurd clears
 tested_test (ByFlow old) (ByFlow new) page clears = refl
+tested_test _ _ page clears = absurd clears
 
 tested_here : (elements : ℕ) (old new : Tested) (page e : ℕ) → e < elements → e / 64 ≡ page → AreTested elements old
     → TestedClears old new page → TestedStandAt new e no_marks
@@ -73,12 +72,11 @@ tested_here elements (ByLrpd old) (ByLrpd new) page e below is are clears = reco
   read_only = clears.read_only.here e is;
   read_and_written = clears.read_and_written.here e is;
 }
-tested_here elements (ByLrpd old) (ByFlow new) page e below is are clears = absurd clears
-tested_here elements (ByFlow old) (ByLrpd new) page e below is are clears = absurd clears
 tested_here elements (ByFlow old) (ByFlow new) page e below is are clears = record {
   first = clears.first.here e (let long = are.first in omega (arith, below, long)) is;
   last = clears.last.here e (let long = are.last in omega (arith, below, long)) is;
 }
+tested_here elements _ _ page e below is are clears = absurd clears
 
 tested_there : (old new : Tested) (page e : ℕ) (marks : Marks) → e / 64 ≢ page → TestedClears old new page
     → TestedStandAt old e marks → TestedStandAt new e marks
@@ -88,12 +86,11 @@ tested_there (ByLrpd old) (ByLrpd new) page e marks other clears stand = record 
   read_only = clears.read_only.others e other ∙ stand.read_only;
   read_and_written = clears.read_and_written.others e other ∙ stand.read_and_written;
 }
-tested_there (ByLrpd old) (ByFlow new) page e marks other clears stand = absurd clears
-tested_there (ByFlow old) (ByLrpd new) page e marks other clears stand = absurd clears
 tested_there (ByFlow old) (ByFlow new) page e marks other clears stand = record {
   first = clears.first.others e other ∙ stand.first;
   last = clears.last.others e other ∙ stand.last;
 }
+tested_there _ _ page e marks other clears stand = absurd clears
 
 -- all planes, each cleared in its way
 pub record EachClears (old new : Planes) (page : ℕ) : Type 0 where
@@ -184,13 +181,6 @@ right_false : (a b : Bool) → (a || b) ≡ false → b ≡ false
 right_false true b h = absurd (never true refl h)
 right_false false b h = h
 
-same_op : (op : Op) → is_same op op ≡ true
-same_op Add = refl
-same_op Or = refl
-same_op And = refl
-same_op Xor = refl
-same_op AddH = refl
-
 no_action : (actions : List Action) → list_any is_plain actions ≡ false
     → ((op : Op) → list_any (reduces_by op) actions ≡ false) → actions ≡ []
 no_action [] plain by = refl
@@ -198,7 +188,7 @@ no_action (Read saw ∷ rest) plain by = absurd (never true refl plain)
 no_action (Write left ∷ rest) plain by = absurd (never true refl plain)
 no_action (ReadWrite saw left ∷ rest) plain by = absurd (never true refl plain)
 no_action (Reduce op operand ∷ rest) plain by =
-    absurd (never (is_same op op) (same_op op) (left_false (is_same op op) (list_any (reduces_by op) rest) (by op)))
+    absurd (never (is_same op op) (is_same-refl op) (left_false (is_same op op) (list_any (reduces_by op) rest) (by op)))
 
 idle_visit : (index : ℕ) (actions : List Action) (visits : List Visit) → actions ≡ []
     → marks_of (record { index = index; actions = actions } ∷ visits) ≡ marks_of visits
@@ -210,13 +200,10 @@ idle_visit index actions visits none =
       read_only = (marks_of visits).read_only;
       read_and_written = (marks_of visits).read_and_written;
       first = (marks_of visits).first;
-      last = max_zero (last_reader visits) i;
+      last = zero-max (last_reader visits) i;
       plain = (marks_of visits).plain;
       by = (marks_of visits).by;
     })
-  where
-    max_zero : (n : ℕ) → max 0 n ≡ n
-    max_zero n = omega arith
 
 no_visit : (visits : List Visit) → (marks_of visits).plain ≡ false → ((op : Op) → (marks_of visits).by op ≡ false)
     → marks_of visits ≡ no_marks

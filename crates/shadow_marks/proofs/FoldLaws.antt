@@ -1,36 +1,30 @@
 -- Flags that come into planes are marks that are merged.
 use Rattle.std.proofs.Common.{◌≡◌, ◌≢◌, ℕ, ◌+◌, ◌/◌, ◌%◌, ◌<◌, Bool, true, false, ◌&&◌, ◌||◌, eqb, min, max, List, None}
 use Rattle.std.proofs.Common.{length, refl, replicate, sym, ◌∙◌, ap, inl, inr, arith, eq-eqb, ne_eqb, Option, Some}
-use Rattle.std.{specs.{Prelude.{if◌then◌else◌}, Int.{bit_at}}, proofs.{Math.Bool.{or-false}, lemmas.Bool.{cases_lt}}}
+use Rattle.std.{specs.{Prelude.{if◌then◌else◌}, Int.{bit_at}}, proofs.lemmas.Bool.{cases_lt}}
+use Rattle.std.proofs.Math.{Bool.{or-false, and-true, and-false, and_comm}, Nat.{max-zero}}
 use Rattle.std.proofs.lemmas.{List.{length-replicate, get_or-replicate, get_or_past}, Nat.Bits.{bit_at-zero}}
 use Rattle.array_maps.specs.declared.access.Op.{Op, TheVariants.{Add, Or, And, Xor, AddH}}
 use Rattle.loop_core_model.specs.{LeastBreak.{lesser}, Flags.{Flags}, Planes.{bit_of}}
 use Rattle.loop_core_model.specs.Marks.{Marks, first_number, no_marks, marks_of_one, merged}
-use Rattle.shadow_marks.specs.declared.planes.{LrpdPlanes.{LrpdPlanes}, FlowPlanes.{FlowPlanes}, Tested.{Tested}}
+use Rattle.shadow_marks.specs.declared.planes.{Tested.{Tested}}
 use Rattle.shadow_marks.specs.declared.planes.{Tested.TheVariants.{Lrpd as ByLrpd, Flow as ByFlow}, Planes.{Planes}}
 use Rattle.shadow_marks.specs.{declared.planes.OperatorPlanes.{OperatorPlanes}, Bits.{OrsBit}}
-use Rattle.shadow_marks.specs.Standing.{words_for, IsBitPlane, plane_by, EachPlane, AreLrpdPlanes, AreFlowPlanes}
-use Rattle.shadow_marks.specs.Standing.{AreTested, ArePlanes, test_of, LrpdStandAt, FlowStandAt, TestedStandAt}
+use Rattle.shadow_marks.specs.Standing.{words_for, IsBitPlane, plane_by, EachPlane}
+use Rattle.shadow_marks.specs.Standing.{AreTested, ArePlanes, test_of, TestedStandAt}
 use Rattle.shadow_marks.specs.Standing.{no_visits, StandFor}
-use Rattle.shadow_marks.specs.Ending.{TestedHave, LrpdFolds, FlowFolds, TestedFolds, OperatorsFold, Folds}
+use Rattle.shadow_marks.specs.Ending.{TestedFolds, OperatorsFold, Folds}
 
 -- one plane
-and_true : (b : Bool) → (b && true) ≡ b
-and_true true = refl
-and_true false = refl
-
-and_false : (b : Bool) → (b && false) ≡ false
-and_false true = refl
-and_false false = refl
-
-ored_here : (old new : List ℕ) (e : ℕ) (bit : Bool) → OrsBit old new e bit → bit_of new e ≡ (bit_of old e || bit)
-ored_here old new e bit ors =
-    ors.bits e ∙ ap (λ b. bit_of old e || (bit && b)) (eq-eqb e e refl) ∙ ap (λ b. bit_of old e || b) (and_true bit)
+ored_here : (old new : List ℕ) (e : ℕ) (bit mark : Bool) → OrsBit old new e bit → bit_of old e ≡ mark
+    → bit_of new e ≡ (mark || bit)
+ored_here old new e bit mark ors was =
+    ors.bits e ∙ ap (λ b. bit_of old e || (bit && b)) (eq-eqb e e refl) ∙ (λ i. was i || and-true bit i)
 
 ored_there : (old new : List ℕ) (e : ℕ) (bit : Bool) → OrsBit old new e bit → (k : ℕ) → k ≢ e
     → bit_of new k ≡ bit_of old k
 ored_there old new e bit ors k other =
-    ors.bits k ∙ ap (λ b. bit_of old k || (bit && b)) (ne_eqb k e other) ∙ ap (λ b. bit_of old k || b) (and_false bit)
+    ors.bits k ∙ ap (λ b. bit_of old k || (bit && b)) (ne_eqb k e other) ∙ ap (λ b. bit_of old k || b) (and-false bit)
     ∙ or-false (bit_of old k)
 
 ored_plane : (elements : ℕ) (old new : List ℕ) (e : ℕ) (bit : Bool) → OrsBit old new e bit → e < elements
@@ -44,15 +38,6 @@ pub has_word : (elements : ℕ) (words : List ℕ) (e : ℕ) → e < elements �
     → e / 64 < length words
 has_word elements words e within plane = rw plane.count (omega arith)
 
--- a mark that was there, with what comes
-joined_here : (old new : List ℕ) (e : ℕ) (bit mark : Bool) → OrsBit old new e bit → bit_of old e ≡ mark
-    → bit_of new e ≡ (mark || bit)
-joined_here old new e bit mark ors was = ored_here old new e bit ors ∙ ap (λ b. b || bit) was
-
-joined_there : (old new : List ℕ) (e : ℕ) (bit mark : Bool) (k : ℕ) → k ≢ e → OrsBit old new e bit → bit_of old k ≡ mark
-    → bit_of new k ≡ mark
-joined_there old new e bit mark k other ors was = ored_there old new e bit ors k other ∙ was
-
 pub nothing_ored : (words : List ℕ) (e : ℕ) (bit : Bool) → bit ≡ false → OrsBit words words e bit
 nothing_ored words e bit none = record {
   count = refl;
@@ -61,45 +46,11 @@ nothing_ored words e bit none = record {
 
 -- the planes of the LRPD test
 by_two : (two writes was seen : Bool) → seen ≡ was → (two || (writes && seen)) ≡ ((two || false) || (was && writes))
-by_two two writes true true same = ap (λ b. two || b) (and_true writes) ∙ ap (λ b. b || writes) (sym (or-false two))
-by_two two writes false false same = ap (λ b. two || b) (and_false writes) ∙ sym (or-false (two || false))
-by_two two writes true false same = absurd (cc)
-by_two two writes false true same = absurd (cc)
-
-lrpd_here : (old new : LrpdPlanes) (e index : ℕ) (flags : Flags) (marks : Marks) → LrpdFolds old new e flags
-    → LrpdStandAt old e marks →
-    LrpdStandAt new e (merged marks (marks_of_one index flags))
-lrpd_here old new e index flags marks folds stand = record {
-  written = joined_here _ _ e flags.wrote marks.written folds.written stand.written;
-  written_by_two =
-      joined_here _ _ e (flags.wrote && bit_of old.written.items e) marks.written_by_two folds.written_by_two
-      stand.written_by_two
-      ∙ by_two marks.written_by_two flags.wrote marks.written (bit_of old.written.items e) stand.written;
-  read_only = joined_here _ _ e _ marks.read_only folds.read_only stand.read_only;
-  read_and_written = joined_here _ _ e _ marks.read_and_written folds.read_and_written stand.read_and_written;
-}
-
-lrpd_there : (old new : LrpdPlanes) (e k : ℕ) (flags : Flags) (marks : Marks) → k ≢ e → LrpdFolds old new e flags
-    → LrpdStandAt old k marks →
-    LrpdStandAt new k marks
-lrpd_there old new e k flags marks other folds stand = record {
-  written = joined_there _ _ e _ marks.written k other folds.written stand.written;
-  written_by_two = joined_there _ _ e _ marks.written_by_two k other folds.written_by_two stand.written_by_two;
-  read_only = joined_there _ _ e _ marks.read_only k other folds.read_only stand.read_only;
-  read_and_written = joined_there _ _ e _ marks.read_and_written k other folds.read_and_written stand.read_and_written;
-}
-
-lrpd_whole : (elements : ℕ) (old new : LrpdPlanes) (e : ℕ) (flags : Flags) → LrpdFolds old new e flags → e < elements →
-    AreLrpdPlanes elements old → AreLrpdPlanes elements new
-lrpd_whole elements old new e flags folds within are = record {
-  written = ored_plane elements _ _ e _ folds.written within are.written;
-  written_by_two = ored_plane elements _ _ e _ folds.written_by_two within are.written_by_two;
-  read_only = ored_plane elements _ _ e _ folds.read_only within are.read_only;
-  read_and_written = ored_plane elements _ _ e _ folds.read_and_written within are.read_and_written;
-}
+by_two two writes was seen same =
+    (λ i. sym (or-false two) i || (writes && same i)) ∙ ap (λ b. (two || false) || b) (and_comm writes was)
 
 -- the numbers of the flow test
-lesser_none : (o : Option ℕ) → lesser o None ≡ o
+pub lesser_none : (o : Option ℕ) → lesser o None ≡ o
 lesser_none None = refl
 lesser_none (Some n) = refl
 
@@ -114,78 +65,60 @@ first_here false first old new index was small is = is ∙ was ∙ ap first_numb
 last_here : (reads : Bool) (last old new index : ℕ) → old ≡ last →
     new ≡ (if reads then max old (index + 1) else old) → new ≡ max last (if reads then index + 1 else 0)
 last_here true last old new index was is = is ∙ ap (λ n. max n (index + 1)) was
-last_here false last old new index was is = is ∙ was ∙ (let e : last ≡ max last 0 = omega arith in e)
+last_here false last old new index was is = is ∙ was ∙ sym (max-zero last)
 
-flow_here : (old new : FlowPlanes) (e index : ℕ) (flags : Flags) (marks : Marks) → index < 4294967295
-    → FlowFolds old new e flags index →
-    FlowStandAt old e marks → FlowStandAt new e (merged marks (marks_of_one index flags))
-flow_here old new e index flags marks small folds stand = record {
-  first = first_here flags.wrote marks.first _ _ index stand.first small folds.first.here;
-  last = last_here flags.looked marks.last _ _ index stand.last folds.last.here;
-}
-
-flow_there : (old new : FlowPlanes) (e k index : ℕ) (flags : Flags) (marks : Marks) → k ≢ e
-    → FlowFolds old new e flags index →
-    FlowStandAt old k marks → FlowStandAt new k marks
-flow_there old new e k index flags marks other folds stand = record {
-  first = folds.first.others k other ∙ stand.first;
-  last = folds.last.others k other ∙ stand.last;
-}
-
-flow_whole : (elements : ℕ) (old new : FlowPlanes) (e index : ℕ) (flags : Flags) → FlowFolds old new e flags index →
-    AreFlowPlanes elements old → AreFlowPlanes elements new
-flow_whole elements old new e index flags folds are = record {
-  first = folds.first.count ∙ are.first;
-  last = folds.last.count ∙ are.last;
-}
-
--- those of either test
+-- what a test needs, at the element and at others
 tested_here : (old new : Tested) (e index : ℕ) (flags : Flags) (marks : Marks) → index < 4294967295
     → TestedFolds old new e flags index →
     TestedStandAt old e marks → TestedStandAt new e (merged marks (marks_of_one index flags))
-tested_here (ByLrpd old) (ByLrpd new) e index flags marks small folds stand =
-    lrpd_here old new e index flags marks folds stand
-tested_here (ByLrpd old) (ByFlow new) e index flags marks small folds stand = absurd folds
-tested_here (ByFlow old) (ByLrpd new) e index flags marks small folds stand = absurd folds
-tested_here (ByFlow old) (ByFlow new) e index flags marks small folds stand =
-    flow_here old new e index flags marks small folds stand
+tested_here (ByLrpd old) (ByLrpd new) e index flags marks small folds stand = record {
+  written = ored_here _ _ e _ _ folds.written stand.written;
+  written_by_two = ored_here _ _ e _ _ folds.written_by_two stand.written_by_two
+      ∙ by_two marks.written_by_two flags.wrote marks.written (bit_of old.written.items e) stand.written;
+  read_only = ored_here _ _ e _ _ folds.read_only stand.read_only;
+  read_and_written = ored_here _ _ e _ _ folds.read_and_written stand.read_and_written;
+}
+tested_here (ByFlow old) (ByFlow new) e index flags marks small folds stand = record {
+  first = first_here flags.wrote marks.first _ _ index stand.first small folds.first.here;
+  last = last_here flags.looked marks.last _ _ index stand.last folds.last.here;
+}
+tested_here _ _ e index flags marks small folds stand = absurd folds
 
 tested_there : (old new : Tested) (e k index : ℕ) (flags : Flags) (marks : Marks) → k ≢ e
     → TestedFolds old new e flags index →
     TestedStandAt old k marks → TestedStandAt new k marks
-tested_there (ByLrpd old) (ByLrpd new) e k index flags marks other folds stand =
-    lrpd_there old new e k flags marks other folds stand
-tested_there (ByLrpd old) (ByFlow new) e k index flags marks other folds stand = absurd folds
-tested_there (ByFlow old) (ByLrpd new) e k index flags marks other folds stand = absurd folds
-tested_there (ByFlow old) (ByFlow new) e k index flags marks other folds stand =
-    flow_there old new e k index flags marks other folds stand
+tested_there (ByLrpd old) (ByLrpd new) e k index flags marks other folds stand = record {
+  written = ored_there _ _ e _ folds.written k other ∙ stand.written;
+  written_by_two = ored_there _ _ e _ folds.written_by_two k other ∙ stand.written_by_two;
+  read_only = ored_there _ _ e _ folds.read_only k other ∙ stand.read_only;
+  read_and_written = ored_there _ _ e _ folds.read_and_written k other ∙ stand.read_and_written;
+}
+tested_there (ByFlow old) (ByFlow new) e k index flags marks other folds stand = record {
+  first = folds.first.others k other ∙ stand.first;
+  last = folds.last.others k other ∙ stand.last;
+}
+tested_there _ _ e k index flags marks other folds stand = absurd folds
 
 tested_whole : (elements : ℕ) (old new : Tested) (e index : ℕ) (flags : Flags) → TestedFolds old new e flags index
     → e < elements →
     AreTested elements old → AreTested elements new
-tested_whole elements (ByLrpd old) (ByLrpd new) e index flags folds within are =
-    lrpd_whole elements old new e flags folds within are
-tested_whole elements (ByLrpd old) (ByFlow new) e index flags folds within are = absurd folds
-tested_whole elements (ByFlow old) (ByLrpd new) e index flags folds within are = absurd folds
-tested_whole elements (ByFlow old) (ByFlow new) e index flags folds within are =
-    flow_whole elements old new e index flags folds are
+tested_whole elements (ByLrpd old) (ByLrpd new) e index flags folds within are = record {
+  written = ored_plane elements _ _ e _ folds.written within are.written;
+  written_by_two = ored_plane elements _ _ e _ folds.written_by_two within are.written_by_two;
+  read_only = ored_plane elements _ _ e _ folds.read_only within are.read_only;
+  read_and_written = ored_plane elements _ _ e _ folds.read_and_written within are.read_and_written;
+}
+tested_whole elements (ByFlow old) (ByFlow new) e index flags folds within are = record {
+  first = folds.first.count ∙ are.first;
+  last = folds.last.count ∙ are.last;
+}
+tested_whole elements _ _ e index flags folds within are = absurd folds
 
 tested_test : (old new : Tested) (e index : ℕ) (flags : Flags) → TestedFolds old new e flags index
     → test_of new ≡ test_of old
 tested_test (ByLrpd old) (ByLrpd new) e index flags folds = refl
-tested_test (ByLrpd old) (ByFlow new) e index flags folds = absurd folds
-tested_test (ByFlow old) (ByLrpd new) e index flags folds = absurd folds
 tested_test (ByFlow old) (ByFlow new) e index flags folds = refl
-
-pub tested_have : (elements : ℕ) (tested : Tested) (e : ℕ) → e < elements → AreTested elements tested
-    → TestedHave tested e
-tested_have elements (ByLrpd planes) e within are = record {
-  written = has_word elements _ e within are.written;
-  written_by_two = has_word elements _ e within are.written_by_two;
-  read_only = has_word elements _ e within are.read_only;
-  read_and_written = has_word elements _ e within are.read_and_written;
-}
-tested_have elements (ByFlow planes) e within are = record { first = rw are.first within; last = rw are.last within }
+tested_test _ _ e index flags folds = absurd folds
 
 -- the planes of operators
 operator_ored : (old new : OperatorPlanes) (e : ℕ) (flags : Flags) → OperatorsFold old new e flags → (op : Op) →
@@ -224,13 +157,13 @@ parts_fold old new e index flags are within small part =
         test = tested_test _ _ e index flags part.tested;
       };
       here = λ marks stand. record {
-        plain = joined_here _ _ e _ marks.plain part.plain stand.plain;
-        by = λ op. joined_here _ _ e _ (marks.by op) (ored op) (stand.by op);
+        plain = ored_here _ _ e _ _ part.plain stand.plain;
+        by = λ op. ored_here _ _ e _ _ (ored op) (stand.by op);
         tested = tested_here _ _ e index flags marks small part.tested stand.tested;
       };
       others = λ k other marks stand. record {
-        plain = joined_there _ _ e _ marks.plain k other part.plain stand.plain;
-        by = λ op. joined_there _ _ e _ (marks.by op) k other (ored op) (stand.by op);
+        plain = ored_there _ _ e _ part.plain k other ∙ stand.plain;
+        by = λ op. ored_there _ _ e _ (ored op) k other ∙ stand.by op;
         tested = tested_there _ _ e k index flags marks other part.tested stand.tested;
       };
     }

@@ -1,6 +1,6 @@
 -- A flag that is set in a byte of flags.
-use Rattle.std.proofs.Common.{◌≡◌, ℕ, ◌^◌, ◌<◌, min, Bool, true, false, not, ◌||◌, eqb, refl, sym, ◌∙◌, ap, arith}
-use Rattle.std.{proofs.{Common.{eq-eqb, ne_eqb}, Math.Bool.{or-false}}, specs.{Prelude.{bit_and, bit_or}, Int.{bit_at}}}
+use Rattle.std.proofs.Common.{◌≡◌, ◌≢◌, ℕ, ◌^◌, ◌<◌, min, true, false, not, ◌||◌, eqb, refl, sym, ◌∙◌, ap, arith}
+use Rattle.std.{proofs.{Common.{eq-eqb, ne_eqb}, Math.Bool.{or-false, or-true}}, specs.{Prelude.{bit_and, bit_or}, Int.{bit_at}}}
 use Rattle.std.proofs.lemmas.Nat.Bits.{bit_at_and, bit_at-zero}
 use Rattle.array_maps.specs.declared.access.Op.{Op, TheVariants.{Add, Or, And, Xor, AddH}}
 use Rattle.loop_core_model.{specs.Flags.{Flags}, proofs.FlagLaws.{same_flags}}
@@ -9,24 +9,19 @@ use Rattle.shadow_marks.specs.declared.element_flags.ElementFlags.{ElementFlags}
 use Rattle.shadow_marks.specs.Kept.{place_by, bit_place, flags_in, with_flag, with_read}
 use Rattle.shadow_marks.proofs.BitLaws.{bit_ored, same_place}
 
-or_true : (b : Bool) → (b || true) ≡ true
-or_true true = refl
-or_true false = refl
-
 -- operators stand after the other flags
+apart : (n : ℕ) (op : Op) → n < 3 → n ≢ place_by op
+apart n Add h same = omega (arith, h, same)
+apart n Or h same = omega (arith, h, same)
+apart n And h same = omega (arith, h, same)
+apart n Xor h same = omega (arith, h, same)
+apart n AddH h same = omega (arith, h, same)
+
 behind : (n : ℕ) (op : Op) → n < 3 → eqb n (place_by op) ≡ false
-behind n Add h = ne_eqb n 3 (λ same. absurd (omega arith))
-behind n Or h = ne_eqb n 4 (λ same. absurd (omega arith))
-behind n And h = ne_eqb n 5 (λ same. absurd (omega arith))
-behind n Xor h = ne_eqb n 6 (λ same. absurd (omega arith))
-behind n AddH h = ne_eqb n 7 (λ same. absurd (omega arith))
+behind n op h = ne_eqb n (place_by op) (apart n op h)
 
 before : (op : Op) (n : ℕ) → n < 3 → eqb (place_by op) n ≡ false
-before Add n h = ne_eqb 3 n (λ same. absurd (omega arith))
-before Or n h = ne_eqb 4 n (λ same. absurd (omega arith))
-before And n h = ne_eqb 5 n (λ same. absurd (omega arith))
-before Xor n h = ne_eqb 6 n (λ same. absurd (omega arith))
-before AddH n h = ne_eqb 7 n (λ same. absurd (omega arith))
+before op n h = ne_eqb (place_by op) n (λ same. apart n op h (sym same))
 
 -- a bit of the flags with one more
 unchanged : (bits mask place k : ℕ) → mask ≡ 2 ^ place → eqb k place ≡ false → eqb (bit_at (bit_or bits mask) k) 1
@@ -37,7 +32,7 @@ unchanged bits mask place k m other = bit_ored bits mask place k m ∙ ap (λ b.
 changed : (bits mask place : ℕ) → mask ≡ 2 ^ place → eqb (bit_at (bit_or bits mask) place) 1 ≡ true
 changed bits mask place m =
     bit_ored bits mask place place m ∙ ap (λ b. eqb (bit_at bits place) 1 || b) (eq-eqb place place refl)
-    ∙ or_true (eqb (bit_at bits place) 1)
+    ∙ or-true (eqb (bit_at bits place) 1)
 
 pub flag_ored : (kept : ElementFlags) (flag : Flag) (mask : ℕ) → mask ≡ 2 ^ bit_place flag →
     flags_in (record { bits = bit_or kept.bits mask }) ≡ with_flag flag (flags_in kept)
@@ -80,7 +75,7 @@ look_after_write flags wrote = same_flags _ _ (record {
 pub look_before_write : (flags : Flags) → flags.wrote ≡ false → with_flag Looked flags ≡ with_read flags
 look_before_write flags none = same_flags _ _ (record {
   wrote = refl;
-  looked = sym (ap (λ b. flags.looked || not b) none ∙ or_true flags.looked);
+  looked = sym (ap (λ b. flags.looked || not b) none ∙ or-true flags.looked);
   plain = refl;
   by = λ op. refl;
 })

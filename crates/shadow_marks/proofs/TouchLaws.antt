@@ -1,7 +1,7 @@
 -- What the list of touched elements says of the flags.
 use Rattle.std.proofs.Common.{◌≡◌, ℕ, ◌<◌, Bool, true, false, ◌||◌, eqb, List, [], ◌∷◌, ◌++◌, length, get_or, set, refl}
 use Rattle.std.proofs.Common.{sym, ◌∙◌, ap, inl, inr, arith, length-set, get_or-set_same, get_or-set_other, eq-eqb}
-use Rattle.std.proofs.{Common.{ne_eqb}, Math.Bool.{or-false}, lemmas.{Bool.{cases_eq}, List.Folds.{list_any-append}}}
+use Rattle.std.proofs.{Common.{ne_eqb}, Math.Bool.{or-false, or-true}, lemmas.{Bool.{cases_eq}, List.Folds.{list_any-append}}}
 use Rattle.std.{proofs.lemmas.Nat.Bits.{bit_at-zero}, specs.Int.{bit_at}}
 use Rattle.loop_core_model.{specs.Flags.{no_flags}, proofs.FlagLaws.{same_flags}}
 use Rattle.shadow_marks.specs.declared.element_flags.ElementFlags.{ElementFlags}
@@ -24,10 +24,6 @@ pub record Covers (touched : List ℕ) (cells : List ElementFlags) : Type 0 wher
   pub within : (e : ℕ) → has_element touched e ≡ true → e < length cells
   pub covered : (e : ℕ) → has_element touched e ≡ false → (get_or cells e nothing_kept).bits ≡ 0
 
-or_true : (b : Bool) → (b || true) ≡ true
-or_true true = refl
-or_true false = refl
-
 or_left : (a b : Bool) → a ≡ true → (a || b) ≡ true
 or_left a b h = ap (λ x. x || b) h
 
@@ -38,7 +34,7 @@ pub last_within : (touched rest : List ℕ) (e : ℕ) (cells : List ElementFlags
     → Covers touched cells → e < length cells
 last_within touched rest e cells is covers =
     covers.within e (ap (λ l. has_element l e) is ∙ has-last rest e e
-    ∙ ap (λ b. has_element rest e || b) (eq-eqb e e refl) ∙ or_true (has_element rest e))
+    ∙ ap (λ b. has_element rest e || b) (eq-eqb e e refl) ∙ or-true (has_element rest e))
 
 -- the last one taken from the list and emptied
 pub covers_rest : (touched rest : List ℕ) (e : ℕ) (cells : List ElementFlags) → touched ≡ rest ++ e ∷ []

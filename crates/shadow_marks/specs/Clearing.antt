@@ -35,9 +35,8 @@ pub record FlowClears (old new : FlowPlanes) (page : ℕ) : Type 0 where
 
 abbrev pub TestedClears : (old new : Tested) (page : ℕ) → Type 0
 TestedClears (ByLrpd old) (ByLrpd new) page = LrpdClears old new page
-TestedClears (ByLrpd old) (ByFlow new) page = ⊥
-TestedClears (ByFlow old) (ByLrpd new) page = ⊥
 TestedClears (ByFlow old) (ByFlow new) page = FlowClears old new page
+TestedClears _ _ page = ⊥
 
 -- planes after a page was cleared: its elements have no marks, and all others those that they had
 pub record ClearsPage (old new : Planes) (page : ℕ) : Type 0 where

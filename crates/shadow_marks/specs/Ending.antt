@@ -38,9 +38,8 @@ TestedHave (ByFlow planes) e = FlowHave planes e
 
 abbrev pub TestedFolds : (old new : Tested) (e : ℕ) (flags : Flags) (index : ℕ) → Type 0
 TestedFolds (ByLrpd old) (ByLrpd new) e flags index = LrpdFolds old new e flags
-TestedFolds (ByLrpd old) (ByFlow new) e flags index = ⊥
-TestedFolds (ByFlow old) (ByLrpd new) e flags index = ⊥
 TestedFolds (ByFlow old) (ByFlow new) e flags index = FlowFolds old new e flags index
+TestedFolds _ _ e flags index = ⊥
 
 -- the planes of operators after the flags of an element came into them
 pub record OperatorsFold (old new : OperatorPlanes) (e : ℕ) (flags : Flags) : Type 0 where
