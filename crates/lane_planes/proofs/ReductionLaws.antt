@@ -27,8 +27,8 @@ two_bit : (words : List ℕ) (k : ℕ) → bit (in_two words) k ≡ two_of (at k
 two_bit [] k = ap (λ x. x == 1) (bit_at-zero k)
 two_bit (word ∷ rest) k =
     bit-or (in_two rest) (bit_and (in_some rest) word) k
-    ∙ ap (λ b. b || bit (bit_and (in_some rest) word) k) (two_bit rest k)
-    ∙ ap (λ b. two_of (at k rest) || b) (bit-and (in_some rest) word k ∙ ap (λ b. b && bit word k) (some_bit rest k))
+    ∙ (λ i. two_bit rest k i || bit-and (in_some rest) word k i)
+    ∙ (λ i. two_of (at k rest) || (some_bit rest k i && bit word k))
 
 -- a bit stays where a plain access is, or two operators are, or none is
 abbrev stays : Bool → List Bool → Bool
@@ -40,9 +40,8 @@ cleared_bit word plain by k small fits =
     bit-and word (bit_or (bit_or plain (in_two by)) (bit_not w64 (in_some by))) k
     ∙ ap (λ b. bit word k && b)
     (bit-or (bit_or plain (in_two by)) (bit_not w64 (in_some by)) k
-    ∙ ap (λ b. b || bit (bit_not w64 (in_some by)) k) (bit-or plain (in_two by) k
-    ∙ ap (λ b. bit plain k || b) (two_bit by k))
-    ∙ ap (λ b. (bit plain k || two_of (at k by)) || b) (bit-not (in_some by) k fits small ∙ ap not (some_bit by k)))
+    ∙ (λ i. bit-or plain (in_two by) k i || bit-not (in_some by) k fits small i)
+    ∙ (λ i. (bit plain k || two_bit by k i) || not (some_bit by k i)))
 
 -- a flag for each operator
 abbrev chosen : (add or and xor addh : Bool) → Op → Bool
@@ -102,12 +101,7 @@ pub marked_bit : (word plain addh xor and or add : ℕ) (k : ℕ) (marks : Marks
 marked_bit word plain addh xor and or add k marks small fits is_plain is_addh is_xor is_and is_or is_add =
     cleared_bit word plain (addh ∷ xor ∷ and ∷ or ∷ add ∷ []) k small fits
     ∙ ap (λ b. bit word k && b)
-    (ap (λ b. stays b (bit addh k ∷ bit xor k ∷ bit and k ∷ bit or k ∷ bit add k ∷ [])) is_plain
-    ∙ ap (λ b. stays marks.plain (b ∷ bit xor k ∷ bit and k ∷ bit or k ∷ bit add k ∷ [])) is_addh
-    ∙ ap (λ b. stays marks.plain (marks.by AddH ∷ b ∷ bit and k ∷ bit or k ∷ bit add k ∷ [])) is_xor
-    ∙ ap (λ b. stays marks.plain (marks.by AddH ∷ marks.by Xor ∷ b ∷ bit or k ∷ bit add k ∷ [])) is_and
-    ∙ ap (λ b. stays marks.plain (marks.by AddH ∷ marks.by Xor ∷ marks.by And ∷ b ∷ bit add k ∷ [])) is_or
-    ∙ ap (λ b. stays marks.plain (marks.by AddH ∷ marks.by Xor ∷ marks.by And ∷ marks.by Or ∷ b ∷ [])) is_add
+    ((λ i. stays (is_plain i) (is_addh i ∷ is_xor i ∷ is_and i ∷ is_or i ∷ is_add i ∷ []))
     ∙ stays_is marks.plain marks.by)
 
 -- a bit that isn't set stays so
