@@ -8,12 +8,12 @@ use Rattle.array_maps.specs.Accesses.{Action, Read, left_by}
 use Rattle.loop_core_model.specs.{Actions.{is_write}, Flags.{kind_of, flagged}, declared.access.Access.{Access as Kind}}
 use Rattle.loop_core_model.specs.declared.access.Access.TheVariants.{Read as Reads}
 use Rattle.shadow_marks.specs.Iteration.{element_count, flags_at}
-use Rattle.private_copy.specs.declared.page.{Combining.{Combining, TheVariants.{Mixed as MixedCell}}, Cell.{Cell}}
+use Rattle.private_copy.specs.declared.page.{Combining.{TheVariants.{Mixed as MixedCell}}, Cell.{Cell}}
 use Rattle.private_copy.specs.declared.reduction.Reduction.{Reduction, TheVariants.{Untouched, By, Mixed}}
 use Rattle.private_copy.specs.{declared.private.Private.{Private}, Reductions.{reduction_after}}
 use Rattle.private_copy.specs.Cells.{PlacedPages, cell_at, blank, blank_cells, mixed_cell, left_cell, reduction_in}
 use Rattle.private_copy.specs.{Copies.{last_after, Accessed}, Shown.{copy_of, seen_word, last_in}}
-use Rattle.private_copy.specs.Steps.{IsAdmitted, CellIsSet}
+use Rattle.private_copy.{specs.Steps.{IsAdmitted, CellIsSet}, proofs.PageCells.{same_parts}}
 
 -- a cell that this iteration wrote, and another
 pub seen_own : (cell : Cell) (number word : ℕ) → cell.writer ≡ number → seen_word cell number word ≡ cell.value
@@ -163,12 +163,7 @@ pub stays_mixed : (p : Private) (e : ℕ) (cell : Cell) → cell ≡ cell_at p.p
     → CellIsSet p e (mixed_cell cell) p
 stays_mixed p e cell is mixed = record {
   start = refl;
-  cell = sym is ∙ ap (λ (c : Combining). (let kept : Cell = record {
-    value = cell.value;
-    combined = cell.combined;
-    writer = cell.writer;
-    combining = c;
-  } in kept)) mixed;
+  cell = sym is ∙ same_parts cell (mixed_cell cell) refl refl refl mixed;
   others = λ other differs. refl;
   pages = refl;
   flags = refl;

@@ -1,14 +1,11 @@
 -- Placed pages are taken back, from the last to the first.
-use Rattle.std.proofs.Common.{◌≡◌, ◌≢◌, ℕ, ◌+◌, ◌-◌, ◌/◌, ◌<◌, ◌≤◌, Bool, true, false, ◌||◌, eqb, Some, None, List, []}
+use Rattle.std.proofs.Common.{◌≡◌, ◌≢◌, ℕ, ◌+◌, ◌-◌, ◌/◌, ◌<◌, ◌≤◌, Bool, true, ◌||◌, eqb, Some, None, List, []}
 use Rattle.std.proofs.Common.{◌∷◌, length, take, get_or, set, is_some, refl, sym, ◌∙◌, ap, subst, inl, inr, arith}
 use Rattle.std.proofs.{Common.{get_or-set_same, get_or-set_other, ne_eqb}, Math.Bool.{or-false}}
-use Rattle.std.proofs.{Math.ListN.{get_or-eq_default}, lemmas.{Bool.{cases_eq, cases_lt}, List.{take_more}}}
+use Rattle.std.proofs.{Math.ListN.{get_or-eq_default}, lemmas.{Bool.{cases_eq, cases_lt, true≢false}, List.{take_more}}}
 use Rattle.std.proofs.lemmas.{Option.{get_or_from_slice_get, slice_get_within}, List.Folds.{list_any-append}}
 use Rattle.std.specs.Prelude.{slice_get}
 use Rattle.private_copy.{specs.{Cells.{blank}, Touched.{has_page}}, proofs.PageLaws.{Slot, cell_of, unplaced_cell}}
-
-not_both : true ≡ false → ⊥
-not_both h = let P : Bool → Type 0 = λ b. elim b as (λ v. Type 0) [ true ↦ Unit {0} | false ↦ ⊥ ] in subst P h tt
 
 -- the pages that are there are among the first n
 abbrev pub AreAmong : List ℕ → ℕ → List Slot → Type 0
@@ -20,7 +17,7 @@ pub placed_among : (keys : List ℕ) (n : ℕ) (table : List Slot)
     → AreAmong keys n table
 placed_among keys n table agree page there = elim (cases_lt page (length table)) [
   | inl inside ↦ sym (agree page inside) ∙ there
-  | inr past ↦ absurd (not_both (sym there ∙ ap is_some (get_or-eq_default table None past)))
+  | inr past ↦ absurd (true≢false (sym there ∙ ap is_some (get_or-eq_default table None past)))
 ]
 
 -- the page of a key that isn't the last among them
@@ -40,7 +37,7 @@ pub one_back : (keys : List ℕ) (n number : ℕ) (table : List Slot) (none : Sl
     → AreAmong keys n (set table number none)
 one_back keys n number table none within is inside nothing among page there = elim (cases_eq page number) [
   | inl same ↦
-      absurd (not_both (sym there
+      absurd (true≢false (sym there
       ∙ ap (λ (k : ℕ). is_some (get_or (set table number none) k None)) same
       ∙ ap is_some (get_or-set_same table number none None inside ∙ nothing)))
   | inr other ↦
@@ -54,7 +51,7 @@ pub none_back : (keys : List ℕ) (n number : ℕ) (table : List Slot) → n < l
 none_back keys n number table within is past among page there = elim (cases_lt page (length table)) [
   | inl inside ↦ among_others keys n number page within is (λ same. omega (arith, same, inside, past))
       (among page there)
-  | inr out ↦ absurd (not_both (sym there ∙ ap is_some (get_or-eq_default table None out)))
+  | inr out ↦ absurd (true≢false (sym there ∙ ap is_some (get_or-eq_default table None out)))
 ]
 
 -- a number that was read at the last of the placed ones
@@ -88,7 +85,7 @@ pub all_back : (keys : List ℕ) (n : ℕ) (table : List Slot) → n ≡ 0 → A
     → get_or table page None ≡ None
 all_back keys n table none among page =
     none_some (get_or table page None) (λ there.
-    not_both (sym (sym (ap (λ (k : ℕ). has_page (take k keys) page) none) ∙ among page there)))
+    true≢false (sym (sym (ap (λ (k : ℕ). has_page (take k keys) page) none) ∙ among page there)))
 
 pub blank_cells_all : (keys : List ℕ) (n : ℕ) (table : List Slot) → n ≡ 0 → AreAmong keys n table → (e : ℕ)
     → cell_of table e ≡ blank

@@ -1,7 +1,7 @@
 -- What is remembered of the iteration under way, action by action.
 use Rattle.std.proofs.Common.{◌≡◌, ℕ, Bool, true, false, ◌||◌, eqb, List, [], ◌∷◌, ◌++◌, Option, Some, None, refl, sym}
 use Rattle.std.{proofs.Common.{◌∙◌, ap, append_assoc}, specs.{Prelude.{if◌then◌else◌}, Option.{option_or, option_map}}}
-use Rattle.std.proofs.{Math.Bool.{or-false}, lemmas.List.{append-nil, map-append, Folds.{list_any-append}}}
+use Rattle.std.proofs.{Math.Bool.{or-false, or-true}, lemmas.List.{append-nil, map-append, Folds.{list_any-append}}}
 use Rattle.array_maps.specs.Accesses.{Access, Action, Read, Write, ReadWrite, Reduce, left_by, left_by_all, actions_at}
 use Rattle.loop_core_model.specs.{Actions.{is_write, writes, joined}, Committed.{last_that, last_value}}
 use Rattle.loop_core_model.{specs.Conflict.{at_element}, proofs.OneElement.{left_by_all-append}}
@@ -9,10 +9,6 @@ use Rattle.loop_core_model.proofs.{Turns.{actions_at-append}, KeptLaws.{joined-a
 use Rattle.private_copy.specs.{declared.reduction.Reduction.TheVariants.{Untouched}, Copies.{last_after}}
 use Rattle.private_copy.specs.Reductions.{reduction_after, reduction_from, reduction_of}
 use Rattle.private_copy.{specs.Touched.{with_page, page_of, pages_after}, proofs.ReductionLaws.{reduction_from-append}}
-
-or_true : (b : Bool) → (b || true) ≡ true
-or_true true = refl
-or_true false = refl
 
 -- an iteration writes where it did, or where its last action does
 writes_more : (actions : List Action) (action : Action) → writes (actions ++ action ∷ [])
@@ -47,7 +43,7 @@ write_more : (xs : List (List Action)) (actions : List Action) (action : Action)
 write_more xs actions action word writing =
     value_behind xs (actions ++ action ∷ []) word
     ∙ ap (λ b. value_of b (actions ++ action ∷ []) (last_that writes xs) word) (writes_more actions action
-    ∙ ap (λ b. writes actions || b) writing ∙ or_true (writes actions))
+    ∙ ap (λ b. writes actions || b) writing ∙ or-true (writes actions))
     ∙ ap Some (left_more actions action word)
 
 pub last_more : (xs : List (List Action)) (actions : List Action) (action : Action) (word : ℕ) →

@@ -8,31 +8,12 @@ use Rattle.private_copy.specs.Cells.{blank, cell_in, first_cells, blank_cells, b
 -- cells are equal where their parts are
 pub same_parts : (a b : Cell) → a.value ≡ b.value → a.combined ≡ b.combined → a.writer ≡ b.writer
     → a.combining ≡ b.combining → a ≡ b
-same_parts a b value combined writer combining =
-    ap (λ (n : ℕ). (let cell : Cell = record {
-      value = n;
-      combined = a.combined;
-      writer = a.writer;
-      combining = a.combining;
-    } in cell)) value
-    ∙ ap (λ (n : ℕ). (let cell : Cell = record {
-      value = b.value;
-      combined = n;
-      writer = a.writer;
-      combining = a.combining;
-    } in cell)) combined
-    ∙ ap (λ (n : ℕ). (let cell : Cell = record {
-      value = b.value;
-      combined = b.combined;
-      writer = n;
-      combining = a.combining;
-    } in cell)) writer
-    ∙ ap (λ (c : Combining). (let cell : Cell = record {
-      value = b.value;
-      combined = b.combined;
-      writer = b.writer;
-      combining = c;
-    } in cell)) combining
+same_parts a b value combined writer combining = λ i. record {
+  value = value i;
+  combined = combined i;
+  writer = writer i;
+  combining = combining i;
+}
 
 pub first_cell_at : (page : Page) (n k : ℕ) → k < n → get_or (first_cells page n) k blank ≡ cell_in page k
 unfolding first_cells

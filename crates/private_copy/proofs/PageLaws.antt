@@ -2,11 +2,11 @@
 use Rattle.std.proofs.Common.{◌≡◌, ℕ, ◌+◌, ◌-◌, ◌/◌, ◌%◌, ◌<◌, ◌≤◌, Bool, true, false, ◌||◌, eqb, Option, Some, None}
 use Rattle.std.proofs.Common.{List, [], ◌∷◌, ◌++◌, length, take, get_or, set, replicate, is_some, map, refl, sym, ◌∙◌}
 use Rattle.std.proofs.Common.{ap, subst, inl, inr, arith, length-set, get_or-set_same, get_or-set_other, eq-eqb, ne_eqb}
-use Rattle.std.{specs.List.{position, swap}, proofs.{lemmas.Bool.{eqb-true, cases_eq, cases_lt}, Math.Nat.{mod-lt}}}
+use Rattle.std.{specs.List.{position, swap}, proofs.{lemmas.Bool.{eqb-true, cases_eq, cases_lt, true≢false}, Math.Nat.{mod-lt}}}
 use Rattle.std.proofs.lemmas.List.{take_all, take-set-le, take_more, get_or-take, length-take, get_or_default}
 use Rattle.std.proofs.lemmas.List.{get_or-replicate, length-replicate, Folds.{list_any-append, list_any_at}}
 use Rattle.std.{proofs.lemmas.List.Quantifiers.{position-Some}, specs.Prelude.{Box, if◌then◌else◌, slice_get, IfSome}}
-use Rattle.std.proofs.{lemmas.Option.{slice_get_within, slice_get-get_or, get_or_from_slice_get}, Math.Bool.{or-false}}
+use Rattle.std.proofs.{lemmas.Option.{slice_get_within, slice_get-get_or, get_or_from_slice_get}, Math.Bool.{or-false, or-true}}
 use Rattle.std.{specs.declared.alloc.Global.{Global}, proofs.Math.ListN.{get_or-map, get_or-eq_default}}
 use Rattle.std.proofs.Math.Seq.{map-set_same}
 use Rattle.private_copy.specs.{declared.page.{Cell.{Cell}, Page.{Page}}, Touched.{has_page}}
@@ -15,9 +15,6 @@ use Rattle.private_copy.proofs.PageCells.{first_cell_at, blank_page_cells}
 
 abbrev pub Slot : Type 0
 Slot = Option (Box Page Global)
-
-not_both : true ≡ false → ⊥
-not_both h = let P : Bool → Type 0 = λ b. elim b as (λ v. Type 0) [ true ↦ Unit {0} | false ↦ ⊥ ] in subst P h tt
 
 -- where a page that isn't among the first stands
 pub record Stands (keys : List ℕ) (n p at : ℕ) : Type 0 where
@@ -30,10 +27,7 @@ behind_of : (keys : List ℕ) (n p at : ℕ) → at < length keys → get_or key
 behind_of keys n p at within is absent before =
     let here : get_or (take n keys) at 0 ≡ p = get_or-take n keys at 0 before ∙ is in
     let inside : at < length (take n keys) = omega (arith, length-take n keys) in
-    not_both (sym (list_any_at (λ other. eqb p other) (take n keys) at 0 inside (eq-eqb p _ (sym here))) ∙ absent)
-
-get_or_any : (xs : List ℕ) (i d e : ℕ) → i < length xs → get_or xs i d ≡ get_or xs i e
-get_or_any xs i d e within = get_or_default xs i d e within
+    true≢false (sym (list_any_at (λ other. eqb p other) (take n keys) at 0 inside (eq-eqb p _ (sym here))) ∙ absent)
 
 pub where_stands : (keys : List ℕ) (n p at : ℕ) → slice_get keys at ≡ Some p → has_page (take n keys) p ≡ false
     → Stands keys n p at
@@ -71,7 +65,7 @@ take_swap (d ∷ ys) n p at h =
     let all : length both ≡ length one = length-set one n (get_or keys at d) in
     let last : get_or both n 0 ≡ get_or keys at d = get_or-set_same one n (get_or keys at d) 0 (omega (arith, long)) in
     take_more both n 0 (omega (arith, long, all))
-    ∙ ap (λ (x : ℕ). take n both ++ x ∷ []) (last ∙ get_or_any keys at d 0 within ∙ h.is)
+    ∙ ap (λ (x : ℕ). take n both ++ x ∷ []) (last ∙ get_or_default keys at d 0 within ∙ h.is)
     ∙ ap (λ (l : List ℕ). l ++ p ∷ []) (take-set-le n one n (get_or keys at d) (omega arith)
     ∙ take-set-le n keys at (get_or keys n d) behind)
 
@@ -79,7 +73,7 @@ take_swap (d ∷ ys) n p at h =
 pub some_left : (keys : List ℕ) (n p : ℕ) → has_page keys p ≡ true → has_page (take n keys) p ≡ false → n < length keys
 some_left keys n p all absent = elim (cases_lt n (length keys)) [
   | inl h ↦ h
-  | inr h ↦ absurd (not_both (sym all ∙ ap (λ l. has_page l p) (sym (take_all n keys h)) ∙ absent))
+  | inr h ↦ absurd (true≢false (sym all ∙ ap (λ l. has_page l p) (sym (take_all n keys h)) ∙ absent))
 ]
 
 -- which pages are there, and which are among the placed ones
@@ -89,10 +83,6 @@ Agree keys n table = (page : ℕ) → page < length table → is_some (get_or ta
 has_last : (pages : List ℕ) (p page : ℕ) → has_page (pages ++ p ∷ []) page ≡ (has_page pages page || eqb page p)
 has_last pages p page = list_any-append (λ other. eqb page other) pages (p ∷ []) ∙ ap (λ b. has_page pages page || b)
     (or-false (eqb page p))
-
-or_true : (b : Bool) → (b || true) ≡ true
-or_true true = refl
-or_true false = refl
 
 pub agree_more : (keys : List ℕ) (n p at : ℕ) (table : List Slot) (slot : Slot) → Stands keys n p at → p < length table
     → is_some slot ≡ true →
@@ -106,7 +96,7 @@ agree_more keys n p at table slot stands within some agree page inside =
           ap (λ (k : ℕ). is_some (get_or (set table p slot) k None)) same
           ∙ ap is_some (get_or-set_same table p slot None within) ∙ some
           ∙ sym (after ∙ ap (λ b. has_page (take n keys) page || b) (eq-eqb page p same)
-          ∙ or_true (has_page (take n keys) page))
+          ∙ or-true (has_page (take n keys) page))
       | inr other ↦
           ap is_some (get_or-set_other table p page slot None (λ h. other h)) ∙ agree page (omega (arith, inside, long))
           ∙ sym (after ∙ ap (λ b. has_page (take n keys) page || b) (ne_eqb page p other)
@@ -134,7 +124,7 @@ blank_has_cells (Some page) h = blank_page_cells page.value h
 
 not_some : (slot : Slot) → is_some slot ≡ false → cells_of slot ≡ blank_cells
 not_some None h = refl
-not_some (Some page) h = absurd (not_both h)
+not_some (Some page) h = absurd (true≢false h)
 
 -- a blank page in the place of none changes no cell
 pub cells_stay : (table : List Slot) (p : ℕ) (slot : Slot) → IsBlank slot → is_some (get_or table p None) ≡ false
@@ -185,7 +175,7 @@ number_added keys new n absent is = is ∙ ap (λ (b : Bool). if b then keys els
 pub noted_before : (keys : List ℕ) (n : ℕ) → ((p : ℕ) → p < n → has_page keys p ≡ true) → (p : ℕ) → p < n + 1
     → has_page (keys ++ n ∷ []) p ≡ true
 noted_before keys n before p below = has_last keys n p ∙ elim (cases_eq p n) [
-  | inl same ↦ ap (λ b. has_page keys p || b) (eq-eqb p n same) ∙ or_true (has_page keys p)
+  | inl same ↦ ap (λ b. has_page keys p || b) (eq-eqb p n same) ∙ or-true (has_page keys p)
   | inr other ↦ ap (λ b. b || eqb p n) (before p (omega (arith, below, other)))
 ]
 
