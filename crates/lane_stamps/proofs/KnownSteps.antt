@@ -1,16 +1,31 @@
 -- Where stamps are from, one site and one lane further.
 use Rattle.std.proofs.Common.{◌≡◌, ℕ, ◌+◌, ◌<◌, ◌≤◌, inl, inr, List, length, slice_index, slice_index_or, refl, sym}
 use Rattle.std.{proofs.{Common.{subst, arith}, lemmas.List.{get_or_default}}, specs.List.{All}}
-use Rattle.lane_stamps.specs.{declared.site.Site.{Site}, Sites.{LaneRows, Touches}, Stamps.{slot_of}}
+use Rattle.lane_stamps.specs.{declared.site.Site.{Site}, Sites.{LaneRows}, Stamps.{slot_of}}
 use Rattle.lane_stamps.specs.Stamps.{AreKnown, AreStale, IsBefore, IsLeft, IsStopped, LeavesOnly, Meets, allowed}
 
-later_site : (earlier by lane at : ℕ) → IsBefore earlier by lane at → IsBefore earlier by lane (at + 1)
-later_site earlier by lane at (inl less) = inl less
-later_site earlier by lane at (inr same) = inr (same.0, omega (arith, same.1))
+-- what is before an access is before one at a later site, and before the next lane's
+pub site_on : (lane at next : ℕ) → at ≤ next → (earlier by : ℕ) → IsBefore earlier by lane at
+    → IsBefore earlier by lane next
+site_on lane at next order earlier by (inl less) = inl less
+site_on lane at next order earlier by (inr same) = inr (same.0, omega (arith, same.1, order))
 
-later_lane : (earlier by lane at : ℕ) → IsBefore earlier by lane at → IsBefore earlier by (lane + 1) 0
-later_lane earlier by lane at (inl less) = inl (omega (arith, less))
-later_lane earlier by lane at (inr same) = inl (omega (arith, same.0))
+pub lane_on : (lane at earlier by : ℕ) → IsBefore earlier by lane at → IsBefore earlier by (lane + 1) 0
+lane_on lane at earlier by (inl less) = inl (omega (arith, less))
+lane_on lane at earlier by (inr same) = inl (omega (arith, same.0))
+
+pub known_on : (sites : List Site) (lanes : LaneRows) (base lane at later next : ℕ) (stamps : List ℕ)
+    → ((earlier by : ℕ) → IsBefore earlier by lane at → IsBefore earlier by later next)
+    → AreKnown sites lanes base stamps lane at → AreKnown sites lanes base stamps later next
+known_on sites lanes base lane at later next stamps on known slot above =
+    let was = known slot above in
+    record {
+      earlier = was.earlier;
+      by = was.by;
+      before = on was.earlier was.by was.before;
+      within = was.within;
+      left = was.left;
+    }
 
 pub known_more : (sites : List Site) (lanes : LaneRows) (base lane at : ℕ) (old new : List ℕ) (e : Site)
     → length new ≡ length old
@@ -23,7 +38,7 @@ known_more sites lanes base lane at old new e long inside only known slot above 
       record {
         earlier = was.earlier;
         by = was.by;
-        before = later_site was.earlier was.by lane at was.before;
+        before = site_on lane at (at + 1) (omega arith) was.earlier was.by was.before;
         within = was.within;
         left = λ d. subst (λ (stamp : ℕ). IsLeft (length new) base lanes was.earlier (slice_index_or sites was.by d)
             slot stamp)
@@ -37,29 +52,9 @@ known_more sites lanes base lane at old new e long inside only known slot above 
     by = at;
     before = inr (refl, omega arith);
     within = inside;
-    left = λ d. subst (λ (n : ℕ). IsLeft n base lanes lane (slice_index_or sites at d) slot (slice_index new slot))
-        (sym long)
-        (subst (λ (site : Site). IsLeft (length old) base lanes lane site slot (slice_index new slot))
-        (get_or_default sites at e d inside) left);
+    left = λ d. rw (long, ← get_or_default sites at e d inside) left;
   }
 ]
-
-pub known_next : (sites : List Site) (lanes : LaneRows) (base lane at : ℕ) (stamps : List ℕ)
-    → AreKnown sites lanes base stamps lane at
-    → AreKnown sites lanes base stamps (lane + 1) 0
-known_next sites lanes base lane at stamps known slot above =
-    let was = known slot above in
-    record {
-      earlier = was.earlier;
-      by = was.by;
-      before = later_lane was.earlier was.by lane at was.before;
-      within = was.within;
-      left = was.left;
-    }
-
-pub known_fresh : (sites : List Site) (lanes : LaneRows) (base lane at : ℕ) (stamps : List ℕ) → AreStale stamps base
-    → AreKnown sites lanes base stamps lane at
-known_fresh sites lanes base lane at stamps stale slot above = absurd (omega (arith, above, stale slot))
 
 pub known_meets : (sites : List Site) (lanes : LaneRows) (base lane at : ℕ) (stamps : List ℕ) (e : Site)
     → at < length sites
@@ -79,16 +74,11 @@ known_meets sites lanes base lane at stamps e inside known stopped =
       at_within = inside;
       by_within = was.within;
       before = was.before;
-      touches = λ d. subst (λ (site : Site). Touches lanes site lane stopped.half) (get_or_default sites at e d inside)
-          stopped.touches;
-      touched = λ d. subst (λ (site : Site). Touches lanes site was.earlier left.half)
-          (get_or_default sites was.by e d was.within) left.touches;
+      touches = λ d. rw (← get_or_default sites at e d inside) stopped.touches;
+      touched = λ d. rw (← get_or_default sites was.by e d was.within) left.touches;
       leaves_it = λ d. (was.left d).leaves_it;
       same = sym left.same;
-      greater = λ d. subst (λ (site : Site). allowed site < (slice_index_or sites was.by d).rank)
-          (get_or_default sites at e d inside)
-          (subst (λ (site : Site). allowed (slice_index_or sites at e) < site.rank)
-          (get_or_default sites was.by e d was.within) greater);
+      greater = λ d. rw (← get_or_default sites at e d inside, ← get_or_default sites was.by e d was.within) greater;
     }
 
 -- stamps that are not greater than a number

@@ -3,8 +3,7 @@ use Rattle.std.proofs.Common.{◌≡◌, ℕ, ◌-◌, ◌<◌, ◌≤◌, true,
 use Rattle.std.proofs.{Common.{slice_index_or, refl, sym, subst, arith}, lemmas.Bool.{cases_eq, cases_lt}}
 use Rattle.std.proofs.lemmas.List.{get_or-set_other, get_or-set_same, get_or_default}
 use Rattle.std.specs.Prelude.{Bool, if◌then◌else◌}
-use Rattle.lane_stamps.specs.{declared.site.Site.{Site}, Sites.{LaneRows}}
-use Rattle.lane_stamps.specs.Stamps.{AreKnown, IsBefore, IsLink}
+use Rattle.lane_stamps.specs.{declared.site.Site.{Site}, Stamps.{IsLink}}
 
 -- what is so of the watched sites below one is so of those below the next that is watched
 pub skipped : (P : Site → Type 0) (sites : List Site) (k next : ℕ) → IsLink sites k next
@@ -29,23 +28,6 @@ skipped_pairs R sites k next link below i j d order less first second = elim (ca
       let not = link.between j d big less in
       let never : ⊥ = cc in absurd never
 ]
-
-is_before_later : (earlier by lane at next : ℕ) → at ≤ next → IsBefore earlier by lane at
-    → IsBefore earlier by lane next
-is_before_later earlier by lane at next order (inl less) = inl less
-is_before_later earlier by lane at next order (inr same) = inr (same.0, omega (arith, same.1, order))
-
-pub known_later : (sites : List Site) (lanes : LaneRows) (base lane at next : ℕ) (stamps : List ℕ) → at ≤ next
-    → AreKnown sites lanes base stamps lane at → AreKnown sites lanes base stamps lane next
-known_later sites lanes base lane at next stamps order known slot above =
-    let was = known slot above in
-    record {
-      earlier = was.earlier;
-      by = was.by;
-      before = is_before_later was.earlier was.by lane at next order was.before;
-      within = was.within;
-      left = was.left;
-    }
 
 -- links are made from the last site on
 pub link_end : (sites : List Site) → IsLink sites (length sites) (length sites)
@@ -83,8 +65,7 @@ link_more sites at next new e some few is link = subst (IsLink sites (at - 1)) (
       onward = omega (arith, link.onward);
       within = link.within;
       between = λ j d more less. elim (cases_eq j (at - 1)) [
-        | inl same ↦ subst (λ (n : ℕ). (slice_index_or sites n d).watched ≡ false) (sym same)
-            (subst (λ (site : Site). site.watched ≡ false) (get_or_default sites (at - 1) e d inside) watched_is)
+        | inl same ↦ rw (same, ← get_or_default sites (at - 1) e d inside) watched_is
         | inr other ↦ link.between j d (omega (arith, more, other)) less
       ];
     }
@@ -94,8 +75,6 @@ pub linked_more : (sites : List Site) (links : List ℕ) (at new : ℕ) → 0 < 
     → ((k : ℕ) → at ≤ k → k ≤ length sites → IsLink sites k (slice_index links k)) → (k : ℕ) → at - 1 ≤ k
     → k ≤ length sites → IsLink sites k (slice_index (set links (at - 1) new) k)
 linked_more sites links at new some few room link linked k more less = elim (cases_eq k (at - 1)) [
-  | inl same ↦ subst (λ (n : ℕ). IsLink sites n (slice_index (set links (at - 1) new) n)) (sym same)
-      (subst (IsLink sites (at - 1)) (sym (get_or-set_same links (at - 1) new 0 (omega (arith, few, room, some)))) link)
-  | inr other ↦ subst (IsLink sites k) (sym (get_or-set_other links (at - 1) k new 0 other))
-      (linked k (omega (arith, more, other)) less)
+  | inl same ↦ rw (same, get_or-set_same links (at - 1) new 0 (omega (arith, few, room, some))) link
+  | inr other ↦ rw (get_or-set_other links (at - 1) k new 0 other) (linked k (omega (arith, more, other)) less)
 ]

@@ -1,13 +1,13 @@
 -- Marks of accesses: what they say of lanes that go together.
 use Rattle.std.proofs.Common.{◌≡◌, ℕ, ◌+◌, ◌*◌, ◌%◌, ◌<◌, ◌≤◌, inl, inr, List, length, slice_index, slice_index_or, refl}
 use Rattle.std.{proofs.Common.{sym, ◌∙◌, ap, subst, arith}, specs.Prelude.{Bool, true, false, if◌then◌else◌}}
-use Rattle.std.{specs.List.{AllPairs}, proofs.lemmas.{Bool.{cases_eq, cases_lt}, List.{get_or_default}, Nat.{and_mask}}}
+use Rattle.std.{specs.List.{AllPairs}, proofs.lemmas.{Bool.{cases_lt}, List.{get_or_default}, Nat.{and_mask}}}
 use Rattle.lane_rows.specs.declared.{mask.Mask.{Mask}, places.Places.{Places}}
 use Rattle.lane_stamps.specs.{declared.{kind.Kind.{Kind, TheVariants.{Apply}}, site.Site.{Site}}, Stamps.{stamp_at}}
 use Rattle.lane_stamps.specs.declared.kind.Kind.TheVariants.{Load, LoadHalf, Store, Fetch, Replace, FetchHalf, AddHalf}
 use Rattle.lane_stamps.specs.Sites.{LaneRows, Covers, Touches, is_of_halves, leaves, loads, place_of}
 use Rattle.lane_stamps.specs.Stamps.{AreRanked, AreStale, IsBefore, Meets, WatchedOwn, WatchedUnmet, allowed, slot_of}
-use Rattle.lane_stamps.specs.Marks.{AreLoaded, AreMarks, EachBelow, IsLoadedBy, IsMark, IsMarkAt, IsSlotAt, LeaveMarks}
+use Rattle.lane_stamps.specs.Marks.{AreLoaded, AreMarks, IsLoadedBy, IsMark, IsMarkAt, IsSlotAt, LeaveMarks}
 use Rattle.lane_stamps.specs.Marks.{LoadNoGreater, LoadsGreater, LoadsGreaterAt, MarksAt, MarksOne, MarksOnly}
 use Rattle.lane_stamps.{specs.Marks.{mark_at, top_at}, proofs.MarkSteps.{before_mark, mark_above, mark_before}}
 
@@ -34,14 +34,6 @@ marks_more mask places lane top sites mark first old new long is one only slot =
 ]
 
 -- one site further
-pub each_more : (P : ℕ → Site → Type 0) (sites : List Site) (n : ℕ) (e : Site) → n < length sites
-    → EachBelow sites n P → P n (slice_index_or sites n e) → EachBelow sites (n + 1) P
-each_more P sites n e inside below here k d less = elim (cases_eq k n) [
-  | inl same ↦ subst (λ (i : ℕ). P i (slice_index_or sites i d)) (sym same)
-      (subst (P n) (get_or_default sites n e d inside) here)
-  | inr other ↦ below k d (omega (arith, other, less))
-]
-
 pub known_marks : (sites : List Site) (lanes : LaneRows) (base count at : ℕ) (old new : List ℕ) (e : Site)
     → length new ≡ length old → at < length sites
     → MarksAt old new lanes count (top_at base (length sites) count at) (length sites) (slice_index_or sites at e)
@@ -60,10 +52,7 @@ known_marks sites lanes base count at old new e long inside only known slot abov
   | inr now ↦ record {
     by = at;
     within = inside;
-    left = λ d. subst (λ (n : ℕ). IsMarkAt lanes n count (top_at base (length sites) count at) (length sites)
-        (slice_index_or sites at d) slot (slice_index new slot)) (sym long)
-        (subst (λ (site : Site). IsMarkAt lanes (length old) count (top_at base (length sites) count at)
-        (length sites) site slot (slice_index new slot)) (get_or_default sites at e d inside) now);
+    left = λ d. rw (long, ← get_or_default sites at e d inside) now;
   }
 ]
 
@@ -221,15 +210,14 @@ loaded_meets sites lanes halves base count loaded ranked stamps lane e long less
       at_within = greater.within;
       by_within = was.within;
       before = before_mark base (length sites) count earlier was.by lane greater.at greater.within was.within marks;
-      touches = λ d. subst (λ (site : Site). Touches lanes site lane half)
-          (get_or_default sites greater.at e d greater.within) touches;
-      touched = λ d. subst (λ (site : Site). Touches lanes site earlier other)
-          (get_or_default sites was.by e d was.within) touched;
+      touches = λ d. rw (← get_or_default sites greater.at e d greater.within) touches;
+      touched = λ d. rw (← get_or_default sites was.by e d was.within) touched;
       leaves_it = λ d. (was.left d).leaves_it;
       same = same_slot halves (length stamps) place (place_of lanes by earlier) long (sym left.mark.is_slot.same);
-      greater = λ d. subst (λ (site : Site). allowed site < (slice_index_or sites was.by d).rank)
-          (get_or_default sites greater.at e d greater.within)
-          (subst (λ (site : Site). allowed at < site.rank) (get_or_default sites was.by e d was.within) exceeds);
+      greater = λ d. rw (
+        ← get_or_default sites greater.at e d greater.within,
+        ← get_or_default sites was.by e d was.within,
+      ) exceeds;
     }
 
 -- a site further, lanes that go may be fewer
@@ -243,9 +231,7 @@ greater_more sites lanes stamps base count at old new e inside few met before le
   | inl now ↦ record {
     at = at;
     within = inside;
-    found = λ d. subst (λ (site : Site). LoadsGreaterAt lanes stamps new
-        (mark_at (top_at base (length sites) count at) (length sites) new) site) (get_or_default sites at e d inside)
-        (met now);
+    found = λ d. rw (← get_or_default sites at e d inside) (met now);
   }
   | inr more ↦
       let same : old ≡ new = omega (arith, few, more) in

@@ -4,9 +4,9 @@ use Rattle.std.{proofs.Common.{◌∙◌, ap, subst, arith}, specs.Prelude.{Bool
 use Rattle.std.proofs.lemmas.List.{get_or-set_other, get_or-set_same, length-set}
 use Rattle.loop_core_model.{proofs.OneElement.{same_op}, specs.declared.access.Access.{Access, TheVariants.{Reduce}}}
 use Rattle.loop_core_model.specs.Kinds.{by_one_operator}
-use Rattle.lane_stamps.{specs.declared.{kind.Kind.{Kind}, site.Site.{Site}}, proofs.StampSteps.{sites_more, pairs_more}}
+use Rattle.lane_stamps.{specs.declared.{kind.Kind.{Kind}, site.Site.{Site}}, proofs.StampSteps.{each_more, pairs_more}}
 use Rattle.lane_stamps.specs.Sites.{LaneRows, effect_at, leaves, log_of, ranked_as, unranked}
-use Rattle.lane_stamps.specs.Stamps.{AreRanked, kind_by, last_kind, reduce_alike}
+use Rattle.lane_stamps.specs.Stamps.{kind_by, last_kind, reduce_alike}
 
 -- two that reduce by one operator make accesses of one kind
 same_kind : (a b : Access) → by_one_operator a b ≡ true → a ≡ b
@@ -47,7 +47,7 @@ module _ (sites : List Site) (to rank next : ℕ) (last : Kind) (e : Site) (insi
   -- what is so of the others, and of this one, is so of one more
   more : (P : Site → Type 0) → ((k : ℕ) (d : Site) → k < to → P (slice_index_or sites k d)) → P (ranked_as next this)
       → (k : ℕ) (d : Site) → k < to + 1 → P (slice_index_or after k d)
-  more P others at = sites_more P after to e long (λ k d less. subst P (sym (one k d less)) (others k d less))
+  more P others at = each_more (λ (k : ℕ). P) after to e long (λ k d less. subst P (sym (one k d less)) (others k d less))
       (subst P (sym (here e)) at)
 
   both : (R : Site → Site → Type 0)
@@ -56,14 +56,8 @@ module _ (sites : List Site) (to rank next : ℕ) (last : Kind) (e : Site) (insi
       → i < j
       → j < to + 1 → R (slice_index_or after i d) (slice_index_or after j d)
   both R others at = pairs_more R after to e long
-      (λ i j d order less. subst (λ (r : Site). R r (slice_index_or after j d)) (sym (one i d (omega (
-        arith,
-        order,
-        less,
-      ))))
-      (subst (R (slice_index_or sites i d)) (sym (one j d less)) (others i j d order less)))
-      (λ i d less. subst (λ (r : Site). R r (slice_index_or after to e)) (sym (one i d less))
-      (subst (R (slice_index_or sites i d)) (sym (here e)) (at i d less)))
+      (λ i j d order less. rw (one i d (omega (arith, order, less)), one j d less) (others i j d order less))
+      (λ i d less. rw (one i d less, here e) (at i d less))
 
   before_last : (k : ℕ) (d : Site) → k < to → leaves (slice_index_or sites k d).kind ≡ true
       → (slice_index_or sites k d).rank ≡ next → kind_by (slice_index_or sites k d).kind
@@ -94,16 +88,6 @@ module _ (sites : List Site) (to rank next : ℕ) (last : Kind) (e : Site) (insi
         ≡ kind_by (last_kind last (slice_index_or sites to e).kind)) before_last
         (λ left same. sym (ap (λ (b : Bool). kind_by (if b then (slice_index_or sites to e).kind else last)) left));
   }
-
--- all of them
-pub ranked_all : (sites : List Site) (rank : ℕ) (last : Kind) (to : ℕ) → length sites ≤ to → rank ≤ length sites + 1
-    → RankedTo sites to rank last → AreRanked sites
-ranked_all sites rank last to all few ranked = record {
-  some = λ k d inside left. ranked.some k d (omega (arith, inside, all));
-  few = λ k d inside. omega (arith, few, ranked.most k d (omega (arith, inside, all)));
-  rise = λ i j d order inside left leave. ranked.rise i j d order (omega (arith, inside, all));
-  alike = λ i j d order inside. ranked.alike i j d order (omega (arith, inside, all));
-}
 
 -- nothing but a rank changes
 pub same_but_rank : (sites : List Site) (k rank : ℕ) (d : Site)

@@ -3,9 +3,9 @@ use Rattle.std.proofs.Common.{◌≡◌, ℕ, ◌<◌, ◌≤◌, Bool, true, fa
 use Rattle.std.{proofs.Common.{slice_index_or, refl, sym, ◌∙◌, ap, arith, suc}, specs.List.{AllByRecursion, AllPairs}}
 use Rattle.std.{specs.Prelude.{Option, Some, None, IfSome, if◌then◌else◌}, proofs.lemmas.Bool.{cases_eq}}
 use Rattle.std.proofs.lemmas.List.Elements.{recursion_from_All}
-use Rattle.array_maps.specs.{MapList.{AreWords}, declared.access.Half.{Half, TheVariants.{Low}}}
+use Rattle.array_maps.specs.{MapList.{AreWords}, declared.access.Half.{Half}}
 use Rattle.loop_core_model.specs.{Kept.{OperatorsAssociate}, Kinds.{by_one_operator, kind_leaves}}
-use Rattle.loop_core_model.specs.Effects.{Effect, deed_loads, deed_part, effects_of, kind_of_deed, SameIfLoaded}
+use Rattle.loop_core_model.specs.Effects.{Deed, Effect, deed_loads, deed_part, effects_of, kind_of_deed, SameIfLoaded}
 use Rattle.loop_core_model.specs.Effects.{with_effect, words_after_each_lane}
 use Rattle.loop_core_model.proofs.Sparing.{Spares, alone_spares, spared_before, fits_for, word_fits, length-before}
 use Rattle.loop_core_model.proofs.EffectLaws.{Exchange, GoesFirst, EachGoesFirst, site_by_site, operators_exchange}
@@ -14,51 +14,30 @@ use Rattle.lane_stamps.specs.declared.{kind.Kind.{Kind, TheVariants.{Apply}}, si
 use Rattle.lane_stamps.specs.declared.kind.Kind.TheVariants.{Load, LoadHalf, Store, Fetch, Replace, FetchHalf, AddHalf}
 use Rattle.lane_stamps.specs.Sites.{LaneRows, deed_by, done_by, effect_at, half_named, has, leaves, loads, log_of}
 use Rattle.lane_stamps.{specs.Sites.{place_of, value_of}, proofs.HalfLaws.{apart_spares, apart_places}}
-use Rattle.lane_stamps.specs.Stamps.{AreRanked, GoTogether, NoneMeets, Unmet, allowed, reduce_alike}
+use Rattle.lane_stamps.specs.Stamps.{AreRanked, GoTogether, NoneMeets, Unmet, allowed, kind_by, reduce_alike}
 
--- what a deed does is what its kind says
-deed_load : (kind : Kind) (half : Half) (value : ℕ) → deed_loads (deed_by kind half value) ≡ loads kind
-deed_load Load half value = refl
-deed_load LoadHalf half value = refl
-deed_load Store half value = refl
-deed_load Fetch half value = refl
-deed_load Replace half value = refl
-deed_load FetchHalf half value = refl
-deed_load AddHalf half value = refl
-deed_load (Apply op) half value = refl
+-- a deed does what its kind says
+record DoesAs (kind : Kind) (deed : Deed) : Type 0 where
+  load : deed_loads deed ≡ loads kind
+  leave : kind_leaves (kind_of_deed deed) ≡ leaves kind
+  alike : kind_of_deed deed ≡ kind_by kind
 
-deed_leaves : (kind : Kind) (half : Half) (value : ℕ) → kind_leaves (kind_of_deed (deed_by kind half value))
-    ≡ leaves kind
-deed_leaves Load half value = refl
-deed_leaves LoadHalf half value = refl
-deed_leaves Store half value = refl
-deed_leaves Fetch half value = refl
-deed_leaves Replace half value = refl
-deed_leaves FetchHalf half value = refl
-deed_leaves AddHalf half value = refl
-deed_leaves (Apply op) half value = refl
+does_as : (kind : Kind) (half : Half) (value : ℕ) → DoesAs kind (deed_by kind half value)
+does_as Load half value = record { load = refl; leave = refl; alike = refl }
+does_as LoadHalf half value = record { load = refl; leave = refl; alike = refl }
+does_as Store half value = record { load = refl; leave = refl; alike = refl }
+does_as Fetch half value = record { load = refl; leave = refl; alike = refl }
+does_as Replace half value = record { load = refl; leave = refl; alike = refl }
+does_as FetchHalf half value = record { load = refl; leave = refl; alike = refl }
+does_as AddHalf half value = record { load = refl; leave = refl; alike = refl }
+does_as (Apply op) half value = record { load = refl; leave = refl; alike = refl }
 
-deed_alike : (kind : Kind) (half : Half) (value : ℕ) → kind_of_deed (deed_by kind half value)
-    ≡ kind_of_deed (deed_by kind Low 0)
-deed_alike Load half value = refl
-deed_alike LoadHalf half value = refl
-deed_alike Store half value = refl
-deed_alike Fetch half value = refl
-deed_alike Replace half value = refl
-deed_alike FetchHalf half value = refl
-deed_alike AddHalf half value = refl
-deed_alike (Apply op) half value = refl
-
-site_loads : (lanes : LaneRows) (site : Site) (lane : ℕ) → deed_loads (done_by lanes site lane).deed ≡ loads site.kind
-site_loads lanes site lane = deed_load site.kind (half_named (place_of lanes site lane)) (value_of lanes site lane)
+site_does : (lanes : LaneRows) (site : Site) (lane : ℕ) → DoesAs site.kind (done_by lanes site lane).deed
+site_does lanes site lane = does_as site.kind (half_named (place_of lanes site lane)) (value_of lanes site lane)
 
 pub site_leaves : (lanes : LaneRows) (site : Site) (lane : ℕ)
     → kind_leaves (kind_of_deed (done_by lanes site lane).deed) ≡ leaves site.kind
-site_leaves lanes site lane = deed_leaves site.kind (half_named (place_of lanes site lane)) (value_of lanes site lane)
-
-site_alike : (lanes : LaneRows) (site : Site) (lane : ℕ) → kind_of_deed (done_by lanes site lane).deed
-    ≡ kind_of_deed (deed_by site.kind Low 0)
-site_alike lanes site lane = deed_alike site.kind (half_named (place_of lanes site lane)) (value_of lanes site lane)
+site_leaves lanes site lane = (site_does lanes site lane).leave
 
 -- what is so of an effect that is there
 if_there : (there : Bool) (effect : Effect) (P : Effect → Type 0) → (there ≡ true → P effect)
@@ -121,8 +100,8 @@ one_exchange laws lanes at by later earlier unmet rise alike here there = go (le
     go true true one_is two_is = elim (cases_eq at.rank by.rank) [
       | inl same ↦ operators_exchange laws (done_by lanes at later).deed (done_by lanes by earlier).deed
           (done_by lanes at later).element (done_by lanes by earlier).element
-          (ap (by_one_operator (kind_of_deed (done_by lanes at later).deed)) (site_alike lanes by earlier)
-          ∙ ap (λ kind. by_one_operator kind (kind_of_deed (deed_by by.kind Low 0))) (site_alike lanes at later)
+          (ap (by_one_operator (kind_of_deed (done_by lanes at later).deed)) (site_does lanes by earlier).alike
+          ∙ ap (λ kind. by_one_operator kind (kind_by by.kind)) (site_does lanes at later).alike
           ∙ alike one_is two_is same)
       | inr other ↦ apart_places laws lanes at by later earlier one_is two_is (λ half covers other_covers.
           let most : by.rank ≤ allowed at = unmet two_is half (here, covers) (there, other_covers) in
@@ -185,7 +164,7 @@ module _ (laws : OperatorsAssociate) (lanes : LaneRows) (count : ℕ) where
         → Spares effect.element part (done_by lanes site earlier)) sites
         (λ i e within there. one_spares lanes at (slice_index_or sites i e) lane earlier
         (unmet lane earlier before below k d inside i e within) (ranked.some i e within) here there
-        (sym (site_loads lanes at lane) ∙ load))))).0
+        (sym ((site_does lanes at lane).load) ∙ load))))).0
 
     pub go_together : GoTogether (log_of sites lanes) count
     go_together = record {

@@ -1,4 +1,5 @@
 pub mod Sites
 pub mod Forms
+pub mod Applying
 pub mod Stamps
 pub mod Marks

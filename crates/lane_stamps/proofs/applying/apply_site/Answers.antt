@@ -20,5 +20,5 @@ returns-in-Some-2 c =
     let site = c.args.site.now in
     let lanes = shown c.args.lanes in
     c.apply_kind-in-Some-2.ensures
-    ∙ line_values site.kind (mask_of lanes site) (places_of lanes site) (values_of lanes site) _ c.spell.new.out
-    c.args.count c.args.words.now c.in-Some-2.is c.spell.ensures
+    ∙ line_values site.kind (mask_of lanes site) (places_of lanes site) (values_of lanes site) _ c.spell_words-in-Some-2.new.out
+    c.args.count c.args.words.now c.in-Some-2.is c.spell_words-in-Some-2.ensures

@@ -1,7 +1,7 @@
-use Rattle.std.proofs.Common.{false, ℕ, ◌<◌, length, slice_index_or, subst, arith}
+use Rattle.std.proofs.Common.{false, ℕ, ◌<◌, length, slice_index_or, arith}
 use Rattle.lane_stamps.specs.{declared.{kind.Kind.TheVariants.{Load}, site.Site.{Site}}, Sites.{shown}}
-use Rattle.lane_stamps.specs.Marks.{LoadsGreaterAt, LoadsNoGreater, mark_at, top_at}
-use Rattle.lane_stamps.proofs.MarkLaws.{each_more, greater_more}
+use Rattle.lane_stamps.specs.Marks.{LoadsNoGreater, top_at}
+use Rattle.lane_stamps.proofs.{MarkLaws.{greater_more}, StampSteps.{each_more}}
 use Rattle.lane_stamps.proofs.marking.look_sites.Goals as goal
 
 pub loop-at-init : goal.loop-at-init
@@ -33,10 +33,8 @@ loop-at-preserved c =
           inside
           (λ k d less watched load lane below there. inv.none k d less watched load lane (omega (arith, below, few))
           there)
-          (subst (λ (top : ℕ). LoadsNoGreater lanes stamps new top many site) c.top_of-top.ensures.top
-          c.look_site-limit.ensures.none);
+          (rw c.top_of-top.ensures.top at c.look_site-limit.ensures.none);
       met = greater_more sites lanes stamps base count at old new none inside few
-          (λ now. subst (λ (top : ℕ). LoadsGreaterAt lanes stamps new (mark_at top many new) site)
-          c.top_of-top.ensures.top (c.look_site-limit.ensures.met now))
+          (λ now. rw c.top_of-top.ensures.top at (c.look_site-limit.ensures.met now))
           inv.met;
     }

@@ -1,8 +1,8 @@
-use Rattle.std.proofs.Common.{false, ℕ, ◌<◌, length, slice_index_or, subst, arith}
+use Rattle.std.proofs.Common.{false, ℕ, ◌<◌, length, slice_index_or, arith}
 use Rattle.lane_rows.specs.Rows.{place_at}
 use Rattle.lane_stamps.specs.{declared.{kind.Kind.TheVariants.{Load}, site.Site.{Site}}, Sites.{places_of, shown}}
-use Rattle.lane_stamps.{specs.Marks.{LeavesMarks, MarksAt, top_at}, proofs.MarkLaws.{each_more, known_marks}}
-use Rattle.lane_stamps.proofs.StampSteps.{rises_at}
+use Rattle.lane_stamps.{specs.Marks.{LeavesMarks, top_at}, proofs.MarkLaws.{known_marks}}
+use Rattle.lane_stamps.proofs.StampSteps.{each_more, rises_at}
 use Rattle.lane_stamps.proofs.marking.mark_sites.Goals as goal
 
 pub loop-at-init : goal.loop-at-init
@@ -35,10 +35,8 @@ loop-at-preserved c =
                 c.mark_site.ensures.rises,
             inv.marked k d less watched left lane within there,
           ))
-          (subst (λ (top : ℕ). LeavesMarks lanes new count top many site) c.top_of-top.ensures.top
-          c.mark_site.ensures.marked);
+          (rw c.top_of-top.ensures.top at c.mark_site.ensures.marked);
       known = λ fresh. known_marks sites lanes base count at old new none long inside
-          (subst (λ (top : ℕ). MarksAt old new lanes count top many site) c.top_of-top.ensures.top
-          c.mark_site.ensures.only)
+          (rw c.top_of-top.ensures.top at c.mark_site.ensures.only)
           (inv.known fresh);
     }

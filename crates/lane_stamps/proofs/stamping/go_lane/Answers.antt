@@ -1,9 +1,9 @@
 use Rattle.std.proofs.Common.{false, ℕ, ◌+◌, ◌<◌, slice_index, slice_index_or, arith, refl, length, subst}
 use Rattle.lane_stamps.specs.{declared.{site.Site.{Site}, kind.Kind.TheVariants.{Load}}, Sites.{shown}}
 use Rattle.lane_stamps.specs.Stamps.{AreFree, AreStamped, IsLink, LoadsNoOwn, Meets, WatchedFree, WatchedOwn}
-use Rattle.lane_stamps.{specs.Stamps.{WatchedStamped}, proofs.LinkLaws.{known_later, skipped, skipped_pairs}}
-use Rattle.lane_stamps.proofs.KnownSteps.{known_more, known_meets, known_next, stale_more}
-use Rattle.lane_stamps.proofs.StampSteps.{sites_more, pairs_more, watched_before, watched_after, watched_own}
+use Rattle.lane_stamps.{specs.Stamps.{WatchedStamped}, proofs.LinkLaws.{skipped, skipped_pairs}}
+use Rattle.lane_stamps.proofs.KnownSteps.{known_more, known_meets, known_on, lane_on, site_on, stale_more}
+use Rattle.lane_stamps.proofs.StampSteps.{each_more, pairs_more, watched_before, watched_after, watched_own}
 use Rattle.lane_stamps.proofs.stamping.go_lane.Goals as goal
 
 pub loop-at-init : goal.loop-at-init
@@ -22,7 +22,7 @@ loop-at-init c =
           (λ k d less. absurd (omega (arith, less)));
       own = skipped_pairs (LoadsNoOwn lanes lane) sites 0 next link (λ i j d order less. absurd (omega (arith, less)));
       rises = λ at. omega arith;
-      known = known_later sites lanes base lane 0 next stamps link.onward;
+      known = known_on sites lanes base lane 0 lane next stamps (site_on lane 0 next link.onward);
       stale = λ most all stale. stale;
     }
 
@@ -51,9 +51,9 @@ loop-at-preserved c =
     record {
       few = link.within;
       free = skipped (AreFree first base lanes lane) sites (k + 1) next link
-          (sites_more (WatchedFree first base lanes lane) sites k none inside inv.free free);
+          (each_more (λ (i : ℕ). WatchedFree first base lanes lane) sites k none inside inv.free free);
       stamped = skipped (AreStamped new base lanes lane) sites (k + 1) next link
-          (sites_more (WatchedStamped new base lanes lane) sites k none inside
+          (each_more (λ (i : ℕ). WatchedStamped new base lanes lane) sites k none inside
           (λ i d less. watched_after old new base lanes lane (slice_index_or sites i d) long c.go_at.ensures.rises
           (inv.stamped i d less))
           (λ watched. c.if-not-go_at.ensures.stamped refl));
@@ -63,7 +63,7 @@ loop-at-preserved c =
           (c.requires.ranked.some i d (omega (arith, less, inside)))
           (inv.stamped i d less) (λ watched. c.if-not-go_at.ensures.free refl)));
       rises = λ at. omega (arith, inv.rises at, c.go_at.ensures.rises at);
-      known = λ start. known_later sites lanes base lane (k + 1) next new link.onward
+      known = λ start. known_on sites lanes base lane (k + 1) lane next new (site_on lane (k + 1) next link.onward)
           (known_more sites lanes base lane k old new none long inside c.go_at.ensures.only (inv.known start));
       stale = λ most all stale. stale_more sites lanes base lane k most old new none inside
           c.go_at.ensures.only all (inv.stale most all stale);
@@ -79,5 +79,5 @@ returns-then-not-go_at-clause-met c start stopped =
 
 pub returns-clause-known : goal.returns-clause-known
 returns-clause-known c start went =
-    known_next c.args.sites.now (shown c.args.lanes) c.args.base c.args.lane c.loop-at.at c.loop-at.stamps
-    (c.loop-at.invariant.known start)
+    known_on c.args.sites.now (shown c.args.lanes) c.args.base c.args.lane c.loop-at.at (c.args.lane + 1) 0
+    c.loop-at.stamps (lane_on c.args.lane c.loop-at.at) (c.loop-at.invariant.known start)
