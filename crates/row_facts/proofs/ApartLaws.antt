@@ -1,9 +1,11 @@
 -- Bytes that are apart modulo a power of two.
 use Rattle.std.proofs.Common.{◌≡◌, ◌≢◌, ◌∙◌, ℕ, ◌+◌, ◌-◌, ◌*◌, ◌/◌, ◌%◌, ◌^◌, ◌<◌, ◌≤◌, Bool, true, false, refl, sym}
 use Rattle.std.{proofs.{Common.{ap, arith, ⊎_elim}, lemmas.Nat.{pow_pos}}, specs.Prelude.{◌==◌, if◌then◌else◌}}
-use Rattle.std.proofs.{Math.Nat.{mod-le, mul-add, zero-mul}, lemmas.Nat.Gcd.{mod-eq-zero_of_dvd}}
+use Rattle.std.proofs.Math.Nat.{mod-eq_of_lt, mod-le, mod-mod, mod_self, mul-add, mul-le-mul_left, zero-mul}
+use Rattle.std.proofs.lemmas.Nat.Gcd.{mod-eq-zero_of_dvd}
 use Rattle.std.proofs.lemmas.Bool.{cases_lt, eqb-true, eqb-false}
 use Rattle.value_range.proofs.Multiples.{pow-dvd}
+use Rattle.row_facts.specs.{declared.lines.Line.{Line}, Facts.{IsOfMultiples, IsOnLine}}
 use Rattle.row_facts.{specs.Apart.{IsAmong}, proofs.Congruence.{coarse, wraps, same-sum, same-product, cancel}}
 
 -- a number is so many ahead of another, modulo a power, if their lines are, at two indexes
@@ -35,9 +37,9 @@ ahead b f g s o t p d index x y h k l q e first second =
     first)
 
 -- so many that neither has one of the other's bytes
-pub apart : (m a n size other x y half : ℕ) → 0 < m → (a + y) % m ≡ x % m → (n + a) % m ≡ 0 → other ≤ a % m →
-    size ≤ n % m → IsAmong x size half → IsAmong y other half → ⊥
-apart m a n size other x y half positive e f k h first second =
+pub apart : (m a n size other x y : ℕ) → 0 < m → (a + y) % m ≡ x % m → (n + a) % m ≡ 0 → other ≤ a % m → size ≤ n % m →
+    x < y + other → y < x + size → ⊥
+apart m a n size other x y positive e f k h first second =
     ⊎_elim
     (λ (l : x < y).
     let t = y - x in
@@ -49,23 +51,25 @@ apart m a n size other x y half positive e f k h first second =
     let zero : 0 % m ≡ 0 = omega (arith, positive) in
     let same : n % m ≡ t % m = cancel m n t a positive
     (f ∙ sym zero ∙ sym none ∙ ap (λ (j : ℕ). j % m) (sym turned)) in
-    omega (arith, same, mod-le t m, first.before, second.from))
+    omega (arith, same, mod-le t m, second))
     (λ (l : y ≤ x).
     let t = x - y in
     let back : x ≡ t + y = omega arith in
     let same : a % m ≡ t % m = cancel m a t y positive (e ∙ ap (λ (j : ℕ). j % m) back) in
-    omega (arith, same, mod-le t m, second.before, first.from))
+    omega (arith, same, mod-le t m, first))
     (cases_lt x y)
 
 -- numbers on a line of multiples are multiples
-pub aligned : (k bits s o index byte : ℕ) → k ≤ bits → s % 2 ^ k ≡ 0 → o % 2 ^ k ≡ 0 →
-    byte % 2 ^ bits ≡ (s * index + o) % 2 ^ bits → byte % 2 ^ k ≡ 0
-aligned k bits s o index byte h e f line =
+pub aligned : (line : Line) (k index byte : ℕ) → IsOfMultiples line k → IsOnLine line index byte → byte % 2 ^ k ≡ 0
+aligned line k index byte are on =
     let m = 2 ^ k in
+    let s = line.scale in
+    let o = line.offset in
     let zero : 0 % m ≡ 0 = omega (arith, pow_pos k) in
     let none : 0 * index + 0 ≡ 0 = omega (arith, zero-mul index) in
-    coarse k bits byte (s * index + o) h line
-    ∙ same-sum m (s * index) (0 * index) o 0 (same-product m s 0 index index (e ∙ sym zero) refl) (f ∙ sym zero)
+    coarse k line.bits byte (s * index + o) are.known on.same
+    ∙ same-sum m (s * index) (0 * index) o 0 (same-product m s 0 index index (are.scale ∙ sym zero) refl)
+    (are.offset ∙ sym zero)
     ∙ ap (λ (n : ℕ). n % m) none ∙ zero
 
 -- at a multiple of its size the halves of an access begin among its bytes
@@ -81,3 +85,50 @@ among-four byte half e f = go (byte % 8 == 0) refl f
         record { from = omega arith; before = omega arith }
     go false h k = let part : byte % 8 ≢ 0 = eqb-false (byte % 8) 0 h in
         record { from = omega arith; before = omega arith }
+
+-- a number that is ahead of another by more than an element, modulo a power, and by less than that without one, isn't
+-- in its element
+clear : (m a x y : ℕ) → 8 ≤ a → a + 8 ≤ m → (a + y) % m ≡ x % m → x / 8 ≡ y / 8 → ⊥
+clear m a x y from upto e same =
+    let turned : m - a + a ≡ m = omega (arith, upto) in
+    let whole : a % m ≡ a = mod-eq_of_lt (omega (arith, upto)) in
+    let rest : (m - a) % m ≡ m - a = mod-eq_of_lt (omega (arith, from, upto)) in
+    apart m a (m - a) 8 8 x y (omega (arith, upto)) e (ap (λ (n : ℕ). n % m) turned ∙ mod_self m)
+    (omega (arith, from, whole)) (omega (arith, upto, rest)) (omega (arith, same)) (omega (arith, same))
+
+-- a number on a line is so far ahead of one on another, of the same scale, at a lesser index: by a start, and a step
+-- for each index more
+pub rises : (b f g s o t p from more index x y : ℕ) → b ≤ f → b ≤ g → b ≤ 64 → p ≤ 2 ^ 64 → s % 2 ^ b ≡ t % 2 ^ b →
+    x % 2 ^ f ≡ (s * (index + (from + more)) + o) % 2 ^ f → y % 2 ^ g ≡ (t * index + p) % 2 ^ g →
+    (((s * from % 2 ^ 64 + o) % 2 ^ 64 + (2 ^ 64 - p)) % 2 ^ 64 % 2 ^ b + s % 2 ^ b * more + y) % 2 ^ b ≡ x % 2 ^ b
+rises b f g s o t p from more index x y h k l q e first second =
+    let m = 2 ^ b in
+    let a = ((s * from % 2 ^ 64 + o) % 2 ^ 64 + (2 ^ 64 - p)) % 2 ^ 64 in
+    let at : index + (from + more) ≡ index + more + from = omega arith in
+    let later : x % 2 ^ f ≡ (s * (index + more + from) + o) % 2 ^ f =
+    first ∙ ap (λ (i : ℕ). (s * i + o) % 2 ^ f) at in
+    let split : t * index + p + t * more ≡ t * (index + more) + p = omega (arith, mul-add t index more) in
+    let moved : (y + t * more) % 2 ^ g ≡ (t * (index + more) + p) % 2 ^ g =
+    same-sum (2 ^ g) y (t * index + p) (t * more) (t * more) second refl ∙ ap (λ (n : ℕ). n % 2 ^ g) split in
+    let whole : (a + (y + t * more)) % m ≡ x % m =
+    ahead b f g s o t p from (index + more) x (y + t * more) h k l q e later moved in
+    let start : a % m % m ≡ a % m = mod-mod a m in
+    let step : (s % m * more) % m ≡ (t * more) % m =
+    same-product m (s % m) t more more (mod-mod s m ∙ e) refl in
+    let order : a + t * more + y ≡ a + (y + t * more) = omega arith in
+    same-sum m (a % m + s % m * more) (a + t * more) y y (same-sum m (a % m) a (s % m * more) (t * more) start step)
+    refl
+    ∙ ap (λ (n : ℕ). n % m) order ∙ whole
+
+-- lines of one scale, of which the first stays ahead
+pub stays_ahead : (b f g s o t p from count index more x y : ℕ) → b ≤ f → b ≤ g → b ≤ 64 → p ≤ 2 ^ 64 →
+    s % 2 ^ b ≡ t % 2 ^ b →
+    8 ≤ ((s * from % 2 ^ 64 + o) % 2 ^ 64 + (2 ^ 64 - p)) % 2 ^ 64 % 2 ^ b →
+    ((s * from % 2 ^ 64 + o) % 2 ^ 64 + (2 ^ 64 - p)) % 2 ^ 64 % 2 ^ b + s % 2 ^ b * count + 8 ≤ 2 ^ b →
+    more ≤ count → x % 2 ^ f ≡ (s * (index + (from + more)) + o) % 2 ^ f → y % 2 ^ g ≡ (t * index + p) % 2 ^ g →
+    x / 8 ≡ y / 8 → ⊥
+stays_ahead b f g s o t p from count index more x y h k l q e begins ends few first second same =
+    let a = ((s * from % 2 ^ 64 + o) % 2 ^ 64 + (2 ^ 64 - p)) % 2 ^ 64 % 2 ^ b in
+    let less : s % 2 ^ b * more ≤ s % 2 ^ b * count = mul-le-mul_left (s % 2 ^ b) few in
+    clear (2 ^ b) (a + s % 2 ^ b * more) x y (omega (arith, begins)) (omega (arith, less, ends))
+    (rises b f g s o t p from more index x y h k l q e first second) same

@@ -1,7 +1,7 @@
 -- Facts of a list's values, one more at a time; and what a lookup finds.
 use Rattle.std.proofs.Common.{◌≡◌, ℕ, zero, suc, ◌+◌, ◌*◌, ◌%◌, ◌^◌, ◌<◌, ◌≤◌, ◌⊎◌, inl, inr, List, [], ◌∷◌, ◌++◌}
-use Rattle.std.proofs.{Common.{length, refl, sym, ap, subst, arith, Bool, true, false}, Math.Nat.{mod-eq_of_lt}}
-use Rattle.std.specs.Prelude.{slice_get, slice_index, Some, nat_lt, if◌then◌else◌}
+use Rattle.std.proofs.{Common.{length, refl, sym, ap, subst, arith, true, false}, Math.Nat.{mod-eq_of_lt}}
+use Rattle.std.specs.Prelude.{slice_get, slice_index, Some, nat_lt}
 use Rattle.bpf_insn_types.specs.declared.insn.{Width.TheVariants.{W32, W64}, AluOp.TheVariants.{Add, Mul, Mov}}
 use Rattle.bpf_insn_types.specs.{declared.insn.Compare.TheVariants.{Lt}, Words.{alu, holds}}
 use Rattle.bpf_step_model.specs.AreaWords.{area_word, looked_up_word}
@@ -45,23 +45,10 @@ more-facts list facts op fact is are more = record {
       };
 }
 
--- a test is met or not
-pub decided : (b : Bool) → (b ≡ true) ⊎ (b ≡ false)
-decided true = inl refl
-decided false = inr refl
-
--- a selection is one of the two
-pub chosen : (b : Bool) (x y n : ℕ) → n ≡ (if b then x else y) → (n ≡ x) ⊎ (n ≡ y)
-chosen true x y n e = inl e
-chosen false x y n e = inr e
-
 -- a comparison of words
 pub holds-lt : (a b : ℕ) → a < 2 ^ 64 → b < 2 ^ 64 → holds W64 Lt a b ≡ nat_lt a b
 unfolding holds
-holds-lt a b h k =
-    let first : a % 2 ^ 64 ≡ a = mod-eq_of_lt h in
-    let second : b % 2 ^ 64 ≡ b = mod-eq_of_lt k in
-    rw (first, second) refl
+holds-lt a b h k = rw (mod-eq_of_lt h, mod-eq_of_lt k) refl
 
 -- the area word of an element, as it is computed
 pub area-computed : (first key : ℕ) → first < 2 ^ 32 → key < 2 ^ 32 →

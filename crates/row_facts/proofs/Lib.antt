@@ -9,4 +9,3 @@ pub mod MeetingLaws
 pub mod NarrowLaws
 pub mod ListLaws
 pub mod MarkLaws
-pub mod Clear

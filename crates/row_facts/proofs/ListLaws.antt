@@ -1,11 +1,11 @@
 -- The sites of a list, one more at a time.
 use Rattle.std.proofs.Common.{◌≡◌, ◌∙◌, ℕ, ◌+◌, ◌<◌, List, [], ◌∷◌, ◌++◌, true, false, length, get_or, take, sym}
-use Rattle.std.{proofs.Common.{ap, subst}, specs.{Prelude.{drop, slice_index_or}, List.{AllZip, filter}}}
-use Rattle.std.proofs.lemmas.List.{append-nil, take_more, Elements.{filter-append}}
+use Rattle.std.{proofs.Common.{ap, subst}, specs.{Prelude.{drop, slice_index_or}, List.{AllZip}}}
+use Rattle.std.proofs.lemmas.List.{take_more}
 use Rattle.lane_stamps.specs.{declared.site.Site.{Site}, Sites.{ranked_as, unranked}}
 use Rattle.row_list.specs.declared.row_op.RowOp.{RowOp, TheVariants.{All}}
 use Rattle.row_list.specs.Places.{is_access}
-use Rattle.row_facts.{specs.{Sites.{sites_of}, SiteKinds.{AreListed, IsKindOf}}, proofs.SiteLaws.{filter_none, filter_one}}
+use Rattle.row_facts.{specs.{SiteKinds.{AreListed, IsKindOf}}, proofs.SiteLaws.{sites_more, sites_same}}
 
 zip_more : (ops : List RowOp) (sites : List Site) (op : RowOp) (site : Site) → AllZip IsKindOf ops sites → IsKindOf op site
     → AllZip IsKindOf (ops ++ op ∷ []) (sites ++ site ∷ [])
@@ -17,19 +17,13 @@ zip_more (o ∷ ops) (s ∷ sites) op site zip one = (zip.0, zip_more ops sites 
 -- an operation that is none has no site
 pub listed_same : (list : List RowOp) (ops : List RowOp) (sites : List Site) (op : RowOp) → is_access op ≡ false
     → AreListed list ops sites → AreListed (list ++ op ∷ []) ops sites
-listed_same list ops sites op is are = record {
-  all = are.all ∙ sym (append-nil (sites_of list)) ∙ ap (λ (xs : List RowOp). sites_of list ++ xs) (sym (filter_none op is))
-      ∙ sym (filter-append is_access list (op ∷ []));
-  kinds = are.kinds;
-}
+listed_same list ops sites op is are = record { all = are.all ∙ sites_same list op is; kinds = are.kinds }
 
 -- an access has one
 pub listed_more : (list : List RowOp) (ops : List RowOp) (sites : List Site) (op : RowOp) (site : Site) → is_access op ≡ true
     → IsKindOf op site → AreListed list ops sites → AreListed (list ++ op ∷ []) (ops ++ op ∷ []) (sites ++ site ∷ [])
 listed_more list ops sites op site is kind are = record {
-  all = ap (λ (xs : List RowOp). xs ++ op ∷ []) are.all
-      ∙ ap (λ (xs : List RowOp). sites_of list ++ xs) (sym (filter_one op is))
-      ∙ sym (filter-append is_access list (op ∷ []));
+  all = ap (λ (xs : List RowOp). xs ++ op ∷ []) are.all ∙ sites_more list op is;
   kinds = zip_more ops sites op site are.kinds kind;
 }
 

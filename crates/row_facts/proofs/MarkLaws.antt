@@ -1,21 +1,20 @@
 -- Which sites are watched.
-use Rattle.std.proofs.Common.{◌≡◌, ℕ, ◌≤◌, List, length, slice_index_or, ap, subst}
+use Rattle.std.proofs.{Common.{◌∙◌, ◌≤◌, List, length, slice_index_or, Some, ap}, lemmas.Option.{slice_get-get_or}}
 use Rattle.lane_stamps.specs.{declared.site.Site.{Site}, Stamps.{AreRanked}}
-use Rattle.row_facts.specs.{declared.{meeting.Meeting.{Meeting}, listed.ListSites.{ListSites}}, Meetings.{AreMeetings}}
+use Rattle.row_facts.specs.{declared.{meeting.Meeting.{Meeting}, listing.ListSites.{ListSites}}, Meetings.{AreMeetings}}
 use Rattle.row_facts.specs.{Lists.{AreListSites}, SiteKinds.{AreListed}, Slots.{AreSlots}}
-use Rattle.row_facts.specs.Marks.{AreEven, AreMarked, IsWatched, WatchesEach}
+use Rattle.row_facts.specs.Marks.{AreEven, AreMarked, WatchesEach}
 use Rattle.row_list.specs.declared.row_op.RowOp.{RowOp}
 
 pub are_marked : (meetings : List Meeting) (sites : List Site) → WatchesEach sites meetings → AreEven sites
     → AreMarked meetings sites
 are_marked meetings sites each even = record {
   listed = λ i j d within inside listed.
-      let k : ℕ = listed.0 in
       let meeting : Meeting = record { first = i; second = j } in
-      let found : slice_index_or meetings k meeting ≡ meeting = listed.2 in
-      let both = each k meeting listed.1 in (
-        subst (IsWatched sites) (ap (λ (m : Meeting). m.first) found) both.0 d within,
-        subst (IsWatched sites) (ap (λ (m : Meeting). m.second) found) both.1 d inside,
+      let there = slice_get-get_or meetings listed.0 meeting listed.1 ∙ ap (λ (m : Meeting). Some m) listed.2 in
+      let both = each listed.0 meeting there in (
+        both.0 (slice_index_or sites i d) (slice_get-get_or sites i d within),
+        both.1 (slice_index_or sites j d) (slice_get-get_or sites j d inside),
       );
   even = λ i j d within inside. (even i d within).each j d inside;
 }

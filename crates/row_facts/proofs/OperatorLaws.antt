@@ -41,9 +41,7 @@ negative m y h k =
 pub alu-sub : (x y : ℕ) → x < 2 ^ 64 → y < 2 ^ 64 → alu W64 Sub x y ≡ (x + (y * (2 ^ 64 - 1)) % 2 ^ 64) % 2 ^ 64
 unfolding alu
 alu-sub x y h k =
-    let first : x % 2 ^ 64 ≡ x = mod-eq_of_lt h in
-    let second : y % 2 ^ 64 ≡ y = mod-eq_of_lt k in
-    rw (first, second)
+    rw (mod-eq_of_lt h, mod-eq_of_lt k)
     (same-sum (2 ^ 64) x x (2 ^ 64 - y) ((y * (2 ^ 64 - 1)) % 2 ^ 64) refl
     (sym (mod-mod_of_dvd (2 ^ 64) (y * (2 ^ 64 - 1)) (pow-dvd 64 64 (omega arith)) ∙ negative (2 ^ 64) y (pow_pos 64)
     (omega arith))))
@@ -51,16 +49,12 @@ alu-sub x y h k =
 pub alu-lsh : (x n : ℕ) → x < 2 ^ 64 → n < 2 ^ 64 → alu W64 Lsh x n ≡ (x * (1 * 2 ^ (n % 64) % 2 ^ 64)) % 2 ^ 64
 unfolding alu
 alu-lsh x n h k =
-    let first : x % 2 ^ 64 ≡ x = mod-eq_of_lt h in
-    let second : n % 2 ^ 64 ≡ n = mod-eq_of_lt k in
-    rw (first, second, one_shl (n % 64) 64 (mod_below n 64 (omega arith))) refl
+    rw (mod-eq_of_lt h, mod-eq_of_lt k, one_shl (n % 64) 64 (mod_below n 64 (omega arith))) refl
 
 pub alu-rsh : (x n : ℕ) → x < 2 ^ 64 → n < 2 ^ 64 → alu W64 Rsh x n ≡ x / 2 ^ (n % 64)
 unfolding alu
 alu-rsh x n h k =
-    let first : x % 2 ^ 64 ≡ x = mod-eq_of_lt h in
-    let second : n % 2 ^ 64 ≡ n = mod-eq_of_lt k in
-    rw (first, second) refl
+    rw (mod-eq_of_lt h, mod-eq_of_lt k) refl
 
 -- a number whose complement is a multiple of a power has its low bits set
 low-ones : (k n : ℕ) → k ≤ 64 → n < 2 ^ 64 → (2 ^ 64 - 1 - n) % 2 ^ k ≡ 0 → n % 2 ^ k ≡ 2 ^ k - 1
@@ -80,9 +74,7 @@ pub alu-and : (k x n : ℕ) → k ≤ 64 → x < 2 ^ 64 → n < 2 ^ 64 → (2 ^ 
     alu W64 And x n % 2 ^ k ≡ x % 2 ^ k
 unfolding alu
 alu-and k x n h i j e =
-    let first : x % 2 ^ 64 ≡ x = mod-eq_of_lt i in
-    let second : n % 2 ^ 64 ≡ n = mod-eq_of_lt j in
-    rw (first, second)
+    rw (mod-eq_of_lt i, mod-eq_of_lt j)
     (and_mod x n k ∙ ap (λ (m : ℕ). bit_and (x % 2 ^ k) m) (low-ones k n h j e) ∙ and_mask (x % 2 ^ k) k
     ∙ mod-mod_of_dvd (2 ^ k) x (pow-dvd k k (omega arith)))
 
@@ -90,18 +82,14 @@ alu-and k x n h i j e =
 pub alu-or : (x y : ℕ) → x < 2 ^ 64 → y < 2 ^ 64 → IsSumOfBits x y → alu W64 Or x y ≡ (x + y) % 2 ^ 64
 unfolding alu
 alu-or x y h k e =
-    let first : x % 2 ^ 64 ≡ x = mod-eq_of_lt h in
-    let second : y % 2 ^ 64 ≡ y = mod-eq_of_lt k in
     let small : x + y < 2 ^ 64 = subst (λ (n : ℕ). n < 2 ^ 64) e.by_or (or_lt 64 x y h k) in
-    rw (first, second) (e.by_or ∙ sym (mod-eq_of_lt small))
+    rw (mod-eq_of_lt h, mod-eq_of_lt k) (e.by_or ∙ sym (mod-eq_of_lt small))
 
 pub alu-xor : (x y : ℕ) → x < 2 ^ 64 → y < 2 ^ 64 → IsSumOfBits x y → alu W64 Xor x y ≡ (x + y) % 2 ^ 64
 unfolding alu
 alu-xor x y h k e =
-    let first : x % 2 ^ 64 ≡ x = mod-eq_of_lt h in
-    let second : y % 2 ^ 64 ≡ y = mod-eq_of_lt k in
     let small : x + y < 2 ^ 64 = subst (λ (n : ℕ). n < 2 ^ 64) e.by_or (or_lt 64 x y h k) in
-    rw (first, second) (e.by_xor ∙ sym (mod-eq_of_lt small))
+    rw (mod-eq_of_lt h, mod-eq_of_lt k) (e.by_xor ∙ sym (mod-eq_of_lt small))
 
 -- a word that is shifted to nothing
 pub shifted-away : (k n : ℕ) → n / 2 ^ k ≡ 0 → n < 2 ^ k

@@ -30,11 +30,22 @@ no-place _ e = refl
 pub no-sites : (list : List RowOp) (facts : List Fact) → AreSites list facts [] []
 no-sites list facts = record { same = refl; each = All-nil (IsSite list facts) }
 
-pub filter_one : (op : RowOp) → is_access op ≡ true → filter is_access (op ∷ []) ≡ op ∷ []
+filter_one : (op : RowOp) → is_access op ≡ true → filter is_access (op ∷ []) ≡ op ∷ []
 filter_one op e = rw e refl
 
-pub filter_none : (op : RowOp) → is_access op ≡ false → filter is_access (op ∷ []) ≡ []
+filter_none : (op : RowOp) → is_access op ≡ false → filter is_access (op ∷ []) ≡ []
 filter_none op e = rw e refl
+
+-- with one more access, and with another operation
+pub sites_more : (ops : List RowOp) (op : RowOp) → is_access op ≡ true →
+    sites_of ops ++ op ∷ [] ≡ sites_of (ops ++ op ∷ [])
+sites_more ops op is = ap (λ (xs : List RowOp). sites_of ops ++ xs) (sym (filter_one op is))
+    ∙ sym (filter-append is_access ops (op ∷ []))
+
+pub sites_same : (ops : List RowOp) (op : RowOp) → is_access op ≡ false → sites_of ops ≡ sites_of (ops ++ op ∷ [])
+sites_same ops op is = sym (append-nil (sites_of ops))
+    ∙ ap (λ (xs : List RowOp). sites_of ops ++ xs) (sym (filter_none op is))
+    ∙ sym (filter-append is_access ops (op ∷ []))
 
 -- one more
 pub more-sites : (list : List RowOp) (facts : List Fact) (ops : List RowOp) (sites : List Site) (op : RowOp) (site :
@@ -44,21 +55,14 @@ pub more-sites : (list : List RowOp) (facts : List Fact) (ops : List RowOp) (sit
 more-sites list facts ops sites op site are is new = record {
   same = map-append (λ (s : Site). s.op) sites (site ∷ [])
       ∙ ap (λ (xs : List RowOp). xs ++ site.op ∷ []) are.same
-      ∙ ap (λ (o : RowOp). sites_of ops ++ o ∷ []) new.same
-      ∙ ap (λ (xs : List RowOp). sites_of ops ++ xs) (sym (filter_one op is))
-      ∙ sym (filter-append is_access ops (op ∷ []));
+      ∙ ap (λ (o : RowOp). sites_of ops ++ o ∷ []) new.same ∙ sites_more ops op is;
   each = All-push (IsSite list facts) sites site are.each new.is;
 }
 
 -- an operation that is none
 pub same-sites : (list : List RowOp) (facts : List Fact) (ops : List RowOp) (sites : List Site) (op : RowOp) →
     AreSites list facts ops sites → is_access op ≡ false → AreSites list facts (ops ++ op ∷ []) sites
-same-sites list facts ops sites op are is = record {
-  same = are.same ∙ sym (append-nil (sites_of ops)) ∙ ap (λ (xs : List RowOp). sites_of ops ++ xs) (sym (filter_none
-      op is))
-      ∙ sym (filter-append is_access ops (op ∷ []));
-  each = are.each;
-}
+same-sites list facts ops sites op are is = record { same = are.same ∙ sites_same ops op is; each = are.each }
 
 -- a site of a list is one of those that are known
 pub record IsKnown (list : List RowOp) (facts : List Fact) (sites : List Site) (k : ℕ) (op : RowOp) : Type 0 where

@@ -1,8 +1,8 @@
 -- The slots of a list, one more at a time.
-use Rattle.std.proofs.Common.{◌≡◌, ℕ, ◌+◌, ◌<◌, List, [], ◌∷◌, ◌++◌, true, length, slice_get, Some, refl, sym, ap, subst, ◌∙◌}
-use Rattle.std.proofs.Common.{length-append, inl, inr, ◌⊎◌}
+use Rattle.std.proofs.Common.{◌≡◌, ℕ, ◌+◌, List, [], ◌∷◌, ◌++◌, true, slice_get, Some, sym, ap, subst, ◌∙◌}
+use Rattle.std.proofs.Common.{length-append, inl, inr}
 use Rattle.row_list.specs.declared.row_op.RowOp.{RowOp}
-use Rattle.row_facts.specs.{declared.slot.Slot.{Slot}, Skips.{TakesEarlier}, Slots.{AreSlots, may_skip}}
+use Rattle.row_facts.specs.{declared.slots.Slot.{Slot}, Skips.{TakesEarlier}, Slots.{AreSlots, may_skip}}
 use Rattle.row_facts.proofs.FactLaws.{get-more}
 
 pub one_more_slot : (list : List RowOp) (k : ℕ) (slots : List Slot) (op : RowOp) (slot : Slot) → slice_get list k ≡ Some op

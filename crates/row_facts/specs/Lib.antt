@@ -6,8 +6,8 @@ pub mod Meetings
 pub mod Narrower
 pub mod SiteKinds
 pub mod Marks
+pub mod Ordered
 pub mod Skips
 pub mod Slots
 pub mod Lists
 pub mod Elements
-pub mod Ordered

@@ -2,7 +2,7 @@
 use Rattle.std.specs.Prelude.{◌≤◌, List, length}
 use Rattle.lane_stamps.specs.Stamps.{AreRanked}
 use Rattle.row_list.specs.declared.row_op.RowOp.{RowOp}
-use Rattle.row_facts.specs.{declared.{meeting.Meeting.{Meeting}, listed.ListSites.{ListSites}}, Meetings.{AreMeetings}}
+use Rattle.row_facts.specs.{declared.{meeting.Meeting.{Meeting}, listing.ListSites.{ListSites}}, Meetings.{AreMeetings}}
 use Rattle.row_facts.specs.{SiteKinds.{AreListed}, Marks.{AreMarked}, Slots.{AreSlots}}
 
 -- sites are those of a list, in order, ranked, and marked by accesses of which no others meet; and its slots

@@ -1,16 +1,16 @@
 -- Which sites are watched.
-use Rattle.std.specs.Prelude.{◌≡◌, ℕ, ◌<◌, true, List, length, slice_index_or}
+use Rattle.std.specs.Prelude.{◌≡◌, ℕ, ◌<◌, true, List, length, slice_get, slice_index_or, Some}
 use Rattle.lane_stamps.specs.{declared.site.Site.{Site}, Stamps.{IsUnwatched, reduce_alike}}
 use Rattle.row_facts.specs.{declared.meeting.Meeting.{Meeting}, Meetings.{IsListed}}
 
 -- the site of a number is watched, if there is one
 abbrev pub IsWatched : List Site → (at : ℕ) → Type 0
-IsWatched sites at = (d : Site) → at < length sites → (slice_index_or sites at d).watched ≡ true
+IsWatched sites at = (site : Site) → slice_get sites at ≡ Some site → site.watched ≡ true
 
 -- so are the sites of each meeting
 abbrev pub WatchesEach : List Site → List Meeting → Type 0
-WatchesEach sites meetings = (k : ℕ) (d : Meeting) → k < length meetings
-    → IsWatched sites (slice_index_or meetings k d).first × IsWatched sites (slice_index_or meetings k d).second
+WatchesEach sites meetings = (k : ℕ) (meeting : Meeting) → slice_get meetings k ≡ Some meeting
+    → IsWatched sites meeting.first × IsWatched sites meeting.second
 
 -- if lanes reduce at two sites by one operator, and one of them isn't watched, they have one rank
 abbrev pub IsEven : (site other : Site) → Type 0

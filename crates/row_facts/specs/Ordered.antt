@@ -4,6 +4,12 @@ use Rattle.row_list.specs.declared.row_op.RowOp.{RowOp}
 use Rattle.row_list.specs.declared.row_op.RowOp.TheVariants.{All, Number, Caller, Index, Alu, Neg, Movsx, Endian, Found}
 use Rattle.row_list.specs.declared.row_op.RowOp.TheVariants.{Holds, Without, Either, Choice, Load, Store, Reduce, Fetch}
 
+-- the numbers of an operation fit their types
+abbrev pub HasWords : RowOp → Type 0
+HasWords (Number n) = n < 2 ^ 64
+HasWords (Found first count key) = (first < 2 ^ 32) × (count < 2 ^ 32)
+HasWords op = Unit {0}
+
 -- all that an operation takes comes before a position; its numbers fit their types
 abbrev pub TakesBelow : (k : ℕ) → RowOp → Type 0
 TakesBelow k All = Unit {0}

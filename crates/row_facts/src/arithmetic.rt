@@ -64,14 +64,6 @@ fn is_lower_half(op: AluOp, second: Range) -> bool
     }
 }
 
-/// What is known of an operator's result at 64 bits, by its line.
-fn computed_wide(op: AluOp, first: Range, second: Range, line: Line) -> Fact
-    ensures { (index x y : ℕ) → Contains first x → Contains second y → IsOnLine line index (alu W64 op x y) →
-        IsSure result index (alu W64 op x y) }
-{
-    within(alu(Operation::Alu(op), Width::W64, first, second), line)
-}
-
 /// What is known of an operator's result at 32 bits, by the line of the one at 64.
 fn computed_low(op: AluOp, first: Range, second: Range, line: Line) -> Fact
     ensures { (index x y : ℕ) → Contains first x → Contains second y → IsOnLine line index (alu W64 op x y) →
@@ -98,7 +90,7 @@ pub(crate) fn computed(width: Width, op: AluOp, first: Fact, second: Fact) -> Fa
     let two = second.range;
     let line = line_of(op, first, second);
     match width {
-        Width::W64 => computed_wide(op, one, two, line),
+        Width::W64 => within(alu(Operation::Alu(op), Width::W64, one, two), line),
         Width::W32 => computed_low(op, one, two, line),
     }
 }

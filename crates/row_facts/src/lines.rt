@@ -43,6 +43,7 @@ pub fn common_bits(first: u64, second: u64) -> u32
 }
 
 /// Numbers that have the same low bits as those on a line.
+#[tactic(auto, using(crate::proofs::Congruence::coarse))]
 pub(crate) fn cut(line: Line, bits: u32) -> Line
     ensures { (index x n : ℕ) → IsOnLine line index x → n % 2 ^ bits ≡ x % 2 ^ bits → IsOnLine result index n }
 {

@@ -1,44 +1,66 @@
 //! The sites of a list, found.
 
-ghost use Rattle.std.specs.Prelude.{◌≡◌, ◌≤◌, ◌++◌, ◌∷◌, [], true, List, length, IfOk, IfSome, OnOk};
+ghost use Rattle.std.specs.Prelude.{◌≡◌, ◌≤◌, ◌++◌, ◌∷◌, [], true, List, length, IfOk, IfSome};
 ghost use Rattle.lane_stamps.specs.Stamps.{AreRanked};
 ghost use Rattle.row_facts.specs.{Meetings.{AreMeetings}, Lists.{AreListSites}, SiteKinds.{AreListed, IsKindOf}};
 ghost use Rattle.row_list.specs.declared.row_op.RowOp.{RowOp};
 
 use crate::kinds::kind_of;
-use crate::listed::ListSites;
 use crate::marking::{are_marked, mark_meetings, mark_uneven};
-use crate::numbering::number_of;
-use crate::slots::slots_of;
+use crate::narrowing::is_narrower;
+use crate::slots::{Slot, number_at, slots_of};
 use crate::{Meeting, meetings};
 use lane_stamps::{MOST_SITES, Site, rank_sites};
 use row_list::{Place, RowList, RowOp};
 use std::alloc::{AllocError, Global};
 
+/// The sites of a list, in order: at most `MOST_SITES`.
+#[derive(Drop)]
+pub struct ListSites {
+    /// The accesses.
+    pub accesses: Vec<RowOp>,
+    /// What is done at each, with the numbers of the rows where what it takes goes.
+    pub sites: Vec<Site>,
+    /// What a batch does at each operation of the list.
+    pub slots: Vec<Slot>,
+}
+
 /// The sites of a list, without its slots.
 #[derive(Drop)]
-pub(crate) struct Listed {
-    pub(crate) accesses: Vec<RowOp>,
-    pub(crate) sites: Vec<Site>,
+struct Listed {
+    accesses: Vec<RowOp>,
+    sites: Vec<Site>,
     /// The number of the places of each operation that is an access.
-    pub(crate) places: Vec<u8>,
+    places: Vec<u8>,
+}
+
+/// Whether the places of an access serve for a later one: it is at the same bytes, in the same lanes or in fewer.
+fn serve(list: &RowList, places: &Place, other: &Place) -> bool {
+    places.address == other.address
+        && places.offset == other.offset
+        && places.width == other.width
+        && is_narrower(list.list.as_slice(), other.mask, places.mask)
+}
+
+/// The number of the places of an access: those of an earlier one that serve for it, or new ones.
+fn number_of(list: &RowList, made: &Listed, place: &Place) -> usize {
+    let mut next: usize = 0;
+    for (access, site) in made.accesses.iter().zip(made.sites.iter()) {
+        if let Some(places) = access.place()
+            && serve(list, &places, place)
+        {
+            return site.places;
+        }
+        if site.places >= next && site.places < MOST_SITES {
+            next = site.places + 1;
+        }
+    }
+    next
 }
 
 /// The number of a value's row.
 fn row_of(list: &RowList, value: usize) -> usize {
-    match list.rows.as_slice().get(value) {
-        Some(row) => usize::from(*row),
-        None => 0,
-    }
-}
-
-/// The number of the row of the value that an access takes; 0 if it takes none.
-fn value_row(list: &RowList, op: &RowOp) -> usize {
-    match *op {
-        RowOp::Store { value, .. } => row_of(list, value),
-        RowOp::Reduce { value, .. } => row_of(list, value),
-        _ => 0,
-    }
+    usize::from(number_at(list.rows.as_slice(), value))
 }
 
 /// The site of an access at a place, if it has one; `places` is the number of the places of its lanes.
@@ -46,32 +68,18 @@ fn site_of(list: &RowList, op: &RowOp, place: &Place, places: usize, watched: bo
     ensures { IfSome result (IsKindOf op.now) }
 {
     let kind = kind_of(op)?;
+    let value = match *op {
+        RowOp::Store { value, .. } | RowOp::Reduce { value, .. } => row_of(list, value),
+        _ => 0,
+    };
     Some(Site {
         kind,
         rank: 0,
         watched,
         mask: row_of(list, place.mask),
         places,
-        value: value_row(list, op),
+        value,
     })
-}
-
-fn add_access(accesses: &mut Vec<RowOp>, op: RowOp) -> Result<(), AllocError>
-    ensures { OnOk result (accesses.new.items ≡ accesses.old.items ++ op ∷ []) }
-{
-    accesses.extend_from_slice(&[op])
-}
-
-fn add_site(sites: &mut Vec<Site>, site: Site) -> Result<(), AllocError>
-    ensures { OnOk result (sites.new.items ≡ sites.old.items ++ site ∷ []) }
-{
-    sites.extend_from_slice(&[site])
-}
-
-/// Notes the number of an operation's places; 0 if it has none, and 255 if the number is greater.
-fn add_places(places: &mut Vec<u8>, number: usize) -> Result<(), AllocError> {
-    let noted = if number < 256 { number as u8 } else { 255 };
-    places.extend_from_slice(&[noted])
 }
 
 /// Lists the site of one more operation, if it is an access. Whether there is room for it, and it has one.
@@ -87,7 +95,7 @@ fn list_site(
         AreListed (ops ++ op.now ∷ []) made.new.accesses.items made.new.sites.items) }
 {
     let Some(place) = op.place() else {
-        add_places(&mut made.places, 0)?;
+        made.places.push(0)?;
         return Ok(true);
     };
     let count = made.sites.len();
@@ -98,34 +106,10 @@ fn list_site(
     let Some(site) = site_of(list, op, &place, number, marks[count]) else {
         return Ok(false);
     };
-    add_access(&mut made.accesses, *op)?;
-    add_site(&mut made.sites, site)?;
-    add_places(&mut made.places, number)?;
+    made.accesses.extend_from_slice(&[*op])?;
+    made.sites.extend_from_slice(&[site])?;
+    made.places.push(number.min(255) as u8)?;
     Ok(true)
-}
-
-/// The sites of a list, watched where they are marked, without ranks. `None` if there are too many, or one has no kind.
-#[tactic(auto, using(crate::proofs::ListLaws::listed_next))]
-fn unranked_sites(
-    alloc: Global,
-    list: &RowList,
-    marks: &[bool; MOST_SITES],
-) -> Result<Option<Listed>, AllocError>
-    ensures { IfOk result (λ found. IfSome found (λ made. AreListed list.now.list.items made.accesses.items
-        made.sites.items)) }
-{
-    let mut made = Listed {
-        accesses: Vec::new(alloc),
-        sites: Vec::new(alloc),
-        places: Vec::new(alloc),
-    };
-    for op in list.list.as_slice() {
-        let good = list_site(&mut made, list, op, marks)?;
-        if !good {
-            return Ok(None);
-        }
-    }
-    Ok(Some(made))
 }
 
 /// Ranks the sites of a list.
@@ -138,7 +122,8 @@ fn rank_listed(sites: &mut [Site])
     rank_sites(sites);
 }
 
-/// The same with ranks.
+/// The sites of a list, ranked, and watched where they are marked. `None` if there are too many, or one has no kind.
+#[tactic(auto, using(crate::proofs::ListLaws::listed_next))]
 fn ranked_sites(
     alloc: Global,
     list: &RowList,
@@ -147,10 +132,18 @@ fn ranked_sites(
     ensures listed { IfOk result (λ found. IfSome found (λ made. AreListed list.now.list.items made.accesses.items
         made.sites.items)) }
     ensures ranked { IfOk result (λ found. IfSome found (λ made. AreRanked made.sites.items)) }
+    ensures few { IfOk result (λ found. IfSome found (λ made. length made.sites.items ≤ 255)) }
 {
-    let Some(mut made) = unranked_sites(alloc, list, marks)? else {
-        return Ok(None);
+    let mut made = Listed {
+        accesses: Vec::new(alloc),
+        sites: Vec::new(alloc),
+        places: Vec::new(alloc),
     };
+    for op in list.list.as_slice() {
+        if !list_site(&mut made, list, op, marks)? {
+            return Ok(None);
+        }
+    }
     if made.sites.len() > MOST_SITES {
         return Ok(None);
     }
@@ -158,18 +151,16 @@ fn ranked_sites(
     Ok(Some(made))
 }
 
-/// The sites of a list, marked by the meetings of its accesses.
+/// The sites of a list, ranked. Those are watched that may meet, and those at which lanes reduce by one operator with
+/// something else between. `None` if there are too many, or one is of an access that has no kind. It fails where memory
+/// runs out.
 #[tactic(auto, using(crate::proofs::MarkLaws::list_sites_of))]
-fn marked_sites(
-    alloc: Global,
-    list: &RowList,
-    meetings: &[Meeting],
-) -> Result<Option<ListSites>, AllocError>
-    requires { AreMeetings list.now.list.items meetings.now }
+pub fn list_sites(alloc: Global, list: &RowList) -> Result<Option<ListSites>, AllocError>
     ensures { IfOk result (λ found. IfSome found (AreListSites list.now.list.items)) }
 {
+    let meetings = meetings(alloc, list.list.as_slice())?;
     let mut marks = [false; MOST_SITES];
-    mark_meetings(&mut marks, meetings);
+    mark_meetings(&mut marks, meetings.as_slice());
     let Some(first) = ranked_sites(alloc, list, &marks)? else {
         return Ok(None);
     };
@@ -177,7 +168,7 @@ fn marked_sites(
     let Some(made) = ranked_sites(alloc, list, &marks)? else {
         return Ok(None);
     };
-    if made.sites.len() > MOST_SITES || !are_marked(made.sites.as_slice(), meetings) {
+    if !are_marked(made.sites.as_slice(), meetings.as_slice()) {
         return Ok(None);
     }
     let slots = slots_of(alloc, list, made.places.as_slice())?;
@@ -186,15 +177,4 @@ fn marked_sites(
         sites: made.sites,
         slots,
     }))
-}
-
-/// The sites of a list, ranked. Those are watched that may meet, and those at which lanes reduce by one operator with
-/// something else between. `None` if there are too many, or one is of an access that has no kind. It fails where memory
-/// runs out.
-pub fn list_sites(alloc: Global, list: &RowList) -> Result<Option<ListSites>, AllocError>
-    ensures { IfOk result (λ found. IfSome found (AreListSites list.now.list.items)) }
-{
-    let found = meetings(alloc, list.list.as_slice())?;
-    let made = marked_sites(alloc, list, found.as_slice())?;
-    Ok(made)
 }

@@ -39,21 +39,16 @@ pub(crate) fn mark_uneven(marks: &mut [bool; MOST_SITES], sites: &[Site]) {
 fn is_watched(sites: &[Site], at: usize) -> bool
     ensures { result ≡ true → IsWatched sites.now at }
 {
-    if at >= sites.len() {
-        return true;
-    }
-    sites[at].watched
+    at >= sites.len() || sites[at].watched
 }
 
 /// Whether the sites of all meetings are watched.
 fn are_watched(sites: &[Site], meetings: &[Meeting]) -> bool
     ensures { result ≡ true → WatchesEach sites.now meetings.now }
 {
-    for meeting in meetings {
-        if !is_watched(sites, meeting.first) {
-            return false;
-        }
-        if !is_watched(sites, meeting.second) {
+    for k in 0..meetings.len() {
+        let meeting = meetings[k];
+        if !is_watched(sites, meeting.first) || !is_watched(sites, meeting.second) {
             return false;
         }
     }
@@ -64,13 +59,7 @@ fn are_watched(sites: &[Site], meetings: &[Meeting]) -> bool
 fn is_even(site: &Site, other: &Site) -> bool
     ensures { result ≡ true → IsEven site.now other.now }
 {
-    if site.watched && other.watched {
-        return true;
-    }
-    if !alike(site.kind, other.kind) {
-        return true;
-    }
-    site.rank == other.rank
+    (site.watched && other.watched) || !alike(site.kind, other.kind) || site.rank == other.rank
 }
 
 /// Whether a site is even with each of some.

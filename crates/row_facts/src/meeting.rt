@@ -1,6 +1,6 @@
 //! Pairs of sites that lanes may meet at.
 
-ghost use Rattle.std.specs.Prelude.{◌≡◌, ℕ, List, ◌<◌, ◌≤◌, ◌++◌, ◌∷◌, [], true, false, IfOk, OnOk, length};
+ghost use Rattle.std.specs.Prelude.{◌≡◌, ℕ, List, ◌<◌, ◌≤◌, true, false, IfOk, OnOk, length};
 ghost use Rattle.row_list.specs.declared.row_op.RowOp.{RowOp};
 ghost use Rattle.row_facts.specs.{declared.fact.Fact.{Fact}, Facts.{IsSure, AreFacts}, Apart.{IsAmong}};
 ghost use Rattle.row_facts.specs.{Sites.{IsSite, bytes_in}, Elements.{reads}};
@@ -30,23 +30,17 @@ pub struct Meeting {
 pub fn loads(op: &RowOp) -> bool
     ensures { result ≡ loads op.now }
 {
-    match *op {
-        RowOp::Load { .. } => true,
-        RowOp::Fetch { .. } => true,
-        _ => false,
-    }
+    matches!(op, RowOp::Load { .. } | RowOp::Fetch { .. })
 }
 
 /// Whether they leave something there.
 pub fn leaves(op: &RowOp) -> bool
     ensures { result ≡ leaves op.now }
 {
-    match *op {
-        RowOp::Store { .. } => true,
-        RowOp::Reduce { .. } => true,
-        RowOp::Fetch { .. } => true,
-        _ => false,
-    }
+    matches!(
+        op,
+        RowOp::Store { .. } | RowOp::Reduce { .. } | RowOp::Fetch { .. }
+    )
 }
 
 /// Whether an access reads its element, for the verdict: all but a store of a whole word does.
@@ -54,14 +48,8 @@ pub fn reads(op: &RowOp) -> bool
     ensures { result ≡ reads op.now }
 {
     match *op {
-        RowOp::Store { place, .. } => match place.width {
-            Width::W32 => true,
-            Width::W64 => false,
-        },
-        RowOp::Load { .. } => true,
-        RowOp::Reduce { .. } => true,
-        RowOp::Fetch { .. } => true,
-        _ => false,
+        RowOp::Store { place, .. } => place.width == Width::W32,
+        _ => op.is_access(),
     }
 }
 
@@ -75,27 +63,12 @@ fn bytes_in(width: Width) -> u64
     }
 }
 
-/// Whether two operators are one.
-fn is_same(first: SimpleOp, second: SimpleOp) -> bool
-    ensures { result ≡ true → first ≡ second }
-{
-    match (first, second) {
-        (SimpleOp::Add, SimpleOp::Add) => true,
-        (SimpleOp::Or, SimpleOp::Or) => true,
-        (SimpleOp::And, SimpleOp::And) => true,
-        (SimpleOp::Xor, SimpleOp::Xor) => true,
-        _ => false,
-    }
-}
-
 /// Whether an operation reduces by an operator, so many bytes at once.
 fn reduces_by(operation: &RowOp, bytes: u64, operator: SimpleOp) -> bool
     ensures { result ≡ true → ReducesBy bytes operator operation.now }
 {
     match *operation {
-        RowOp::Reduce { place, op, .. } => {
-            bytes_in(place.width) == bytes && is_same(op, operator)
-        }
+        RowOp::Reduce { place, op, .. } => bytes_in(place.width) == bytes && op == operator,
         _ => false,
     }
 }
@@ -167,12 +140,6 @@ fn may_meet(first: usize, at: &Site, second: usize, by: &Site) -> bool
     lanes_may_meet(first, at, second, by) || own_may_meet(first, at, second, by)
 }
 
-fn add(meetings: &mut Vec<Meeting>, meeting: Meeting) -> Result<(), AllocError>
-    ensures { OnOk result (meetings.new.items ≡ meetings.old.items ++ meeting ∷ []) }
-{
-    meetings.extend_from_slice(&[meeting])
-}
-
 /// Adds the meetings at a site. It fails where memory runs out.
 fn add_meetings(meetings: &mut Vec<Meeting>, sites: &[Site], first: usize) -> Result<(), AllocError>
     requires { first < length sites.now }
@@ -181,7 +148,7 @@ fn add_meetings(meetings: &mut Vec<Meeting>, sites: &[Site], first: usize) -> Re
 {
     for second in 0..sites.len() {
         if may_meet(first, &sites[first], second, &sites[second]) {
-            add(meetings, Meeting { first, second })?;
+            meetings.push(Meeting { first, second })?;
         }
     }
     Ok(())

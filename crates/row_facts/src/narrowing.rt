@@ -6,7 +6,7 @@ ghost use Rattle.row_facts.specs.Narrower.{IsNarrower};
 use row_list::RowOp;
 
 /// The operation at a position.
-fn op_at(list: &[RowOp], k: usize) -> Option<RowOp>
+pub(crate) fn op_at(list: &[RowOp], k: usize) -> Option<RowOp>
     ensures { result ≡ slice_get list.now k }
 {
     list.get(k).copied()
@@ -14,7 +14,7 @@ fn op_at(list: &[RowOp], k: usize) -> Option<RowOp>
 
 /// The mask of which an operation takes some lanes.
 #[tactic(auto, using(crate::proofs::NarrowLaws::holds_narrower, crate::proofs::NarrowLaws::without_narrower))]
-fn wider(list: &[RowOp], mask: usize) -> Option<usize>
+pub(crate) fn wider(list: &[RowOp], mask: usize) -> Option<usize>
     ensures { IfSome result (λ other. IsNarrower list.now mask other) }
 {
     match op_at(list, mask) {

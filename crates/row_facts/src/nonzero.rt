@@ -1,9 +1,10 @@
 //! The masks in whose lanes a value isn't 0.
 
-ghost use Rattle.std.specs.Prelude.{◌≡◌, ℕ, ◌++◌, ◌∷◌, [], true, IfOk, OnOk, slice_get, Some};
+ghost use Rattle.std.specs.Prelude.{◌≡◌, ℕ, true, IfOk, slice_get, Some};
 ghost use Rattle.row_list.specs.declared.row_op.RowOp.TheVariants.{Number};
 ghost use Rattle.row_facts.specs.Nonzero.{IsNonzeroIn, IsNullTest, AreNonzeroIn};
 
+use crate::narrowing::{op_at, wider};
 use bpf_insn_types::{Compare, Width};
 use row_list::RowOp;
 use std::alloc::{AllocError, Global};
@@ -12,7 +13,7 @@ use std::alloc::{AllocError, Global};
 fn is_zero(ops: &[RowOp], value: usize) -> bool
     ensures { result ≡ true → slice_get ops.now value ≡ Some (Number 0) }
 {
-    match ops.get(value).copied() {
+    match op_at(ops, value) {
         Some(RowOp::Number(n)) => n == 0,
         _ => false,
     }
@@ -22,69 +23,61 @@ fn is_zero(ops: &[RowOp], value: usize) -> bool
 fn is_known(masks: &[bool], mask: usize) -> bool
     ensures { result ≡ true → slice_get masks.now mask ≡ Some true }
 {
-    match masks.get(mask).copied() {
-        Some(known) => known,
-        None => false,
-    }
+    mask < masks.len() && masks[mask]
 }
 
-/// Whether an operation makes the mask of the lanes of another where a value is 0.
-fn tests_null(ops: &[RowOp], op: &RowOp, within: usize, value: usize) -> bool
-    ensures { result ≡ true → (test : ℕ) → slice_get ops.now test ≡ Some op.now → IsNullTest ops.now test within value }
+/// Whether a mask is that of the lanes of another where a value is 0.
+#[tactic(auto, using(crate::proofs::NonzeroLaws::of_null))]
+fn is_null_test(ops: &[RowOp], test: usize, within: usize, value: usize) -> bool
+    ensures { result ≡ true → IsNullTest ops.now test within value }
 {
-    match *op {
-        RowOp::Holds {
-            mask,
-            width: Width::W64,
-            compare: Compare::Eq,
-            first,
-            second,
-        } => {
-            if mask != within {
-                return false;
-            }
-            first == value && is_zero(ops, second)
-        }
+    match op_at(ops, test) {
+        Some(
+            RowOp::Holds {
+                mask,
+                width: Width::W64,
+                compare: Compare::Eq,
+                first,
+                second,
+            },
+        ) => mask == within && first == value && is_zero(ops, second),
         _ => false,
     }
 }
 
-/// Whether a mask is that of the lanes of another where a value is 0.
-fn is_null_test(ops: &[RowOp], test: usize, within: usize, value: usize) -> bool
-    ensures { result ≡ true → IsNullTest ops.now test within value }
+/// Whether a mask was made of lanes where a value isn't 0, by the masks before it.
+#[tactic(auto, using(crate::proofs::NonzeroLaws::of_wider))]
+fn is_made_of_nonzero(ops: &[RowOp], k: usize, masks: &[bool], value: usize) -> bool
+    ensures { result ≡ true → AreNonzeroIn ops.now masks.now value → IsNonzeroIn ops.now k value }
 {
-    match ops.get(test).copied() {
-        Some(op) => tests_null(ops, &op, within, value),
+    match wider(ops, k) {
+        Some(mask) => is_known(masks, mask),
         None => false,
     }
 }
 
 /// Whether a value isn't 0 in the lanes of the mask that an operation makes, by the masks before it.
-fn is_nonzero_in(ops: &[RowOp], op: &RowOp, masks: &[bool], value: usize) -> bool
-    ensures { result ≡ true → (k : ℕ) → slice_get ops.now k ≡ Some op.now → AreNonzeroIn ops.now masks.now value →
-        IsNonzeroIn ops.now k value }
+#[tactic(auto, using(crate::proofs::NonzeroLaws::of_test, crate::proofs::NonzeroLaws::of_without, crate::proofs::NonzeroLaws::of_either))]
+fn is_nonzero_in(ops: &[RowOp], k: usize, masks: &[bool], value: usize) -> bool
+    ensures { result ≡ true → AreNonzeroIn ops.now masks.now value → IsNonzeroIn ops.now k value }
 {
-    match *op {
-        RowOp::Holds {
-            mask,
-            width: Width::W64,
-            compare: Compare::Ne,
-            first,
-            second,
-        } => is_known(masks, mask) || (first == value && is_zero(ops, second)),
-        RowOp::Holds { mask, .. } => is_known(masks, mask),
-        RowOp::Without { mask, other } => {
-            is_known(masks, mask) || is_null_test(ops, other, mask, value)
-        }
-        RowOp::Either { first, second } => is_known(masks, first) && is_known(masks, second),
+    if is_made_of_nonzero(ops, k, masks, value) {
+        return true;
+    }
+    match op_at(ops, k) {
+        Some(
+            RowOp::Holds {
+                width: Width::W64,
+                compare: Compare::Ne,
+                first,
+                second,
+                ..
+            },
+        ) => first == value && is_zero(ops, second),
+        Some(RowOp::Without { mask, other }) => is_null_test(ops, other, mask, value),
+        Some(RowOp::Either { first, second }) => is_known(masks, first) && is_known(masks, second),
         _ => false,
     }
-}
-
-fn add(masks: &mut Vec<bool>, known: bool) -> Result<(), AllocError>
-    ensures { OnOk result (masks.new.items ≡ masks.old.items ++ known ∷ []) }
-{
-    masks.extend_from_slice(&[known])
 }
 
 /// Of each operation of a list, whether it makes a mask in whose lanes a value isn't 0. It fails where memory runs out.
@@ -92,9 +85,9 @@ fn masks_without_zero(alloc: Global, ops: &[RowOp], value: usize) -> Result<Vec<
     ensures { IfOk result (λ masks. AreNonzeroIn ops.now masks.items value) }
 {
     let mut masks = Vec::new(alloc);
-    for op in ops {
-        let known = is_nonzero_in(ops, op, &masks, value);
-        add(&mut masks, known)?;
+    for k in 0..ops.len() {
+        let known = is_nonzero_in(ops, k, &masks, value);
+        masks.push(known)?;
     }
     Ok(masks)
 }

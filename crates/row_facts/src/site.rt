@@ -1,6 +1,6 @@
 //! The sites of a row list, with what is known of the bytes that lanes access there.
 
-ghost use Rattle.std.specs.Prelude.{◌≡◌, ℕ, ◌%◌, ◌^◌, ◌++◌, ◌∷◌, [], IfOk, OnOk, Some};
+ghost use Rattle.std.specs.Prelude.{◌≡◌, ℕ, ◌%◌, ◌^◌, IfOk, Some};
 ghost use Rattle.bpf_step_model.specs.AreaWords.{byte_named};
 ghost use Rattle.value_range.specs.Spans.{Contains};
 ghost use Rattle.row_list.specs.Places.{place_in};
@@ -87,12 +87,6 @@ fn site_at(
     })
 }
 
-fn add(sites: &mut Vec<Site>, site: Site) -> Result<(), AllocError>
-    ensures { OnOk result (sites.new.items ≡ sites.old.items ++ site ∷ []) }
-{
-    sites.extend_from_slice(&[site])
-}
-
 /// The sites of a list, by what is known of its values. It fails where memory runs out.
 pub fn sites(alloc: Global, ops: &[RowOp], facts: &[Fact]) -> Result<Vec<Site>, AllocError>
     ensures { IfOk result (λ sites. AreSites ops.now facts.now ops.now sites.items) }
@@ -102,7 +96,7 @@ pub fn sites(alloc: Global, ops: &[RowOp], facts: &[Fact]) -> Result<Vec<Site>, 
         match op.place() {
             Some(place) => {
                 let site = site_at(alloc, ops, facts, op, place)?;
-                add(&mut sites, site)?;
+                sites.push(site)?;
             }
             None => (),
         }

@@ -1,6 +1,6 @@
 //! The transfer function: what is known of each value of a row list, by the operation that makes it.
 
-ghost use Rattle.std.specs.Prelude.{◌≡◌, ℕ, List, ◌+◌, ◌%◌, ◌<◌, ◌≤◌, ◌^◌, ◌++◌, ◌∷◌, [], IfOk, OnOk, slice_index};
+ghost use Rattle.std.specs.Prelude.{◌≡◌, ℕ, List, ◌+◌, ◌%◌, ◌<◌, ◌≤◌, ◌^◌, IfOk, slice_index};
 ghost use Rattle.std.specs.Prelude.{Some};
 ghost use Rattle.bpf_step_model.specs.AreaWords.{looked_up_word};
 ghost use Rattle.row_list.specs.Rows.{IsRowValue};
@@ -113,12 +113,6 @@ fn fact_of(op: &RowOp, facts: &[Fact]) -> Fact
     }
 }
 
-fn add(facts: &mut Vec<Fact>, fact: Fact) -> Result<(), AllocError>
-    ensures { OnOk result (facts.new.items ≡ facts.old.items ++ fact ∷ []) }
-{
-    facts.extend_from_slice(&[fact])
-}
-
 /// What is known of each value of a list in the lanes of all indexes up to 2^23. It fails where memory runs out.
 pub fn facts(alloc: Global, ops: &[RowOp]) -> Result<Vec<Fact>, AllocError>
     ensures { IfOk result (λ facts. AreFacts ops.now facts.items) }
@@ -126,7 +120,7 @@ pub fn facts(alloc: Global, ops: &[RowOp]) -> Result<Vec<Fact>, AllocError>
     let mut facts = Vec::new(alloc);
     for op in ops {
         let fact = fact_of(op, &facts);
-        add(&mut facts, fact)?;
+        facts.push(fact)?;
     }
     Ok(facts)
 }

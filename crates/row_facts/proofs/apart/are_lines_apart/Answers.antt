@@ -19,7 +19,7 @@ returns-then-low-second_size c is =
     coarse b c.common_bits.result one.scale two.scale (omega arith) c.common_bits.ensures.same in
     record {
       never = λ index x y half first second touch touched.
-          apart (2 ^ b) a n c.args.first_size c.args.second_size x y half (pow_pos b)
+          apart (2 ^ b) a n c.args.first_size c.args.second_size x y (pow_pos b)
           (ahead b one.bits two.bits one.scale one.offset two.scale two.offset d index x y (omega arith) (omega
           arith) few
           (omega arith) scales first.same second.same)
@@ -31,5 +31,5 @@ returns-then-low-second_size c is =
             leb-true c.args.first_size
                 c.low-then-low-second_size.result is,
           ))
-          touch touched;
+          (omega (arith, touch.from, touched.before)) (omega (arith, touched.from, touch.before));
     }

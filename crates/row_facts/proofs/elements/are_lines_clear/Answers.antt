@@ -1,5 +1,5 @@
 use Rattle.std.proofs.{Common.{◌≡◌, ◌∙◌, ℕ, ◌+◌, ◌-◌, ◌*◌, ◌%◌, ◌^◌, ◌<◌, ◌≤◌, subst, ap, arith}, lemmas.Nat.{one_shl}}
-use Rattle.row_facts.proofs.{Congruence.{coarse}, Clear.{stays_ahead}}
+use Rattle.row_facts.proofs.{Congruence.{coarse}, ApartLaws.{stays_ahead}}
 use Rattle.row_facts.proofs.elements.are_lines_clear.Goals as goal
 
 pub returns : goal.returns

@@ -1,7 +1,7 @@
-use Rattle.std.proofs.Common.{ℕ, ◌<◌, slice_index_or}
+use Rattle.std.proofs.Common.{◌≡◌, ℕ, ◌<◌, slice_get, Some}
 use Rattle.row_facts.specs.{declared.meeting.Meeting.{Meeting}, Marks.{IsWatched}}
 use Rattle.row_facts.proofs.marking.are_watched.Given as goal
 
-abbrev pub invariant-loop-meeting : goal.invariant-loop-meeting
-invariant-loop-meeting l = (k : ℕ) (d : Meeting) → k < l.meeting-index
-    → IsWatched l.sites (slice_index_or l.meetings k d).first × IsWatched l.sites (slice_index_or l.meetings k d).second
+abbrev pub invariant-loop-k : goal.invariant-loop-k
+invariant-loop-k l = (i : ℕ) (meeting : Meeting) → i < l.k → slice_get l.meetings i ≡ Some meeting
+    → IsWatched l.sites meeting.first × IsWatched l.sites meeting.second

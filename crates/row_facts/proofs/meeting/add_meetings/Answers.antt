@@ -1,6 +1,6 @@
 use Rattle.std.{proofs.{Common.{◌≡◌, length, refl}, lemmas.Option.{slice_get_read}}, specs.Prelude.{slice_get, Some}}
 use Rattle.row_facts.proofs.MeetingLaws.{more-kept, done-listed, done-never}
-use Rattle.row_facts.proofs.meeting.add_meetings.Goals.{then-may_meet+in_ok-add, else-may_meet}
+use Rattle.row_facts.proofs.meeting.add_meetings.Goals.{then-may_meet+in_ok-push, else-may_meet}
 use Rattle.row_facts.proofs.meeting.add_meetings.Goals as goal
 
 pub loop-second-preserved : goal.loop-second-preserved
@@ -17,7 +17,7 @@ loop-second-preserved c =
     let is_by : slice_get sites k ≡ Some by =
     slice_get_read sites (length sites) k by refl c.loop-second-test.true c.index-sites-second.is in
     elim c.if-may_meet.branch [
-      | then-may_meet+in_ok-add w ↦ rw (w.meetings-is, w.in_ok-add.ensures) (
+      | then-may_meet+in_ok-push w ↦ rw (w.meetings-is, w.in_ok-push.ensures.items) (
         more-kept old new (record { first = c.args.first; second = k }) inv.0,
         done-listed sites c.args.first k
             new inv.1,

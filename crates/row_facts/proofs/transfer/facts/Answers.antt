@@ -13,7 +13,7 @@ loop-op-preserved c =
     let op = get_or ops k All in
     let there : slice_get ops (length facts) ≡ Some op =
     ap (slice_get ops) c.loop-op.invariant.0 ∙ slice_get-get_or ops k All c.loop-op-test.true in
-    rw c.in_ok-add.ensures (
+    rw c.in_ok-push.ensures.items (
       (length_push facts fact ∙ ap (λ (n : ℕ). n + 1) c.loop-op.invariant.0),
       more-facts ops facts op fact there c.loop-op.invariant.1
           (λ index caller words values n few fit word is.

@@ -1,10 +1,10 @@
 use Rattle.std.proofs.Common.{◌≡◌, ◌∙◌, ℕ, ◌+◌, ◌*◌, ◌%◌, ◌^◌, ◌<◌, ◌≤◌, true, false, sym, subst, inl, inr, arith}
-use Rattle.std.{specs.Prelude.{nat_lt}, proofs.lemmas.{Bool.{ltb-false, le-leb}, Nat.{mod_below, pow_pos}}}
+use Rattle.std.{specs.Prelude.{nat_lt}, proofs.lemmas.{Bool.{cases_Bool, ltb-false, le-leb}, Nat.{mod_below, pow_pos}}}
 use Rattle.bpf_insn_types.specs.{declared.insn.{Width.TheVariants.{W64}, AluOp.TheVariants.{Add, Mul}}, Words.{alu}}
 use Rattle.bpf_step_model.specs.AreaWords.{looked_up_word}
 use Rattle.value_range.{specs.{Spans.{Contains}, RefineRows.{says}}, proofs.SpanLaws.{exact-contains}}
 use Rattle.row_facts.specs.Facts.{IsSure}
-use Rattle.row_facts.proofs.FactLaws.{low-moved, holds-lt, area-computed, found-there, found-nowhere, decided}
+use Rattle.row_facts.proofs.FactLaws.{low-moved, holds-lt, area-computed, found-there, found-nowhere}
 use Rattle.row_facts.proofs.transfer.found.Goals as goal
 
 pub returns-in-None : goal.returns-in-None
@@ -31,7 +31,7 @@ returns-in-Some c index x value =
     (c.computed-key.ensures index 0 x (c.number.ensures index) value) in
     let counted : Contains c.exact.result count = rw c.exact.ensures (exact-contains count) in
     let small : k < 2 ^ 32 = mod_below x (2 ^ 32) (pow_pos 32) in
-    elim (decided (nat_lt k count)) [
+    elim (cases_Bool (nat_lt k count)) [
       | inl there ↦
           let test : says c.taken.result W64 k count ≡ true =
           c.taken.ensures.meaning W64 k count ∙ holds-lt k count key.word (omega arith) ∙ there in
