@@ -23,7 +23,7 @@ mod verified;
 
 pub use accepting::verify;
 pub use bpf_verify_model::Rule;
-pub use callback_rows::CallbackRows;
+pub use callback_rows::{CallbackRows, JoinedRows};
 pub use error::VerifyError;
 pub use fields::insns_fit;
 pub use states::states_before;

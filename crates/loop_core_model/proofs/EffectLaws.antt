@@ -12,7 +12,7 @@ use Rattle.loop_core_model.specs.{Kinds.{kind_leaves, by_one_operator}, Effects.
 use Rattle.loop_core_model.specs.Effects.{Deed, Apply, action_on, kind_of_deed, deed_part, Effect, words_after_effect}
 use Rattle.loop_core_model.specs.Effects.{accesses_on, words_after_effects, EffectLog, with_effect, effects_of}
 use Rattle.loop_core_model.specs.Effects.{words_after_any_effect, words_after_lane_effects, words_after_site_effects}
-use Rattle.loop_core_model.specs.LoopByEffects.{EndsInZero, GoesOn, LoopByEachLane}
+use Rattle.loop_core_model.specs.LoopByEffects.{GoesOn, Leaves, LeavesInZero, LoopByEachLane}
 use Rattle.loop_core_model.proofs.Swapping.{other_place, same_place, reduces_swap}
 use Rattle.loop_core_model.proofs.Sparing.{keeps, accesses_leave, deeds_exchange}
 
@@ -134,29 +134,40 @@ operators_exchange laws (Apply op x) (Apply other y) d e h =
 operators_exchange laws _ _ d e h = absurd (cc)
 
 -- one iteration of a loop in order, which goes on
-one_iteration : (program : Program) (bound : ℕ) (call : LoopCall) (left index : ℕ) (now : List ℕ) (made : List Access)
-    → EndsInZero program bound call index now made
-    → loop_from program bound call (suc left) index now
-    ≡ loop_from program bound call left (index + 1) (words_after_all made now)
-one_iteration program bound call left index now made on =
+one_iteration : (program : Program) (bound : ℕ) (call : LoopCall) (left index : ℕ) (now after : List ℕ)
+    → LeavesInZero program bound call index now after
+    → loop_from program bound call (suc left) index now ≡ loop_from program bound call left (index + 1) after
+one_iteration program bound call left index now after on =
     let local = iteration_local program bound call index in
     ap (followed (behind (loop_from program bound call left (index + 1)) index))
     (local.again now now on.iterated on.ended refl (local.saw now on.iterated on.ended))
     ∙ ap (λ (ret : ℕ). if ret == 1
     then Ended (record { answer = index + 1; words = words_after_all on.iterated.accesses now })
     else loop_from program bound call left (index + 1) (words_after_all on.iterated.accesses now)) on.returned
-    ∙ ap (λ (accesses : List Access). loop_from program bound call left (index + 1) (words_after_all accesses now))
-    on.made
+    ∙ ap (loop_from program bound call left (index + 1)) on.leaves
+
+-- one that goes on with effects leaves what they leave
+pub goes_leaves : (program : Program) (bound : ℕ) (call : LoopCall) (index : ℕ) (now : List ℕ) (effects : List Effect)
+    → GoesOn program bound call index now effects → Leaves program bound call index now effects
+goes_leaves program bound call index now effects goes = record {
+  ends = record {
+    iterated = goes.ends.iterated;
+    ended = goes.ends.ended;
+    returned = goes.ends.returned;
+    leaves = ap (λ (accesses : List Access). words_after_all accesses now) goes.ends.made ∙ accesses_leave effects now;
+  };
+  fit = goes.fit;
+}
 
 module _ (program : Program) (bound : ℕ) (call : LoopCall) (first lanes : ℕ) (words : List ℕ) (log : EffectLog)
     (fit : AreWords words)
     (goes_on : (lane : ℕ) → lane < lanes → (now : List ℕ) → AreWords now → LoadsSame words now (effects_of log lane)
-    → GoesOn program bound call (first + lane) now (effects_of log lane))
+    → Leaves program bound call (first + lane) now (effects_of log lane))
     (same : (lane : ℕ) → lane < lanes → LoadsSame words (words_after_each_lane log lane words) (effects_of log lane))
   where
     -- a lane goes on after those before it
     goes : (lane : ℕ) → lane < lanes → AreWords (words_after_each_lane log lane words)
-        → GoesOn program bound call (first + lane) (words_after_each_lane log lane words) (effects_of log lane)
+        → Leaves program bound call (first + lane) (words_after_each_lane log lane words) (effects_of log lane)
     goes lane within fits = goes_on lane within (words_after_each_lane log lane words) fits
         (same lane within)
 
@@ -170,9 +181,8 @@ module _ (program : Program) (bound : ℕ) (call : LoopCall) (first lanes : ℕ)
         ≡ loop_from program bound call left (first + lane + 1) (words_after_each_lane log (suc lane) words)
     one_lane lane left within =
         let now : List ℕ = words_after_each_lane log lane words in
-        one_iteration program bound call left (first + lane) now (accesses_on now (effects_of log lane))
+        one_iteration program bound call left (first + lane) now (words_after_each_lane log (suc lane) words)
         (goes lane within (fit_before lane (omega arith))).ends
-        ∙ ap (loop_from program bound call left (first + lane + 1)) (accesses_leave (effects_of log lane) now)
 
     lanes_done : (lane left : ℕ) → lane ≤ lanes →
         loop_from program bound call (lane + left) first words

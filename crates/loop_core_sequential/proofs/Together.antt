@@ -13,15 +13,18 @@ use Rattle.bpf_step_ir.specs.Translation.{AreOps}
 use Rattle.bpf_step.{specs.Laws.{EachIterationSimulates, plain_exited}, proofs.Callbacks.{begins}}
 use Rattle.bpf_step.proofs.Limits.{few_counts, few_slots}
 use Rattle.loop_core_model.specs.Effects.{Effect, EffectLog, accesses_on, effects_of, words_after_effects}
-use Rattle.loop_core_model.specs.{Effects.{words_after_each_lane}, LoopByEffects.{EndsInZero, GoesOn, LoopByEachLane}}
-use Rattle.loop_core_model.proofs.Sparing.{accesses_leave}
-use Rattle.bpf_verify.specs.{declared.callback_rows.CallbackRows.{CallbackRows}, Rows.{AreRowsAt}}
+use Rattle.loop_core_model.specs.{Effects.{words_after_each_lane}, LoopByEffects.{EndsInZero, GoesOn, Leaves, LoopByEachLane}}
+use Rattle.loop_core_model.proofs.{EffectLaws.{goes_leaves}, Sparing.{accesses_leave}}
+use Rattle.bpf_verify.specs.{declared.callback_rows.CallbackRows.{CallbackRows}, Rows.{AreRowsAt, LeavesRowsAt}}
 use Rattle.lane_stamps.specs.{declared.site.Site.{Site}, Sites.{HasRows, IsWithin, LaneRows, log_of}}
 use Rattle.lane_stamps.specs.Stamps.{AreRanked, GoTogether, NoneMeets, allowed}
-use Rattle.row_list.specs.{declared.row_op.RowOp.{RowOp}, Rows.{AreValues, effects_by}}
-use Rattle.row_list.specs.Agreement.{AgreesWithValues, EndsWith, SeesBefore}
+use Rattle.row_facts.specs.declared.listing.ListSites.{ListSites}
+use Rattle.row_list.specs.{declared.{row_op.RowOp.{RowOp}, translating.RowList.{RowList}}, Rows.{AreValues, effects_by}}
+use Rattle.row_list.specs.{Agreement.{AgreesWithValues, EndsWith, SeesBefore}, Joined.{EndsLeaving, LeavesWithValues}}
 use Rattle.row_run.specs.{declared.batch.Batch.{Batch}, Batches.{AllRan, NoneSeesOwn, batch_log, rows_of, sites_of}}
-use Rattle.loop_core_sequential.specs.{Rests.{rest_to, RanOn}, Lanes.{LanesGoOn, LoadsNoneLeft, RanTogether}}
+use Rattle.row_run.proofs.JoinLaws.{all_fewer}
+use Rattle.loop_core_sequential.specs.Rests.{rest_to, RanOn}
+use Rattle.loop_core_sequential.specs.Lanes.{EachLane, LanesGoOn, LanesLeave, LoadsNoneLeft, RanTogether}
 
 -- iterations that are left, of which lanes are the first
 lanes_left : (past first lanes : ℕ) → first + lanes ≤ past → past - first ≡ lanes + (past - (first + lanes))
@@ -79,65 +82,131 @@ module _ (its : EachIterationSimulates) (program : Program) (sound : IsSoundProg
 
   -- and leaves words of the maps
   leaves_words : EachProgramEnds → EachCountIsSmall → (words : List ℕ) → AreMapWords program words → (index : ℕ)
-      → index < call.n → (effects : List Effect)
-      → EndsWith ops (machine_at call.callback index bytes) words 0 (accesses_on words effects)
-      → AreWords (words_after_effects effects words)
-  leaves_words laws counts words fit index below effects ends =
+      → index < call.n → (accesses : List Access)
+      → EndsWith ops (machine_at call.callback index bytes) words 0 accesses → AreWords (words_after_all accesses words)
+  leaves_words laws counts words fit index below accesses ends =
       let ended : IterationEnds program (callback_count program call) (Ended (record {
         ret = 0;
         steps = ends.steps;
-        accesses = accesses_on words effects;
-        words = words_after_all (accesses_on words effects) words;
-      })) = subst (IterationEnds program (callback_count program call))
-      (iterates words fit index below (accesses_on words effects) ends)
+        accesses = accesses;
+        words = words_after_all accesses words;
+      })) = subst (IterationEnds program (callback_count program call)) (iterates words fit index below accesses ends)
       (laws.iterations program sound call known 4096 (few_counts counts program call sound.accepted) index below words
       fit) in
-      subst AreWords (accesses_leave effects words) ended.2.fit
+      ended.2.fit
 
-  -- so a lane whose list agrees with the operations is an iteration, if its values are those of a list
+  -- a lane's values: of its index, with effects that may be made on some words
+  record IsLane (list : List RowOp) (result : ℕ) (words values now : List ℕ) (index : ℕ) : Type 0 where
+    below : index < call.n
+    valued : AreValues list index bytes words values
+    returns : slice_index values result ≡ 0
+    old_fit : AreWords words
+    fit : AreMapWords program now
+    sees : SeesBefore words now (effects_by list values words)
+    inside : AllByRecursion (λ effect. effect.element < length now) (effects_by list values words)
+
+  small : (index : ℕ) → index < call.n → index < 2 ^ 32
+  small index below = let most = known.sound.iterations in omega (arith, below, most)
+
+  -- so a lane whose list agrees with the operations is an iteration
   lane_goes_on : EachProgramEnds → EachCountIsSmall → (list : List RowOp) (result : ℕ)
-      → AgreesWithValues ops call.callback list result → (words values : List ℕ) (index : ℕ) → index < call.n
-      → AreValues list index bytes words values → slice_index values result ≡ 0 → (now : List ℕ)
-      → AreMapWords program now → SeesBefore words now (effects_by list values words)
-      → AllByRecursion (λ effect. effect.element < length now) (effects_by list values words)
+      → AgreesWithValues ops call.callback list result → (words values now : List ℕ) (index : ℕ)
+      → IsLane list result words values now index
       → GoesOn program 4096 call index now (effects_by list values words)
-  lane_goes_on laws counts list result agrees words values index below values_are returns now fit sees inside =
+  lane_goes_on laws counts list result agrees words values now index lane =
       let effects : List Effect = effects_by list values words in
-      let most = known.sound.iterations in
-      let small : index < 2 ^ 32 = omega (arith, below, most) in
       let ends : EndsWith ops (machine_at call.callback index bytes) now 0 (accesses_on now effects) =
-      subst (λ (ret : ℕ). EndsWith ops (machine_at call.callback index bytes) now ret (accesses_on now effects)) returns
-      (agrees.each index words values now (machine_at call.callback index bytes) values_are small refl refl refl long
-      sees inside) in
+      subst (λ (ret : ℕ). EndsWith ops (machine_at call.callback index bytes) now ret (accesses_on now effects))
+      lane.returns
+      (agrees.each index words values now (machine_at call.callback index bytes) lane.valued (small index lane.below) refl
+      refl refl long lane.sees lane.inside) in
       record {
-        ends = goes_on now fit index below (accesses_on now effects) ends;
-        fit = leaves_words laws counts now fit index below effects ends;
+        ends = goes_on now lane.fit index lane.below (accesses_on now effects) ends;
+        fit = subst AreWords (accesses_leave effects now)
+            (leaves_words laws counts now lane.fit index lane.below (accesses_on now effects) ends);
       }
 
--- lanes that ran, of which none sees what it left itself, are iterations
+  -- one whose list leaves what the operations leave, leaves what the iteration leaves
+  lane_leaves : EachProgramEnds → EachCountIsSmall → (list : List RowOp) (result : ℕ)
+      → LeavesWithValues ops call.callback list result → (words values now : List ℕ) (index : ℕ)
+      → IsLane list result words values now index
+      → Leaves program 4096 call index now (effects_by list values words)
+  lane_leaves laws counts list result leaves words values now index lane =
+      let left : List ℕ = words_after_effects (effects_by list values words) now in
+      let run : EndsLeaving ops (machine_at call.callback index bytes) now 0 left =
+      subst (λ (ret : ℕ). EndsLeaving ops (machine_at call.callback index bytes) now ret left) lane.returns
+      (leaves.each index words values now (machine_at call.callback index bytes) lane.valued (small index lane.below) refl
+      refl refl long lane.old_fit lane.fit.fit lane.sees lane.inside) in
+      record {
+        ends = record {
+          iterated = record {
+            ret = 0;
+            steps = run.ends.steps;
+            accesses = run.accesses;
+            words = words_after_all run.accesses now;
+          };
+          ended = iterates now lane.fit index lane.below run.accesses run.ends;
+          returned = refl;
+          leaves = run.leaves;
+        };
+        fit = subst AreWords run.leaves
+            (leaves_words laws counts now lane.fit index lane.below run.accesses run.ends);
+      }
+
+  -- what is so of each lane's values is so of the lanes that ran together
+  each_lane : (Is : ℕ → List ℕ → List Effect → Type 0) → (list : RowList) (words : List ℕ) → AreMapWords program words
+      → ((values now : List ℕ) (index : ℕ) → IsLane list.list.items list.result words values now index
+      → Is index now (effects_by list.list.items values words))
+      → (first lanes count : ℕ) → first + lanes ≤ call.n → (batch : Batch)
+      → RanTogether list first lanes bytes words batch count → EachLane Is first count words (batch_log batch)
+  each_lane Is list words fit one first lanes count within batch together lane below now fits loads =
+      let few = together.few in
+      let ran = together.ran.ran lane below in
+      let effects : List Effect = effects_of (batch_log batch) lane in
+      subst (Is (first + lane) now) (sym ran.does)
+      (one ran.values now (first + lane) (record {
+        below = omega (arith, within, few, below);
+        valued = ran.are;
+        returns = ran.returns;
+        old_fit = fit.fit;
+        fit = record { count = loads.count ∙ fit.count; fit = fits };
+        sees = subst (SeesBefore words now) ran.does (together.own.each lane below words now fits loads);
+        inside = subst (AllByRecursion (λ effect. effect.element < length now)) ran.does
+            (subst (λ (n : ℕ). AllByRecursion (λ effect. effect.element < n) effects) (sym loads.count)
+            (together.ran.within lane below));
+      }))
+
+-- lanes that ran together are iterations, where the list agrees
 pub lanes_go_on : EachIterationSimulates → EachProgramEnds → EachCountIsSmall → (program : Program)
     → IsSoundProgram program → (call : LoopCall) → OverApproximatesCall program call → (bytes : List ℕ)
     → map Some bytes ≡ call.frame → (rows : CallbackRows) → AreRowsAt program call.callback rows
-    → (words : List ℕ) → AreMapWords program words → (first lanes count : ℕ) → count ≤ lanes → first + lanes ≤ call.n
-    → (log : EffectLog) → AllRan rows.list.list.items rows.list.result first lanes bytes words log
-    → NoneSeesOwn log count → LanesGoOn program call first count words log
-lanes_go_on its laws counts program sound call known bytes same rows are words fit first lanes count fewer within log
-    all own lane below now fits loads =
-    let inside : lane < lanes = omega (arith, fewer, below) in
-    let ran = all.ran lane inside in
-    let effects : List Effect = effects_of log lane in
-    let elements : AllByRecursion (λ effect. effect.element < length now) effects =
-    subst (λ (n : ℕ). AllByRecursion (λ effect. effect.element < n) effects) (sym loads.count)
-    (all.within lane inside) in
-    subst (GoesOn program 4096 call (first + lane) now) (sym ran.does)
-    (lane_goes_on its program sound are.ops are.translated call known bytes
-    (frame_long program call bytes known same) same laws counts rows.list.list.items rows.list.result
+    → (words : List ℕ) → AreMapWords program words → (first lanes count : ℕ) → first + lanes ≤ call.n
+    → (batch : Batch) → RanTogether rows.list first lanes bytes words batch count
+    → LanesGoOn program call first count words (batch_log batch)
+lanes_go_on its laws counts program sound call known bytes same rows are words fit first lanes count within batch ran =
+    each_lane its program sound are.ops are.translated call known bytes (frame_long program call bytes known same) same
+    (GoesOn program 4096 call) rows.list words fit
+    (lane_goes_on its program sound are.ops are.translated call known bytes (frame_long program call bytes known same)
+    same laws counts rows.list.list.items rows.list.result
     (subst (λ (start : ℕ). AgreesWithValues are.ops start rows.list.list.items rows.list.result) are.here
-    are.are.agrees)
-    words ran.values (first + lane) (omega (arith, within, inside)) ran.are ran.returns now
-    (record { count = loads.count ∙ fit.count; fit = fits })
-    (subst (SeesBefore words now) ran.does (own.each lane below words now fits loads))
-    (subst (AllByRecursion (λ effect. effect.element < length now)) ran.does elements))
+    are.are.agrees) words)
+    first lanes count within batch ran
+
+-- and leave what the iterations leave, where the list leaves it
+pub lanes_leave : EachIterationSimulates → EachProgramEnds → EachCountIsSmall → (program : Program)
+    → IsSoundProgram program → (call : LoopCall) → OverApproximatesCall program call → (bytes : List ℕ)
+    → map Some bytes ≡ call.frame → (list : RowList) (sites : ListSites)
+    → LeavesRowsAt program call.callback list sites
+    → (words : List ℕ) → AreMapWords program words → (first lanes count : ℕ) → first + lanes ≤ call.n
+    → (batch : Batch) → RanTogether list first lanes bytes words batch count
+    → LanesLeave program call first count words (batch_log batch)
+lanes_leave its laws counts program sound call known bytes same list sites are words fit first lanes count within batch
+    ran =
+    each_lane its program sound are.ops are.translated call known bytes (frame_long program call bytes known same) same
+    (Leaves program 4096 call) list words fit
+    (lane_leaves its program sound are.ops are.translated call known bytes (frame_long program call bytes known same)
+    same laws counts list.list.items list.result are.are.leaves words)
+    first lanes count within batch ran
 
 -- sites that are ranked, and of which none meets another, load nothing that earlier lanes left
 pub loads_none_left : (sites : List Site) (rows : LaneRows) (lanes : ℕ) → AreRanked sites → NoneMeets sites rows lanes
@@ -150,26 +219,20 @@ loads_none_left sites rows lanes ranked unmet later earlier before inside k d wi
     ap (λ (b : Bool). if b then 0 else (slice_index_or sites k d).rank) load in
     omega (arith, some, most, none)
 
--- so the lanes of a batch are that ran, and of which the first may go together
-pub ran_together : EachIterationSimulates → EachProgramEnds → EachCountIsSmall → (program : Program)
-    → IsSoundProgram program → (call : LoopCall) → OverApproximatesCall program call → (bytes : List ℕ)
-    → map Some bytes ≡ call.frame → (rows : CallbackRows) → AreRowsAt program call.callback rows
-    → (words : List ℕ) → AreMapWords program words → (first lanes returned count : ℕ) → returned ≤ lanes
-    → count ≤ returned → lanes ≤ 512 → first + lanes ≤ call.n → (old new : Batch) → sites_of new ≡ sites_of old
-    → rows_of new ≡ rows_of old
-    → AllRan rows.list.list.items rows.list.result first returned bytes words (batch_log old)
+-- so lanes ran together, of which the first may go together
+pub ran_together : (list : RowList) (bytes words : List ℕ) (first lanes returned count : ℕ) → returned ≤ lanes
+    → count ≤ returned → lanes ≤ 512 → (old new : Batch) → sites_of new ≡ sites_of old → rows_of new ≡ rows_of old
+    → AllRan list.list.items list.result first returned bytes words (batch_log old)
     → All (IsWithin (length words) count (rows_of new)) (sites_of new) → AreRanked (sites_of old)
     → All (HasRows (rows_of new)) (sites_of new) → NoneSeesOwn (batch_log new) count → GoTogether (batch_log new) count
-    → NoneMeets (sites_of new) (rows_of new) count → RanTogether program call first lanes words new count
-ran_together its laws counts program sound call known bytes same rows are words fit first lanes returned count fewer few
-    room inside old new same_sites same_rows all within ranked there own together unmet = record {
+    → NoneMeets (sites_of new) (rows_of new) count → RanTogether list first lanes bytes words new count
+ran_together list bytes words first lanes returned count fewer few room old new same_sites same_rows all within ranked
+    there own together unmet = record {
       few = omega (arith, fewer, few);
-      go_on = lanes_go_on its laws counts program sound call known bytes same rows are words fit first returned count
-          few
-          (omega (arith, fewer, inside)) (batch_log new)
-          (subst (AllRan rows.list.list.items rows.list.result first returned bytes words)
-          (sym (ap (λ (s : List Site). log_of s (rows_of new)) same_sites ∙ ap (log_of (sites_of old)) same_rows)) all)
-          own;
+      ran = all_fewer list.list.items list.result first returned count bytes words (batch_log new) few
+          (subst (AllRan list.list.items list.result first returned bytes words)
+          (sym (ap (λ (s : List Site). log_of s (rows_of new)) same_sites ∙ ap (log_of (sites_of old)) same_rows)) all);
+      own = own;
       applies = record {
         room = omega (arith, fewer, few, room);
         rows = there;
@@ -179,17 +242,24 @@ ran_together its laws counts program sound call known bytes same rows are words 
       apart = loads_none_left (sites_of new) (rows_of new) count (subst AreRanked (sym same_sites) ranked) unmet;
     }
 
+-- lanes that go on leave what they do
+pub lanes_go_leave : (program : Program) (call : LoopCall) (first count : ℕ) (words : List ℕ) (log : EffectLog)
+    → LanesGoOn program call first count words log → LanesLeave program call first count words log
+lanes_go_leave program call first count words log goes lane below now fits loads =
+    goes_leaves program 4096 call (first + lane) now (effects_of log lane) (goes lane below now fits loads)
+
 -- and the loop goes on after those that may go together
 pub lanes_went : LoopByEachLane → (program : Program) (call : LoopCall) (first count : ℕ) → first + count ≤ call.n
-    → (log : EffectLog) (old new : MapList) → AreWords old.words → LanesGoOn program call first count old.words log
+    → (log : EffectLog) (old new : MapList) → AreWords old.words → LanesLeave program call first count old.words log
     → GoTogether log count → new.sizes ≡ old.sizes → new.words ≡ words_after_each_lane log count old.words
     → RanOn program call first (first + count) old new
-lanes_went law program call first count within log old new fit goes together sizes applied = record {
+lanes_went law program call first count within log old new fit leave together sizes applied = record {
   on = omega arith;
   within = within;
   rest = λ past over.
       ap (λ (left : ℕ). loop_from program 4096 call left first old.words) (lanes_left past first count over)
-      ∙ law program 4096 call first count (past - (first + count)) old.words log fit goes (together.loads old.words fit)
+      ∙ law program 4096 call first count (past - (first + count)) old.words log fit leave
+      (together.loads old.words fit)
       ∙ sym (ap (rest_to program call past (first + count)) applied);
   sizes = sizes;
 }

@@ -17,9 +17,10 @@ use Rattle.lane_stamps.specs.declared.kind.Kind.TheVariants.{Load, LoadHalf, Sto
 use Rattle.lane_stamps.specs.Sites.{Covers, LaneRows, done_by, effect_by, element_named, has, is_of_halves, leaves}
 use Rattle.lane_stamps.specs.Sites.{loads, log_of, place_of, value_of}
 use Rattle.loop_core_undo.specs.{declared.undo_log.UndoLog.{UndoLog}, Undo.{WordsBeforeAreKept, is_written}}
+use Rattle.row_list.specs.declared.translating.RowList.{RowList}
 use Rattle.row_run.specs.{declared.batch.Batch.{Batch}, Batches.{batch_log, rows_of, sites_of}}
 use Rattle.loop_core_sequential.specs.{Lanes.{LanesGoOn, LoadsNoneLeft, RanTogether}, Rests.{RanOn}}
-use Rattle.loop_core_sequential.{specs.Watched.{IsNoted, IsUnread, WentWatched, is_whole}, proofs.Together.{lanes_went}}
+use Rattle.loop_core_sequential.{specs.Watched.{IsNoted, IsUnread, WentWatched, is_whole}, proofs.Together.{lanes_go_leave, lanes_went}}
 use Rattle.loop_core_sequential.specs.Noting.{GoesWatched, IsLeft, NotesWrites}
 use Rattle.loop_core_sequential.proofs.WatchedLaws.{WritesAt, more_watched, on_start}
 
@@ -345,13 +346,13 @@ batch_keeps sites rows lanes written noted words e off =
 -- and the loop goes on, watched, after it
 pub goes_on_watched : LoopByEachLane → WordsBeforeAreKept → (program : Program) (call : LoopCall) (index : ℕ)
     (now new : MapList) (old last : UndoLog) → AreWords now.words → (lanes count : ℕ) → index + lanes ≤ call.n
-    → (batch : Batch) → RanTogether program call index lanes now.words batch count → (sites : List Site)
-    → sites ≡ sites_of batch → (rows : LaneRows) → rows ≡ rows_of batch
+    → (list : RowList) (frame : List ℕ) (batch : Batch) → RanTogether list index lanes frame now.words batch count
+    → LanesGoOn program call index count now.words (batch_log batch) → (sites : List Site) → sites ≡ sites_of batch → (rows : LaneRows) → rows ≡ rows_of batch
     → All (IsUnread (is_written old) count rows) sites → NotesWrites count rows sites now.words old last
     → new.sizes ≡ now.sizes → new.words ≡ words_after_each_lane (batch_log batch) count now.words → (start : MapList)
     → GoesWatched program call index start now old → GoesWatched program call (index + count) start new last
-goes_on_watched by_each law program call index now new old last fit lanes count within batch ran sites same_sites rows
-    same_rows unread notes sizes applied start goes =
+goes_on_watched by_each law program call index now new old last fit lanes count within list frame batch ran go_on sites
+    same_sites rows same_rows unread notes sizes applied start goes =
     let log_is : log_of sites rows ≡ batch_log batch =
     ap (λ (s : List Site). log_of s rows) same_sites ∙ ap (log_of (sites_of batch)) same_rows in
     let few = ran.few in
@@ -361,12 +362,12 @@ goes_on_watched by_each law program call index now new old last fit lanes count 
     applied ∙ ap (λ (log : EffectLog). words_after_each_lane log count now.words) (sym log_is) in
     record {
       watched = batch_watched program call index start now (is_written old) goes.watched fit count sites rows
-          (subst (LanesGoOn program call index count now.words) (sym log_is) ran.go_on)
+          (subst (LanesGoOn program call index count now.words) (sym log_is) go_on)
           (subst (λ (r : LaneRows). LoadsNoneLeft sites r count) (sym same_rows)
           (subst (λ (s : List Site). LoadsNoneLeft s (rows_of batch) count) (sym same_sites) ran.apart))
           unread new
           (lanes_went by_each program call index count (omega (arith, within, few)) (batch_log batch) now new fit
-          ran.go_on ran.applies.together sizes applied)
+          (lanes_go_leave program call index count now.words (batch_log batch) go_on) ran.applies.together sizes applied)
           left (is_written last)
           (λ e inside told. grows.written e (omega (arith, inside, many)) told) notes.noted
           (λ e inside told. notes.only e (omega (arith, inside, many)) told);

@@ -2,7 +2,8 @@
 
 ghost use Rattle.std.specs.Prelude.{◌≡◌, ◌<◌, ◌≤◌};
 
-use bpf_verify::CallbackRows;
+use row_facts::ListSites;
+use row_list::RowList;
 use row_run::Batch;
 use std::alloc::Global;
 
@@ -64,8 +65,8 @@ impl Batches {
     }
 
     /// Makes room for a callback's list. Where memory runs out no batch can be run, and each iteration goes alone.
-    pub(crate) fn make_room(&mut self, rows: &CallbackRows) {
-        let _made = self.batch.make_room(&rows.list, &rows.sites);
+    pub(crate) fn make_room(&mut self, list: &RowList, sites: &ListSites) {
+        let _made = self.batch.make_room(list, sites);
     }
 
     /// Notes that so many of a batch's lanes went: how many are tried the next time, and how many iterations go alone

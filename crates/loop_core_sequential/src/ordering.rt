@@ -1,7 +1,7 @@
 //! A loop in order.
 
 ghost use Rattle.std.specs.Prelude.{◌≡◌, ◌≤◌};
-ghost use Rattle.bpf_verify.specs.Rows.{AreRowsAt};
+ghost use Rattle.bpf_verify.specs.Rows.{LeavesRowsAt};
 ghost use Rattle.bpf_verify_sound.specs.Soundness.{OverApproximatesCall};
 ghost use Rattle.loop_core_sequential.specs.{Loops.{RanLoopInOrder}, LoopRuns.{IsLoopRun}, Rests.{RanTo, answer_of}};
 
@@ -10,7 +10,9 @@ use crate::loop_run::LoopRun;
 use crate::one_by_one::one_by_one;
 use array_maps::Maps;
 use bpf_step::LoopCall;
-use bpf_verify::{CallbackRows, Verified};
+use bpf_verify::Verified;
+use row_facts::ListSites;
+use row_list::RowList;
 
 /// The fewest iterations of a loop that is tried in batches: set-up clears about 100 KB, which takes some 3 µs.
 pub(crate) const MIN_BATCHED_ITERATIONS: u32 = 512;
@@ -54,7 +56,10 @@ pub fn range_in_order(
     if let Some(answer) = one_by_one(&mut run, from, from + 1, maps) {
         return Some(answer);
     }
-    in_batches(&mut run, rows, from + 1, to, maps)
+    match &rows.joined {
+        Some(joined) => in_batches(&mut run, &joined.list, &joined.sites, from + 1, to, maps),
+        None => in_batches(&mut run, &rows.list, &rows.sites, from + 1, to, maps),
+    }
 }
 
 /// The loop's answer: that with which it broke off, or n.
@@ -67,29 +72,30 @@ pub(crate) fn answer(broke_off: Option<u32>, n: u32) -> u32
     }
 }
 
-/// Runs the iterations from an index up to another, in batches where they may go together, and else one by one.
-/// Gives the loop's answer where one returned 1.
+/// Runs the iterations from an index up to another, in batches of a list where they may go together, and else one by
+/// one. Gives the loop's answer where one returned 1.
 #[inline(never)]
 fn in_batches(
     run: &mut LoopRun<'_>,
-    rows: &CallbackRows,
+    list: &RowList,
+    sites: &ListSites,
     from: u32,
     to: u32,
     maps: &mut Maps,
 ) -> Option<u32>
     requires ready { IsLoopRun run.old }
-    requires rows { AreRowsAt run.old.program.now run.old.call.now.callback rows.now }
+    requires rows { LeavesRowsAt run.old.program.now run.old.call.now.callback list.now sites.now }
     requires in_order { from ≤ to }
     requires within { to ≤ run.old.call.now.n }
     requires sizes { maps.old.sizes ≡ run.old.program.now.sizes }
     ensures same { run.new ≡ run.old }
     ensures ran { RanTo run.old.program.now run.old.call.now from to maps.old maps.new result }
 {
-    let mut batches = Batches::new(*rows.list.list.allocator());
-    batches.make_room(rows);
+    let mut batches = Batches::new(*list.list.allocator());
+    batches.make_room(list, sites);
     let mut index = from;
     while index < to {
-        let next = batches.run_batch(run, rows, index, to, maps);
+        let next = batches.run_batch(run, list, sites, index, to, maps);
         let resume = batches.resume(next, to);
         if let Some(answer) = one_by_one(run, next, resume, maps) {
             return Some(answer);

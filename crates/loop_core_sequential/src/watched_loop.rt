@@ -109,7 +109,7 @@ fn watch_in_batches(
 {
     let n = run.call.n();
     let mut batches = Batches::new(*rows.list.list.allocator());
-    batches.make_room(rows);
+    batches.make_room(&rows.list, &rows.sites);
     let mut index = from;
     while index < n {
         let next = batches.run_batch_watched(run, rows, index, n, log, maps);

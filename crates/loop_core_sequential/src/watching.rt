@@ -12,7 +12,9 @@ use crate::loop_run::LoopRun;
 use crate::noting::{are_unread, note_writes};
 use crate::progress::Progress;
 use array_maps::Maps;
+use bpf_step::law_of_plain_iterations;
 use bpf_verify::CallbackRows;
+use bpf_verify_sound::{law_of_accepted_programs, law_of_accepted_runs};
 use loop_core_model::law_of_batches;
 use loop_core_undo::{UndoLog, Watched, law_of_watching, law_of_words_before};
 
@@ -84,9 +86,16 @@ impl Batches {
     {
         law_of_batches();
         law_of_words_before();
-        // Each of the words is one.
+        law_of_plain_iterations();
+        law_of_accepted_runs();
+        law_of_accepted_programs();
+        // These tell the proof that the program is accepted, and how many words the maps have.
+        let _unit = run.program.unit();
+        let _sizes = maps.sizes();
         let _words = maps.words();
-        let Some(count) = self.ran_together(run, rows, index, lanes, maps) else {
+        let frame = run.call.frame();
+        let Some(count) = self.ran_together(&rows.list, &rows.sites, index, lanes, frame, maps)
+        else {
             return 0;
         };
         let sites = self.batch.sites();

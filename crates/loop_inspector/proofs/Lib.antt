@@ -2,7 +2,6 @@ pub mod FrameNumbers
 pub mod Deeds
 pub mod OwnLaws
 pub mod CalmLaws
-pub mod SameLanes
 pub mod Values
 pub mod SliceLanes
 pub mod Longer

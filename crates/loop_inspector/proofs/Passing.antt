@@ -304,8 +304,8 @@ pub own_of : (program : Program) (call : LoopCall) → OverApproximatesCall prog
     → NoneLoadsOwn rows.list.list.items survey.sites.items → LoadsNoneOfOwn rows.list.list.items call.n
 own_of program call known rows are survey is own =
     none_own rows.list.list.items call.n survey (omega (arith, known.sound.iterations)) is own
-    (each_site rows.list.list.items rows.sites.accesses.items rows.sites.sites.items are.are.sites.listed.all
-    are.are.sites.listed.kinds)
+    (each_site rows.list.list.items rows.sites.accesses.items rows.sites.sites.items are.are.leaves.listed.listed.all
+    are.are.leaves.listed.listed.kinds)
 
 -- a loop of which no element is open passes
 pub none_open_pass : ResultsFit → EachIterationSimulates → (program : Program) → IsSoundProgram program

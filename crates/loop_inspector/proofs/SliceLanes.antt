@@ -18,7 +18,8 @@ use Rattle.row_facts.specs.{declared.site.Site.{Site}, Elements.{Touches}, Order
 use Rattle.loop_marks.{specs.Touches.{Touch, touch_by, touch_of, touches_of}, proofs.VisitLaws.{touches_on}}
 use Rattle.loop_inspector.specs.{declared.reach.Span.{Span}, Reach.{Misses}, Open.{IsInSome}}
 use Rattle.loop_inspector.specs.Slices.{with_number, IsNeeded, IsChangeAt, IsClosed, IsCut, AreCuts}
-use Rattle.loop_inspector.proofs.{FrameNumbers.{AreBytes}, SameLanes.{all_by, same_value, same_effects}}
+use Rattle.row_list.proofs.SameLanes.{all_by, same_value, same_effects}
+use Rattle.loop_inspector.proofs.FrameNumbers.{AreBytes}
 use Rattle.loop_inspector.proofs.Values.{values_with, are_values_with, same_given}
 use Rattle.loop_inspector.proofs.Deeds.{HasEffect, effect_of, effect_or_none, touches_here, no_effects, with_first}
 use Rattle.loop_inspector.proofs.Deeds.{action_of_first}

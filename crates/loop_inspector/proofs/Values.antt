@@ -2,7 +2,7 @@
 use Rattle.std.proofs.Common.{◌≡◌, ℕ, zero, suc, ◌+◌, ◌-◌, ◌*◌, ◌%◌, ◌^◌, ◌<◌, ◌≤◌, Bool, true, false, ◌&&◌, ◌||◌}
 use Rattle.std.proofs.Common.{if◌then◌else◌, inl, inr, List, [], ◌∷◌, ◌++◌, length, slice_index, refl, sym, ap}
 use Rattle.std.{proofs.Common.{subst, ◌∙◌, arith}, specs.Prelude.{◌/◌, not, nat_lt, slice_get, Option, Some, None}}
-use Rattle.std.{specs.Prelude.{drop}, proofs.Math.Seq.{get_or-append_seam}}
+use Rattle.std.{specs.{Prelude.{drop}, List.{AllByRecursion}}, proofs.Math.Seq.{get_or-append_seam}}
 use Rattle.std.proofs.lemmas.Bool.{cases_lt, Decides.{nat_tests}}
 use Rattle.std.proofs.lemmas.List.{get_or_append_left, get_or-append_right, get_or-drop, length-append}
 use Rattle.array_maps.specs.{MapList.{AreWords}, declared.access.{Half.TheVariants.{Low, High}, Part.{Part}}}
@@ -21,7 +21,27 @@ use Rattle.row_list.specs.Rows.{RowAccess, bit, is_in, returned, row_value, row_
 use Rattle.row_list.specs.Rows.{AreValues, byte_at}
 use Rattle.row_facts.specs.Ordered.{TakesBelow, IsOrdered}
 use Rattle.loop_inspector.proofs.FrameNumbers.{AreBytes, frame_number}
-use Rattle.loop_inspector.proofs.SameLanes.{Lane, same_lane, takes_below, all_by}
+use Rattle.row_list.proofs.SameLanes.{Lane, same_lane, all_by}
+
+-- all that an operation takes comes before a position
+pub takes_below : (k : ℕ) (op : RowOp) → TakesBelow k op → AllByRecursion (λ j. j < k) (taken_by op)
+takes_below k All below = tt
+takes_below k (Number n) below = tt
+takes_below k (Caller size extension position) below = tt
+takes_below k Index below = tt
+takes_below k (Alu width op first second) below = (below.0, (below.1, tt))
+takes_below k (Neg width value) below = (below, tt)
+takes_below k (Movsx width bits value) below = (below, tt)
+takes_below k (Endian order bits value) below = (below, tt)
+takes_below k (Found first count key) below = (below.2, tt)
+takes_below k (Holds mask width compare first second) below = (below.0, (below.1, (below.2, tt)))
+takes_below k (Without mask other) below = (below.0, (below.1, tt))
+takes_below k (Either first second) below = (below.0, (below.1, tt))
+takes_below k (Choice mask first second) below = (below.0, (below.1, (below.2, tt)))
+takes_below k (Load place extension) below = (below.0, (below.1, tt))
+takes_below k (Store place value) below = (below.0, (below.1, (below.2, tt)))
+takes_below k (Reduce place op value) below = (below.0, (below.1, (below.2, tt)))
+takes_below k (Fetch place op value compare) below = (below.0, (below.1, (below.2, (below.3, tt))))
 
 -- what an access returns, or a value
 returned_or : Option RowAccess → (words : List ℕ) → (value : ℕ) → ℕ

@@ -276,8 +276,22 @@ class RandomCallback:
         address = f"[r{ADDRESS}+{offset}]"
         if number == DATA:
             self._load(width, address)
+        elif self._random.random() < 0.3:
+            self._plain_reduce(self._usual[number], width, address)
         else:
             self._add(f"atomic{width} {self._usual[number]} {address}, r{self._source()}")
+
+    def _plain_reduce(self, operator: str, width: int, address: str) -> None:
+        """A load, an operator and a store at an address: mostly with no access between, and of a register that nothing
+        else takes."""
+        rng, reduced = self._random, self._value()
+        self._add(f"ldx{width} r{reduced}, {address}")
+        if rng.random() < 0.1:
+            self._access_at(width, address)
+        self._add(f"{operator}{rng.choice((width, width, *WIDTHS))} r{reduced}, r{self._source()}")
+        self._add(f"stx{width} {address}, r{reduced}")
+        if rng.random() < 0.9:
+            self._set_values((reduced,))
 
     def _any_access(self) -> None:
         """An access of any kind of the element at the address, or of a half of it."""

@@ -21,11 +21,20 @@ returns-in-Some-one_by_one c =
     (broke_before c.new-run.result.program.now c.new-run.result.call.now c.args.from _ c.args.to c.args.maps.now
     c.one_by_one-2.new.maps c.in-Some-one_by_one.answer (omega (arith, many)) c.in-Some-one_by_one.ensures.ran)
 
-pub returns : goal.returns
-returns c =
+pub returns-in-Some-joined : goal.returns-in-Some-joined
+returns-in-Some-joined c =
     ran_of c.new-run.result c.args.program.now c.args.call.now c.new-run.ensures.program c.new-run.ensures.call
     c.args.from c.args.to c.args.maps.now c.in_batches.new.maps c.in_batches.result
     (ran_both c.new-run.result.program.now c.new-run.result.call.now c.args.from _ c.args.to c.args.maps.now
     c.one_by_one-2.new.maps c.in_batches.new.maps c.in_batches.result c.in_default-one_by_one.ensures.ran
     (ran_by c.one_by_one-2.new.run c.new-run.result c.one_by_one-2.ensures.same _ c.args.to c.one_by_one-2.new.maps
     c.in_batches.new.maps c.in_batches.result c.in_batches.ensures.ran))
+
+pub returns-in-None : goal.returns-in-None
+returns-in-None c =
+    ran_of c.new-run.result c.args.program.now c.args.call.now c.new-run.ensures.program c.new-run.ensures.call
+    c.args.from c.args.to c.args.maps.now c.in_batches-in-None.new.maps c.in_batches-in-None.result
+    (ran_both c.new-run.result.program.now c.new-run.result.call.now c.args.from _ c.args.to c.args.maps.now
+    c.one_by_one-2.new.maps c.in_batches-in-None.new.maps c.in_batches-in-None.result c.in_default-one_by_one.ensures.ran
+    (ran_by c.one_by_one-2.new.run c.new-run.result c.one_by_one-2.ensures.same _ c.args.to c.one_by_one-2.new.maps
+    c.in_batches-in-None.new.maps c.in_batches-in-None.result c.in_batches-in-None.ensures.ran))
