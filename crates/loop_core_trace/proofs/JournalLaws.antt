@@ -1,5 +1,5 @@
 -- Journals that undo one access more.
-use Rattle.std.proofs.Common.{◌≡◌, ℕ, ◌<◌, List, [], ◌∷◌, ◌++◌, length, get_or, set, refl, sym, ap, subst, ◌∙◌}
+use Rattle.std.proofs.Common.{◌≡◌, ℕ, ◌<◌, List, [], ◌∷◌, ◌++◌, length, get_or, set, refl, sym, ap, ◌∙◌}
 use Rattle.std.{proofs.lemmas.List.{set-set, set-get_or, length-set}, specs.List.{AllByRecursion}}
 use Rattle.array_maps.specs.MapList.{MapList}
 use Rattle.loop_core_trace.specs.{declared.journal.Note.{Note}, Journals.{unwound, Undoes}}
@@ -13,19 +13,14 @@ unwound_last (first ∷ notes) note words = ap (λ (ws : List ℕ). set ws first
 
 -- of all notes but the last, and of the last
 pub all_but_last : {A : Type 0} (P : A → Type 0) (xs : List A) (x : A) → AllByRecursion P (xs ++ x ∷ [])
-    → AllByRecursion P xs × P x
-all_but_last P [] x all = (tt, all.0)
-all_but_last P (first ∷ xs) x all = let rest = all_but_last P xs x all.1 in ((all.0, rest.0), rest.1)
+    → AllByRecursion P xs
+all_but_last P [] x all = tt
+all_but_last P (first ∷ xs) x all = (all.0, all_but_last P xs x all.1)
 
 pub all_and_last : {A : Type 0} (P : A → Type 0) (xs : List A) (x : A) → AllByRecursion P xs → P x
     → AllByRecursion P (xs ++ x ∷ [])
 all_and_last P [] x all last = (last, tt)
 all_and_last P (first ∷ xs) x all last = (all.0, all_and_last P xs x all.1 last)
-
--- of longer words
-pub all_within : (n m : ℕ) → m ≡ n → (notes : List Note) → AllByRecursion (λ note. note.element < n) notes
-    → AllByRecursion (λ note. note.element < m) notes
-all_within n m same notes all = subst (λ (k : ℕ). AllByRecursion (λ note. note.element < k) notes) (sym same) all
 
 -- an access that was noted
 pub undoes_next : (journal : List Note) (maps before after : MapList) (note : Note) (left : ℕ)
@@ -35,8 +30,8 @@ pub undoes_next : (journal : List Note) (maps before after : MapList) (note : No
 undoes_next journal maps before after note left undoes inside word sizes words =
     let long : length after.words ≡ length maps.words = ap length words ∙ length-set maps.words note.element left in
     record {
-      within = all_within (length maps.words) (length after.words) long (journal ++ note ∷ [])
-          (all_and_last (λ (n : Note). n.element < length maps.words) journal note undoes.within inside);
+      within =
+          rw long (all_and_last (λ (n : Note). n.element < length maps.words) journal note undoes.within inside);
       words = unwound_last journal note after.words
           ∙ ap (unwound journal)
           (ap (λ (ws : List ℕ). set ws note.element note.word) words
@@ -54,9 +49,7 @@ pub one_undone : (journal rest : List Note) (note : Note) (words after start : L
     → AllByRecursion (λ n. n.element < length after) rest × (unwound rest after ≡ start)
 one_undone journal rest note words after start is put within undoes =
     let long : length after ≡ length words = ap length put ∙ length-set words note.element note.word in (
-      all_within (length words) (length after) long rest
-          (all_but_last (λ (n : Note). n.element < length words) rest note
-          (subst (AllByRecursion (λ n. n.element < length words)) is within)).0,
+      rw long (all_but_last (λ (n : Note). n.element < length words) rest note (rw is at within)),
       ap (unwound rest) put ∙ sym (unwound_last rest note words) ∙ ap (λ (ns : List Note). unwound ns words) (sym is)
           ∙ undoes,
     )

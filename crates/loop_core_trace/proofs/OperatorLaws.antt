@@ -1,6 +1,6 @@
 -- The reduces of an element after one access more.
 use Rattle.std.proofs.Common.{◌≡◌, ℕ, Bool, true, false, List, [], ◌∷◌, ◌++◌, Option, Some, None, refl, sym, ap, subst}
-use Rattle.std.{proofs.Common.{◌∙◌}, specs.{Prelude.{◌&&◌, if◌then◌else◌}, List.{list_all}}}
+use Rattle.std.{proofs.Common.{◌∙◌}, specs.{Prelude.{not, if◌then◌else◌}, Bool.{then_some}, List.{list_all}}}
 use Rattle.std.proofs.lemmas.List.Folds.{list_all-append}
 use Rattle.array_maps.specs.declared.access.Op.{Op}
 use Rattle.array_maps.specs.Accesses.{Action, Read, Write, ReadWrite, Reduce, Access, actions_at}
@@ -23,10 +23,6 @@ pub chosen : (b : Bool) (a op : Op) → (if b then Some a else None) ≡ Some op
 chosen true a op h = (refl, cc)
 chosen false a op h = absurd (cc)
 
-both_true : (a b : Bool) → a ≡ true → b ≡ true → (a && b) ≡ true
-both_true true b h k = k
-both_true false b h k = absurd cc
-
 -- more actions by the same operator
 pub by_more : (op : Op) (xs ys : List Action) → only_operator xs ≡ Some op → only_operator ys ≡ Some op
     → only_operator (xs ++ ys) ≡ Some op
@@ -39,8 +35,7 @@ by_more op (Reduce other operand ∷ xs) ys h k =
     let rest : list_all (reduces_by other) ys ≡ true =
     subst (λ (o : Op). list_all (reduces_by o) ys ≡ true) (sym parts.1) (only_reduces op ys k) in
     let all : list_all (reduces_by other) (xs ++ ys) ≡ true =
-    list_all-append (reduces_by other) xs ys
-    ∙ both_true (list_all (reduces_by other) xs) (list_all (reduces_by other) ys) parts.0 rest in
+    list_all-append (reduces_by other) xs ys ∙ rw (parts.0, rest) in
     ap (λ (b : Bool). if b then Some other else None) all ∙ ap Some parts.1
 
 module _ (program : Program) (call : LoopCall) (index : ℕ) (words : List ℕ) (element : ℕ) where
@@ -57,16 +52,15 @@ module _ (program : Program) (call : LoopCall) (index : ℕ) (words : List ℕ) 
         → operator_of access.action ≡ reduces → ReduceIs program call index words element first
         → OtherIs program call index words element before first other →
         ReduceIs program call index words element (first_reduce_after first other reduces slot)
-    reduce_next (Some first) other reduces is was was_other = was
-    reduce_next None (Some at) reduces is was was_other = tt
+    reduce_next first (Some at) reduces is was was_other = was
+    reduce_next (Some first) None reduces is was was_other = was
     reduce_next None None reduces is was was_other = first_at reduces is was_other
 
     -- one more by the same operator
     alike : (first : Option FirstReduce) (reduces : Option Op) → operator_of access.action ≡ reduces
         → reduces_alike first reduces ≡ true → AreAlike first (actions_at element before) →
         AreAlike (first_reduce_after first None reduces slot) (actions_at element (before ++ access ∷ []))
-    alike None None is same are = absurd cc
-    alike (Some first) None is same are = absurd cc
+    alike first None is same are = absurd cc
     alike None (Some op) is same are =
         ap only_operator now ∙ ap (λ (xs : List Action). only_operator (xs ++ access.action ∷ [])) are
         ∙ of_one access.action ∙ is
@@ -75,38 +69,34 @@ module _ (program : Program) (call : LoopCall) (index : ℕ) (words : List ℕ) 
         ∙ by_more first.op (actions_at element before) (access.action ∷ []) are
         (of_one access.action ∙ is ∙ ap Some (sym (same_op first.op op same)))
 
-    -- or another one
+    -- or another one, which leaves the first one as it is
+    first_stays : (first : Option FirstReduce) (reduces : Option Op) → reduces_alike first reduces ≡ false
+        → first_reduce_after first None reduces slot ≡ first
+    first_stays (Some first) reduces off = refl
+    first_stays None None off = refl
+    first_stays None (Some op) off = absurd cc
+
     unlike : (first : Option FirstReduce) (reduces : Option Op) → operator_of access.action ≡ reduces
         → reduces_alike first reduces ≡ false → AreAlike first (actions_at element before) →
         OtherAccessAt program call index words element (first_reduce_after first None reduces slot) slot
-    unlike (Some first) reduces is off are = record {
+    unlike first reduces is off are = rw (first_stays first reduces off) (record {
       before = before;
       access = access;
       made = made;
       here = here;
       alike = are;
-      other = ap (reduces_alike (Some first)) is ∙ off;
-    }
-    unlike None None is off are = record {
-      before = before;
-      access = access;
-      made = made;
-      here = here;
-      alike = are;
-      other = ap (reduces_alike None) is;
-    }
-    unlike None (Some op) is off are = absurd cc
+      other = ap (reduces_alike first) is ∙ off;
+    })
 
     pub other_next : (first : Option FirstReduce) (other : Option ℕ) (reduces : Option Op)
         → operator_of access.action ≡ reduces → OtherIs program call index words element before first other →
         OtherIs program call index words element (before ++ access ∷ []) (first_reduce_after first other reduces slot)
         (other_after first other reduces slot)
-    other_next None (Some at) reduces is was = was
-    other_next (Some first) (Some at) reduces is was = was
+    other_next first (Some at) reduces is was = was
     other_next first None reduces is was = go (reduces_alike first reduces) refl
       where
         go : (b : Bool) → reduces_alike first reduces ≡ b → OtherIs program call index words element (before
-            ++ access ∷ []) (first_reduce_after first None reduces slot) (if b then None else Some slot)
+            ++ access ∷ []) (first_reduce_after first None reduces slot) (then_some (not b) slot)
         go true same = alike first reduces is same was
         go false off = unlike first reduces is off was
 

@@ -1,17 +1,17 @@
 -- An iteration under way, operation by operation.
-use Rattle.std.proofs.Common.{◌≡◌, ℕ, zero, suc, ◌+◌, ◌<◌, Bool, true, false, nat_lt, List, [], ◌++◌, length, Option}
-use Rattle.std.{proofs.Common.{Some, None, refl, sym, ap, subst, ◌∙◌, arith}, specs.List.{sum}}
+use Rattle.std.proofs.Common.{◌≡◌, ℕ, zero, suc, ◌+◌, ◌<◌, Bool, true, false, nat_lt, List, [], ◌++◌, length}
+use Rattle.std.{proofs.Common.{Some, refl, sym, ap, subst, ◌∙◌, arith}, specs.List.{sum}}
 use Rattle.std.proofs.lemmas.{Bool.{ltb-true, ltb-false}, List.{append-nil, append_assoc, get_or_past}}
 use Rattle.array_maps.specs.{Accesses.{Access}, MapList.{MapList}, Halves.{part_of}}
 use Rattle.bpf_insn_types.specs.Program.{Program}
 use Rattle.bpf_step_model.specs.{State.{Word, Machine, LoopCall, callback_entry}, Run.{mapped, with_first_step, run}}
-use Rattle.bpf_step_model.specs.Step.{Request, Load, Store, StoreHalf, Update, Fetch, StepOutcome, NoStep, Next, Asks}
+use Rattle.bpf_step_model.specs.Step.{Request, Load, Fetch, StepOutcome, NoStep, Next, Asks}
 use Rattle.bpf_step_model.specs.{Step.{Loops, Refuses, Exits, extended, step}, Steps.{GoesOn, Steps}}
 use Rattle.bpf_step_model.specs.Run.{BoundedResult, Ended, Stuck, Unfinished, RunSegment, part_bytes, after_request}
 use Rattle.bpf_verify_sound.specs.Soundness.{IsSoundProgram, AreMapWords, OverApproximates, StepsOverApproximated}
 use Rattle.bpf_verify_sound.specs.Soundness.{ProgressAndPreservation, EndsWithin, IsExit, EndsAtExit}
 use Rattle.bpf_step_ir.specs.{declared.ir_op.IrOp.{IrOp, TheVariants.{Stop}}, PlainRun.{op_of}}
-use Rattle.bpf_step_ir.specs.Plain.{Plain, PlainStepOutcome, Halts, Goes, Wants, CallsLoop, RefusesLoop, Ends}
+use Rattle.bpf_step_ir.specs.Plain.{Plain, PlainStepOutcome, Goes, Wants, CallsLoop, RefusesLoop, Ends}
 use Rattle.bpf_step_ir.specs.{Plain.{plain_step, plain_after_request}, Translation.{op_at, AreOps}}
 use Rattle.bpf_step.specs.{Standing.{Simulates, SimulatesStep}, Laws.{EachOpSimulates}}
 use Rattle.bpf_step.proofs.MachineLaws.{set-stands}
@@ -29,15 +29,13 @@ EndsByExit Unfinished = ⊥
 pub ends_by_exit : (program : Program) (count : ℕ) (e : BoundedResult RunSegment) → EndsWithin program count e
     → EndsAtExit e → EndsByExit e
 ends_by_exit program count (Ended s) ends exits = exits
-ends_by_exit program count Stuck ends exits = absurd ends
-ends_by_exit program count Unfinished ends exits = absurd ends
+ends_by_exit program count e ends exits = absurd ends
 
 -- so does what comes after its first step
 pub later : (accesses : List Access) (e : BoundedResult RunSegment) → EndsByExit (mapped (with_first_step accesses) e)
     → EndsByExit e
 later accesses (Ended s) ends = ends
-later accesses Stuck ends = ends
-later accesses Unfinished ends = ends
+later accesses e ends = ends
 
 -- one step more at the end
 pub steps_more : (program : Program) (count : ℕ) (m : Machine) (words : List ℕ) (a : List Access) (last : Machine)
@@ -65,11 +63,9 @@ pub requested : (sizes : List ℕ) (request : Request) (n : ℕ) (m : Machine) (
 requested sizes (Load part extension into) n m p s =
     set-stands sizes m p into (Word (extended extension (part_bytes part) (part_of part n)))
     (extended extension (part_bytes part) (part_of part n)) s refl
-requested sizes (Store value) n m p s = s
-requested sizes (StoreHalf half value) n m p s = s
-requested sizes (Update op operand) n m p s = s
 requested sizes (Fetch part rmw value compare into) n m p s = set-stands sizes m p into (Word (part_of part n))
     (part_of part n) s refl
+requested sizes request n m p s = s
 
 -- after so many steps: an iteration that began on the first maps has made some accesses, and goes on from a machine
 pub record Underway (program : Program) (call : LoopCall) (index element : ℕ) (first : MapList) (steps : ℕ) (p : Plain)
@@ -87,15 +83,6 @@ pub record Underway (program : Program) (call : LoopCall) (index element : ℕ) 
   pub undoes : Undoes journal maps first
 
 -- a step is there
-halts_never : (program : Program) (sizes : List ℕ) (move : StepOutcome) → StepsOverApproximated program move
-    → SimulatesStep sizes move Halts → ⊥
-halts_never program sizes NoStep over sim = over
-halts_never program sizes (Next next) over sim = sim
-halts_never program sizes (Asks element request next) over sim = sim
-halts_never program sizes (Loops call next) over sim = sim
-halts_never program sizes (Refuses call next) over sim = sim
-halts_never program sizes (Exits ret) over sim = sim
-
 can_by : (program : Program) (count : ℕ) → count ≡ sum program.sizes
     → (move : StepOutcome) (plain_move : PlainStepOutcome) → StepsOverApproximated program move →
     SimulatesStep program.sizes move plain_move → CanStep count plain_move
@@ -109,65 +96,51 @@ can_by program count long (Exits ret) (Ends n) over sim = tt
 can_by program count long move plain_move over sim = absurd sim
 
 -- what is accessed is there
-touch_within : (count : ℕ) (move : PlainStepOutcome) (touched : Option Touch) (touch : Touch) → AsTouched move touched
-    → CanStep count move → touched ≡ Some touch → touch.element < count
-touch_within count (Wants element request next) (Some seen) touch agrees can same =
-    let here = agrees.element_is in
-    let is : seen ≡ touch = cc in
-    subst (λ (t : Touch). t.element < count) is (omega (arith, here, can))
-touch_within count (Wants element request next) None touch agrees can same = absurd agrees
-touch_within count Halts (Some seen) touch agrees can same = absurd agrees
-touch_within count (Goes next) (Some seen) touch agrees can same = absurd agrees
-touch_within count (CallsLoop callback n ctx next) (Some seen) touch agrees can same = absurd agrees
-touch_within count (RefusesLoop call next) (Some seen) touch agrees can same = absurd agrees
-touch_within count (Ends ret) (Some seen) touch agrees can same = absurd agrees
-touch_within count Halts None touch agrees can same = absurd cc
-touch_within count (Goes next) None touch agrees can same = absurd cc
-touch_within count (CallsLoop callback n ctx next) None touch agrees can same = absurd cc
-touch_within count (RefusesLoop call next) None touch agrees can same = absurd cc
-touch_within count (Ends ret) None touch agrees can same = absurd cc
+touch_within : (count : ℕ) (move : PlainStepOutcome) (touch : Touch) → AsTouched move (Some touch) → CanStep count move
+    → touch.element < count
+touch_within count (Wants element request next) touch agrees can =
+    let here : element ≡ touch.element = ap (λ (t : Touch). t.element) (agrees 0) in omega (arith, here, can)
+touch_within count move touch agrees can = absurd agrees
 
-module _ (steps_law : ProgressAndPreservation) (ops_law : EachOpSimulates) {program : Program}
-    (sound : IsSoundProgram program) {ops : List IrOp} (are : AreOps program ops)
-    {call : LoopCall} {index element : ℕ} {first : MapList} where
-  module _ {steps : ℕ} {p : Plain} {maps : MapList} {journal : List Note} {slots : Slots} (under : Underway program call
-      index element first steps p maps journal slots) where
-    pub over : StepsOverApproximated program (step program under.machine)
-    over = steps_law program sound under.machine under.known
+-- the laws of steps and operations, and a program that was accepted, with its operations
+pub record Grounds (program : Program) (ops : List IrOp) : Type 0 where
+  pub steps : ProgressAndPreservation
+  pub simulate : EachOpSimulates
+  pub sound : IsSoundProgram program
+  pub are : AreOps program ops
 
-    pub simulated : (op : IrOp) → op_of ops p.slot ≡ op → SimulatesStep program.sizes (step program under.machine)
-        (plain_step op p)
-    simulated op is =
-        let same : op_at program under.machine.slot ≡ op = ap (op_at program) (sym under.stands.slot)
-        ∙ sym (are.at p.slot) ∙ is in
-        subst (λ (o : IrOp). SimulatesStep program.sizes (step program under.machine) (plain_step o p)) same
-        (ops_law program sound under.machine p under.known under.stands)
+module _ {program : Program} {ops : List IrOp} (grounds : Grounds program ops) {call : LoopCall} {index element : ℕ}
+    {first : MapList} {steps : ℕ} {p : Plain} {maps : MapList} {journal : List Note} {slots : Slots}
+    (under : Underway program call index element first steps p maps journal slots) where
+  pub over : StepsOverApproximated program (step program under.machine)
+  over = grounds.steps program grounds.sound under.machine under.known
 
-    halted : op_of ops p.slot ≡ Stop → ⊥
-    unfolding plain_step
-    halted is = halts_never program program.sizes (step program under.machine) over (simulated Stop is)
+  pub simulated : (op : IrOp) → op_of ops p.slot ≡ op → SimulatesStep program.sizes (step program under.machine)
+      (plain_step op p)
+  simulated op is =
+      let same : op_at program under.machine.slot ≡ op = ap (op_at program) (sym under.stands.slot)
+      ∙ sym (grounds.are.at p.slot) ∙ is in
+      subst (λ (o : IrOp). SimulatesStep program.sizes (step program under.machine) (plain_step o p)) same
+      (grounds.simulate program grounds.sound under.machine p under.known under.stands)
 
-    -- its operation is there
-    pub within : p.slot < length ops
-    within = go (nat_lt p.slot (length ops)) refl
-      where
-        go : (b : Bool) → nat_lt p.slot (length ops) ≡ b → p.slot < length ops
-        go true is = ltb-true p.slot (length ops) is
-        go false is = absurd (halted (get_or_past ops p.slot Stop (ltb-false p.slot (length ops) is)))
+  pub can : (op : IrOp) → op_of ops p.slot ≡ op → CanStep (length maps.words) (plain_step op p)
+  can op is = can_by program (length maps.words) under.fit.count (step program under.machine) (plain_step op p) over
+      (simulated op is)
 
-    pub can : (op : IrOp) → op_of ops p.slot ≡ op → CanStep (length maps.words) (plain_step op p)
-    can op is = can_by program (length maps.words) under.fit.count (step program under.machine) (plain_step op p) over
-        (simulated op is)
+  halted : op_of ops p.slot ≡ Stop → ⊥
+  unfolding plain_step
+  halted is = can Stop is
 
-    pub touched_within : (op : IrOp) → op_of ops p.slot ≡ op → (touch : Touch) → touched_by op p.registers
-        ≡ Some touch → touch.element < length maps.words
-    touched_within op is touch same = touch_within (length maps.words) (plain_step op p) (touched_by op p.registers)
-        touch (as_touched op p) (can op is) same
+  -- its operation is there
+  pub within : p.slot < length ops
+  within = go (nat_lt p.slot (length ops)) refl
+    where
+      go : (b : Bool) → nat_lt p.slot (length ops) ≡ b → p.slot < length ops
+      go true is = ltb-true p.slot (length ops) is
+      go false is = absurd (halted (get_or_past ops p.slot Stop (ltb-false p.slot (length ops) is)))
 
-    -- it isn't past its bound
-    pub not_all : steps ≡ 4096 → ⊥
-    not_all over_all = go under.left under.all under.ends
-      where
-        go : (left : ℕ) → steps + left ≡ 4096 → EndsByExit (run program left under.machine maps.words) → ⊥
-        go zero all ends = ends
-        go (suc left) all ends = omega (arith, over_all, all)
+  pub touched_within : (op : IrOp) → op_of ops p.slot ≡ op → (touch : Touch) → touched_by op p.registers ≡ Some touch
+      → touch.element < length maps.words
+  touched_within op is touch same =
+      touch_within (length maps.words) (plain_step op p) touch
+      (subst (AsTouched (plain_step op p)) same (as_touched op p)) (can op is)

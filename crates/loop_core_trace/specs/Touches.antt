@@ -1,6 +1,6 @@
 -- Which element an operation accesses, and what comes of it.
-use Rattle.std.specs.Prelude.{ℕ, ℤ, ◌/◌, Bool, true, false, ◌==◌, if◌then◌else◌, List, [], ◌∷◌, ◌++◌, slice_index}
-use Rattle.std.specs.Prelude.{Option, Some, None}
+use Rattle.std.specs.Prelude.{ℕ, ℤ, ◌/◌, Bool, true, false, not, ◌==◌, if◌then◌else◌, List, [], ◌∷◌, ◌++◌, slice_index}
+use Rattle.std.specs.{Prelude.{Option, Some, None}, Bool.{then_some}, Option.{option_or}}
 use Rattle.bpf_insn_types.specs.declared.insn.{Width.{Width, TheVariants.{W32, W64}}, SimpleOp.{SimpleOp}}
 use Rattle.bpf_insn_types.specs.declared.insn.AtomicOp.{AtomicOp, TheVariants.{Simple, Fetch, Xchg, Cmpxchg}}
 use Rattle.array_maps.specs.declared.access.Op.{Op}
@@ -52,14 +52,12 @@ no_slots = record { write = None; read = None; reduce = None; other = None }
 
 -- the first write stays; else this may be it
 abbrev pub first_write_after : Option ℕ → Touch → ℕ → Option ℕ
-first_write_after (Some first) touch slot = Some first
-first_write_after None touch slot = if touch.writes then Some slot else None
+first_write_after first touch slot = option_or first (then_some touch.writes slot)
 
 -- the exposed read is the first access of all, if it looks
 abbrev pub exposed_read_after : (write read : Option ℕ) → Touch → ℕ → Option ℕ
-exposed_read_after None None touch slot = if touch.looks then Some slot else None
 exposed_read_after (Some first) read touch slot = read
-exposed_read_after None (Some first) touch slot = Some first
+exposed_read_after None read touch slot = option_or read (then_some touch.looks slot)
 
 -- a reduce at a slot, if there is one
 abbrev pub reduce_at : Option Op → ℕ → Option FirstReduce
@@ -68,14 +66,12 @@ reduce_at (Some op) slot = Some (record { op = op; slot = slot })
 
 -- the first access of all, if it is a reduce
 abbrev pub first_reduce_after : Option FirstReduce → (other : Option ℕ) → Option Op → ℕ → Option FirstReduce
-first_reduce_after (Some first) other reduces slot = Some first
-first_reduce_after None (Some first) reduces slot = None
-first_reduce_after None None reduces slot = reduce_at reduces slot
+first_reduce_after first (Some other) reduces slot = first
+first_reduce_after first None reduces slot = option_or first (reduce_at reduces slot)
 
 -- the first access that is no reduce by the operator of the first one stays; else this may be it
 abbrev pub other_after : Option FirstReduce → (other : Option ℕ) → Option Op → ℕ → Option ℕ
-other_after first (Some slot) reduces at = Some slot
-other_after first None reduces at = if reduces_alike first reduces then None else Some at
+other_after first other reduces slot = option_or other (then_some (not (reduces_alike first reduces)) slot)
 
 abbrev pub slots_after : Slots → Touch → ℕ → Slots
 slots_after slots touch slot =

@@ -1,8 +1,8 @@
 //! The slots at which an iteration accesses one element.
 
-ghost use Rattle.std.specs.Prelude.{◌≡◌, if◌then◌else◌, Some, None};
-ghost use Rattle.loop_core_trace.specs.{Operators.{reduces_alike}, Touches.{other_after}};
-ghost use Rattle.loop_core_trace.specs.Touches.{first_write_after, exposed_read_after, reduce_at, first_reduce_after};
+ghost use Rattle.std.specs.Prelude.{◌≡◌};
+ghost use Rattle.loop_core_trace.specs.{Operators.{reduces_alike}};
+ghost use Rattle.loop_core_trace.specs.Touches.{exposed_read_after, reduce_at, first_reduce_after};
 
 use crate::touch::Touch;
 use array_maps::Op;
@@ -49,29 +49,13 @@ impl Slots {
     pub(crate) fn after(self, touch: Touch, slot: u32) -> Slots
         ensures { result ≡ slots_after self touch slot }
     {
+        let alike = reduces_alike(self.reduce, touch.reduces);
         Slots {
-            write: write_after(self.write, touch, slot),
+            write: self.write.or(touch.writes.then_some(slot)),
             read: read_after(self, touch, slot),
             reduce: first_reduce_after(self, touch.reduces, slot),
-            other: other_after(self, touch.reduces, slot),
+            other: self.other.or((!alike).then_some(slot)),
         }
-    }
-}
-
-/// A slot, if a condition holds.
-fn slot_if(condition: bool, slot: u32) -> Option<u32>
-    ensures { result ≡ (if condition then Some slot else None) }
-{
-    if condition { Some(slot) } else { None }
-}
-
-/// The slot of the first write after one access more.
-fn write_after(write: Option<u32>, touch: Touch, slot: u32) -> Option<u32>
-    ensures { result ≡ first_write_after write touch slot }
-{
-    match write {
-        Some(first) => Some(first),
-        None => slot_if(touch.writes, slot),
     }
 }
 
@@ -81,10 +65,7 @@ fn read_after(slots: Slots, touch: Touch, slot: u32) -> Option<u32>
 {
     match slots.write {
         Some(_) => slots.read,
-        None => match slots.read {
-            Some(first) => Some(first),
-            None => slot_if(touch.looks, slot),
-        },
+        None => slots.read.or(touch.looks.then_some(slot)),
     }
 }
 
@@ -102,12 +83,9 @@ fn reduce_at(reduces: Option<Op>, slot: u32) -> Option<FirstReduce>
 fn first_reduce_after(slots: Slots, reduces: Option<Op>, slot: u32) -> Option<FirstReduce>
     ensures { result ≡ first_reduce_after slots.reduce slots.other reduces slot }
 {
-    match slots.reduce {
-        Some(first) => Some(first),
-        None => match slots.other {
-            Some(_) => None,
-            None => reduce_at(reduces, slot),
-        },
+    match slots.other {
+        Some(_) => slots.reduce,
+        None => slots.reduce.or(reduce_at(reduces, slot)),
     }
 }
 
@@ -120,20 +98,6 @@ fn reduces_alike(first: Option<FirstReduce>, reduces: Option<Op>) -> bool
         Some(op) => match first {
             None => true,
             Some(reduce) => reduce.op == op,
-        },
-    }
-}
-
-/// The slot of the first access that isn't so, after one access more.
-fn other_after(slots: Slots, reduces: Option<Op>, slot: u32) -> Option<u32>
-    ensures { result ≡ other_after slots.reduce slots.other reduces slot }
-{
-    match slots.other {
-        Some(first) => Some(first),
-        None => if reduces_alike(slots.reduce, reduces) {
-            None
-        } else {
-            Some(slot)
         },
     }
 }
