@@ -1,5 +1,5 @@
 -- What each instruction does: which machines it goes on to, and when it calls a loop.
-use Rattle.std.proofs.Common.{◌≡◌, ℕ, zero, suc, ◌+◌, true, false, List, ◌∷◌, ◌++◌, drop, replicate, get_or, set}
+use Rattle.std.proofs.Common.{◌≡◌, ℕ, suc, ◌+◌, true, false, List, ◌∷◌, ◌++◌, drop, replicate, get_or, set}
 use Rattle.std.proofs.{Common.{Option, Some, None, refl, sym, ap, ◌∙◌, subst, arith}, lemmas.Bool.Decides.{nat_tests}}
 use Rattle.std.{specs.Prelude.{nat_le, ◌==◌}, proofs.lemmas.List.{get_or-set_other, get_or-drop}}
 use Rattle.bpf_insn_types.specs.{declared.insn.SimpleOp.{SimpleOp}, declared.insn.Insn.TheVariants.{Call}}
@@ -48,14 +48,9 @@ set-other xs i j x d e = grind (arith, nat_tests, get_or-set_other)
 -- a call keeps R6 to R10
 kept-by_call : (v : Value) (xs : List Value) (reg : ℕ) → nat_le reg 5 ≡ false
     → get_or (v ∷ (replicate 5 Unwritten ++ drop 6 xs)) reg Unwritten ≡ get_or xs reg Unwritten
-kept-by_call v xs zero e = absurd cc
-kept-by_call v xs (suc zero) e = absurd cc
-kept-by_call v xs (suc (suc zero)) e = absurd cc
-kept-by_call v xs (suc (suc (suc zero))) e = absurd cc
-kept-by_call v xs (suc (suc (suc (suc zero)))) e = absurd cc
-kept-by_call v xs (suc (suc (suc (suc (suc zero))))) e = absurd cc
 kept-by_call v xs (suc (suc (suc (suc (suc (suc k)))))) e =
     get_or-drop 6 xs k Unwritten ∙ ap (λ (j : ℕ). get_or xs j Unwritten) (omega arith)
+kept-by_call v xs _ e = absurd cc
 
 -- an instruction leaves a register alone that it doesn't write, and a call goes on at the next slot
 pub record Behind (insn : Insn) (reg : ℕ) (before m : Machine) : Type 0 where

@@ -1,24 +1,19 @@
 -- Steps of the machine's definition go on from a run.
-use Rattle.std.proofs.Common.{◌≡◌, ℕ, zero, suc, ◌<◌, ◌^◌, inl, inr, ◌⊎◌, List, [], ◌∷◌, ◌++◌, sym, subst, append_assoc}
+use Rattle.std.proofs.Common.{◌≡◌, ℕ, zero, suc, ◌<◌, ◌^◌, inl, List, [], ◌∷◌, ◌++◌, sym, subst, append_assoc}
 use Rattle.std.{specs.Prelude.{slice_index}, proofs.lemmas.Option.{get_or_from_slice_get}}
 use Rattle.array_maps.specs.Accesses.{Access, left_by}
 use Rattle.bpf_insn_types.specs.{Values.{AreInsns}, Program.{Program}, WordBounds.{ResultsFit}}
 use Rattle.bpf_step_model.specs.{State.{Machine}, SoundMachine.{SoundMachine}, Run.{action_of}, Steps.{GoesOn, Steps}}
-use Rattle.bpf_step_model.specs.Step.{StepOutcome, NoStep, Next, Asks, Loops, Refuses, Exits, step}
+use Rattle.bpf_step_model.specs.Step.{StepOutcome, NoStep, Next, Asks, step}
 use Rattle.bpf_verify_sound.{specs.Soundness.{StepSound}, proofs.{RegisterLaws.{all-set}, RunLaws.{word-at}}}
 use Rattle.bpf_verify_sound.proofs.SoundLaws.{step-sound, entry-sound}
-use Rattle.bpf_verify_origin.specs.{Runs.{GoesOnTo, Enters, RunsTo}, RunSteps.{AreWords, StepsAreRuns}}
-use Rattle.bpf_verify_origin.proofs.RunLaws.{sound-goes, sound-enters}
+use Rattle.bpf_verify_origin.specs.{Runs.{GoesOnTo, RunsTo}, RunSteps.{AreWords, StepsAreRuns}}
+use Rattle.bpf_verify_origin.proofs.RunLaws.{sound-next}
 
 -- each machine of a run is sound
-sound-next : (program : Program) (move : StepOutcome) (m : Machine) → StepSound program move
-    → (GoesOnTo move m ⊎ Enters move m) → SoundMachine program m
-sound-next program move m s (inl goes) = sound-goes program move m s goes
-sound-next program move m s (inr enters) = sound-enters program move m s enters
-
 sound-run : ResultsFit → (program : Program) → AreInsns program.insns → (passed : List Machine) (m : Machine)
     → RunsTo program passed m → SoundMachine program m
-sound-run fit program fits [] m run = subst (SoundMachine program) (sym run.2) (entry-sound program run.0 run.1)
+sound-run fit program fits [] m run = rw run.2 (entry-sound program run.0 run.1)
 sound-run fit program fits (before ∷ earlier) m run =
     sound-next program (step program before) m
     (step-sound fit program fits before (sound-run fit program fits earlier before run.1)) run.0

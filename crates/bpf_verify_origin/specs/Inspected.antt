@@ -68,8 +68,8 @@ pub record AreWays (program : Program) (by_slot : List (Option Insn)) (inflows :
 pub record AreSources (program : Program) (sources : List Source) : Type 0 where
   pub at : (slot reg : ℕ) → reg < 11 → slice_index_or sources (slot * 11 + reg) Start ≡ source_before program slot reg
 
--- what an inspection keeps: the first fault, the instructions by their slots, the abstract states before the slots up to
--- the fault, where edges come from, and the sources of values; the instructions' fields fit
+-- what an inspection keeps: the first fault, the instructions by their slots, the abstract states before the slots up
+-- to the fault, where edges come from, and the sources of values; the instructions' fields fit
 pub record IsInspection (program : Program) (fault : Option Fault) (by_slot : List (Option Insn))
     (states : List (Option State)) (inflows : List Inflow) (sources : List Source) : Type 0 where
   pub fault_is : option_map broken_rule fault ≡ first_fault program

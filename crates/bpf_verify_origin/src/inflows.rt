@@ -1,7 +1,7 @@
 //! Where the edges into each slot come from: a table, made in one pass.
 
-ghost use Rattle.std.specs.Prelude.{◌≡◌, ℕ, ◌<◌, ◌≤◌, ◌==◌, ◌++◌, ◌∷◌, [], true, length, replicate, slice_index_or};
-ghost use Rattle.std.specs.Prelude.{IfOk, OnOk};
+ghost use Rattle.std.specs.Prelude.{◌≡◌, ℕ, ◌<◌, ◌≤◌, true, length, replicate, slice_index_or};
+ghost use Rattle.std.specs.Prelude.{IfOk};
 ghost use Rattle.bpf_insn_types.specs.Program.{slot_count};
 ghost use Rattle.bpf_verify.specs.States.{AreStatesBefore};
 ghost use Rattle.bpf_verify_origin.specs.declared.inflow.Inflow.TheVariants.{Nowhere};
@@ -12,13 +12,6 @@ use crate::outflow::{outflow, state_in};
 use bpf_insn_types::{Insn, slots};
 use bpf_verify_model::{Edge, Outflow, State};
 use std::alloc::{AllocError, Global};
-
-/// By a slice of one: the borrow checker has no plan yet for a push of an enum within an enum.
-fn add_inflow(table: &mut Vec<Inflow>, inflow: Inflow) -> Result<(), AllocError>
-    ensures { OnOk result (table.new.items ≡ table.old.items ++ inflow ∷ []) }
-{
-    table.extend_from_slice(&[inflow])
-}
 
 /// Where the edges into a slot come from, of those into all slots.
 pub(crate) fn inflow_in(table: &[Inflow], slot: u32) -> Inflow
@@ -34,11 +27,7 @@ pub(crate) fn inflow_in(table: &[Inflow], slot: u32) -> Inflow
 fn no_inflows(alloc: Global, count: u32) -> Result<Vec<Inflow>, AllocError>
     ensures { IfOk result (λ table. table.items ≡ replicate count Nowhere) }
 {
-    let mut table = Vec::new(alloc);
-    for slot in 0..count {
-        add_inflow(&mut table, Inflow::Nowhere)?;
-    }
-    Ok(table)
+    Ok(vec![in alloc; Inflow::Nowhere; count as usize]?)
 }
 
 /// One more edge from a slot leads there.
@@ -54,19 +43,6 @@ fn add_edge(inflow: &mut Inflow, from: u32)
     }
 }
 
-/// One more edge from a slot leads to another.
-fn mark_at(table: &mut Vec<Inflow>, from: u32, target: u32)
-    ensures size { length table.new.items ≡ length table.old.items }
-    ensures marked { (slot : ℕ) → slot < length table.old.items
-        → slice_index_or table.new.items slot Nowhere
-        ≡ with_edge (target == slot) from (slice_index_or table.old.items slot Nowhere) }
-{
-    let at = target as usize;
-    if at < table.len() {
-        add_edge(&mut table[at], from);
-    }
-}
-
 /// One more edge from a slot, if it is followed.
 fn mark(table: &mut Vec<Inflow>, from: u32, edge: &Option<Edge>)
     ensures size { length table.new.items ≡ length table.old.items }
@@ -74,9 +50,12 @@ fn mark(table: &mut Vec<Inflow>, from: u32, edge: &Option<Edge>)
         → slice_index_or table.new.items slot Nowhere
         ≡ with_edge (edge_leads slot edge.now) from (slice_index_or table.old.items slot Nowhere) }
 {
-    match edge {
-        None => {}
-        Some(edge) => mark_at(table, from, edge.target),
+    let Some(edge) = edge else {
+        return;
+    };
+    let target = edge.target as usize;
+    if target < table.len() {
+        add_edge(&mut table[target], from);
     }
 }
 

@@ -43,26 +43,6 @@ impl Model for Inspection {
         i.sources.items };
 }
 
-/// Whether a slot is one up to a fault, if there is one.
-fn is_up_to(fault: Option<Fault>, slot: u32) -> bool
-    ensures { result ≡ is_up_to (option_map broken_rule fault) slot }
-{
-    match fault {
-        None => true,
-        Some(fault) => slot <= fault.slot,
-    }
-}
-
-/// Whether a slot is a fault's, if there is one, or past it.
-fn is_past(fault: Option<Fault>, slot: u32) -> bool
-    ensures { result ≡ is_past (option_map broken_rule fault) slot }
-{
-    match fault {
-        None => false,
-        Some(fault) => fault.slot <= slot,
-    }
-}
-
 impl Inspection {
     /// The unit.
     pub fn unit(&self) -> &Unit
@@ -90,6 +70,26 @@ impl Inspection {
         ensures { result ≡ insn_at self.now.insns slot }
     {
         insn_in(self.by_slot.as_slice(), slot)
+    }
+
+    /// Whether a slot is one up to the first fault, if there is one.
+    fn is_up_to(&self, slot: u32) -> bool
+        ensures { result ≡ is_up_to (first_fault self.now) slot }
+    {
+        match self.fault() {
+            None => true,
+            Some(fault) => slot <= fault.slot,
+        }
+    }
+
+    /// Whether a slot is the first fault's, if there is one, or past it.
+    fn is_past(&self, slot: u32) -> bool
+        ensures { result ≡ is_past (first_fault self.now) slot }
+    {
+        match self.fault() {
+            None => false,
+            Some(fault) => fault.slot <= slot,
+        }
     }
 
     /// Each field of an instruction is one of its type.
@@ -126,7 +126,7 @@ impl Inspection {
         let Some(_insn) = self.insn(slot) else {
             return None;
         };
-        if !is_up_to(self.fault, slot) {
+        if !self.is_up_to(slot) {
             return None;
         }
         state_in(self.states.as_slice(), slot)
@@ -162,7 +162,7 @@ impl Inspection {
         let Some(insn) = self.insn(slot) else {
             return no_outflow();
         };
-        if is_past(self.fault, slot) {
+        if self.is_past(slot) {
             return no_outflow();
         }
         outflow(self.sizes(), slot, &self.state(slot), insn)

@@ -19,12 +19,9 @@ use std::alloc::{AllocError, Global};
 fn source_by_insn(insn: Option<Insn>, from: u32, slot: u32, reg: Reg, earlier: Source) -> Source
     ensures { result ≡ source_by_insn from slot reg insn earlier }
 {
-    let Some(insn) = insn else {
-        return Source::Start;
-    };
-    match source_at(&insn, from, slot, reg) {
-        None => earlier,
-        Some(source) => source,
+    match insn {
+        None => Source::Start,
+        Some(insn) => source_at(&insn, from, slot, reg).unwrap_or(earlier),
     }
 }
 

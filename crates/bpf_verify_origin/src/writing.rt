@@ -18,7 +18,7 @@ fn fetches(op: AtomicOp, src: Reg, reg: Reg) -> bool
 }
 
 /// Whether an instruction writes a register: a call writes R0 to R5.
-pub(crate) fn writes(insn: &Insn, reg: Reg) -> bool
+fn writes(insn: &Insn, reg: Reg) -> bool
     ensures { result ≡ writes_register insn.now reg }
 {
     match *insn {
@@ -35,21 +35,14 @@ pub(crate) fn writes(insn: &Insn, reg: Reg) -> bool
     }
 }
 
-/// Whether an instruction is a call.
-fn is_call(insn: &Insn) -> bool
-    ensures { result ≡ is_call insn.now }
-{
-    match *insn {
-        Insn::Call { .. } => true,
-        _ => false,
-    }
-}
-
 /// Whether an instruction at a slot is a call that doesn't go on at another slot.
 fn enters(insn: &Insn, from: u32, slot: u32) -> bool
     ensures { result ≡ (is_call insn.now && not (slot == from + 1)) }
 {
-    is_call(insn) && u64::from(slot) != u64::from(from) + 1
+    match *insn {
+        Insn::Call { .. } => u64::from(slot) != u64::from(from) + 1,
+        _ => false,
+    }
 }
 
 /// The source that an instruction at a slot is to a register before another slot, to which all edges come from

@@ -1,8 +1,5 @@
-use Rattle.std.{proofs.Common.{ℕ, ap, sym, ◌∙◌, List, arith}, specs.Prelude.{None}}
-use Rattle.bpf_verify_model.specs.Inflow.{received_all}
-use Rattle.bpf_verify.specs.Passing.{out_of}
-use Rattle.bpf_verify_origin.proofs.{FaultLaws.{starts-within}, InflowLaws.{between-none, between-some}}
-use Rattle.bpf_verify_origin.proofs.{PassedLaws.{edge-passed}, RunLaws.{holds-between}}
+use Rattle.std.proofs.Common.{None, sym, ◌∙◌, refl, arith}
+use Rattle.bpf_verify_origin.proofs.{FaultLaws.{starts-within}, PassedLaws.{edge-passed}, RunLaws.{holds-between}}
 use Rattle.bpf_verify_origin.proofs.inspection.Inspection.edge.Goals as goal
 
 pub returns-then-from-gt4096-clause-whole : goal.returns-then-from-gt4096-clause-whole
@@ -15,22 +12,22 @@ returns-then-from-gt4096-clause-whole c = λ to.
     ))
 
 pub returns-in_default-clause-whole : goal.returns-in_default-clause-whole
-returns-in_default-clause-whole c = λ to. between-none c.args.self.now c.args.from c.args.to (sym c.insn.ensures
-    ∙ c.in_default.is)
+returns-in_default-clause-whole c = λ to. rw (sym c.insn.ensures ∙ c.in_default.is) refl
 
 pub returns-clause-whole : goal.returns-clause-whole
 returns-clause-whole c = λ to.
-    c.state_to.ensures ∙ between-some c.args.self.now c.args.from c.args.to c.in-Some.insn c.state-before.result
-    c.outflow-out.result (sym c.insn.ensures ∙ c.in-Some.is) (c.state-before.ensures.whole to)
-    (c.outflow-out.ensures ∙ ap (λ (sizes : List ℕ). out_of sizes c.args.from c.in-Some.insn c.state-before.result)
-    c.sizes.ensures)
+    rw (
+      c.state_to.ensures,
+      c.outflow-out.ensures,
+      c.sizes.ensures,
+      c.state-before.ensures.whole to,
+      sym c.insn.ensures ∙ c.in-Some.is,
+    ) refl
 
 pub returns-clause-passed : goal.returns-clause-passed
 returns-clause-passed c =
     edge-passed c.args.self.now c.args.from c.args.to c.in-Some.insn c.state-before.result c.state_to.result
-    c.state-before.ensures.passed
-    (c.state_to.ensures ∙ ap (received_all c.args.to None) (c.outflow-out.ensures
-    ∙ ap (λ (sizes : List ℕ). out_of sizes c.args.from c.in-Some.insn c.state-before.result) c.sizes.ensures))
+    c.state-before.ensures.passed (rw (c.state_to.ensures, c.outflow-out.ensures, c.sizes.ensures) refl)
     (returns-clause-whole c)
 
 pub returns-then-from-gt4096-clause-runs : goal.returns-then-from-gt4096-clause-runs

@@ -1,8 +1,5 @@
-use Rattle.std.{proofs.Common.{ℕ, ap, sym, ◌∙◌, List, arith, is_some}, specs.Option.{option_map}}
-use Rattle.bpf_verify_model.specs.Accepted.{first_fault}
-use Rattle.bpf_verify.specs.Passing.{out_of}
-use Rattle.bpf_verify_origin.{specs.Inspected.{IsPassedTo, broken_rule}, proofs.FaultLaws.{starts-within}}
-use Rattle.bpf_verify_origin.proofs.FlowLaws.{passed-to, flow-none, flow-there, flow-holds}
+use Rattle.std.proofs.Common.{ap, sym, ◌∙◌, arith, is_some}
+use Rattle.bpf_verify_origin.proofs.{FaultLaws.{starts-within}, FlowLaws.{passed-to, flow-none, flow-there, flow-holds}}
 use Rattle.bpf_verify_origin.proofs.inspection.Inspection.flow.Goals as goal
 
 pub returns-in_default-clause-runs : goal.returns-in_default-clause-runs
@@ -12,23 +9,16 @@ returns-in_default-clause-runs c =
 
 pub outflow-requires : goal.outflow-requires
 outflow-requires c =
-    let to : IsPassedTo c.args.self.now c.args.slot =
-    passed-to c.args.self.now c.args.slot (option_map broken_rule c.self.inside.fault)
-    (c.self.invariant.fault_is ∙ ap first_fault c.self.view_is) (sym c.is_past.ensures ∙ c.if-is_past.false)
+    let to = passed-to c.args.self.now c.args.slot (sym c.is_past.ensures ∙ c.if-is_past.false)
     (ap is_some (sym c.insn.ensures ∙ c.in-Some.is)) in
     omega (arith, starts-within c.args.self.now.insns c.args.slot to.starts, to.within.few)
 
 pub returns-clause-is : goal.returns-clause-is
 returns-clause-is c =
-    let to : IsPassedTo c.args.self.now c.args.slot =
-    passed-to c.args.self.now c.args.slot (option_map broken_rule c.self.inside.fault)
-    (c.self.invariant.fault_is ∙ ap first_fault c.self.view_is) (sym c.is_past.ensures ∙ c.if-is_past.false)
-    (ap is_some (sym c.insn.ensures ∙ c.in-Some.is)) in
-    c.outflow.ensures
-    ∙ ap (λ (sizes : List ℕ). out_of sizes c.args.slot c.in-Some.insn c.state.result) c.sizes.ensures
-    ∙ flow-there c.args.self.now c.args.slot c.in-Some.insn c.state.result
-    (option_map broken_rule c.self.inside.fault) (c.self.invariant.fault_is ∙ ap first_fault c.self.view_is)
-    (sym c.is_past.ensures ∙ c.if-is_past.false) (sym c.insn.ensures ∙ c.in-Some.is) (c.state.ensures.whole to)
+    let here = sym c.insn.ensures ∙ c.in-Some.is in
+    let early = sym c.is_past.ensures ∙ c.if-is_past.false in
+    rw (c.outflow.ensures, c.sizes.ensures) (flow-there c.args.self.now c.args.slot c.in-Some.insn c.state.result early
+    here (c.state.ensures.whole (passed-to c.args.self.now c.args.slot early (ap is_some here))))
 
 pub returns-clause-runs : goal.returns-clause-runs
 returns-clause-runs c =

@@ -1,16 +1,14 @@
-use Rattle.std.proofs.Common.{◌+◌, ◌*◌, List, get_or, ap, ◌∙◌}
-use Rattle.bpf_insn_types.specs.Program.{Program}
-use Rattle.bpf_verify_origin.specs.{declared.source.Source.{Source, TheVariants.{Start}}, Sources.{source_before}}
-use Rattle.bpf_verify_origin.proofs.RunSourceLaws.{source-holds}
+use Rattle.std.proofs.Common.{refl}
 use Rattle.bpf_verify_origin.proofs.inspection.Inspection.source.Goals as goal
 
 pub returns-clause-is : goal.returns-clause-is
 returns-clause-is c =
-    c.source_in.ensures.is
-    ∙ ap (λ (table : List Source). get_or table (c.args.slot * 11 + c.args.reg) Start) c.as_slice.ensures.value
-    ∙ c.self.invariant.sources_are.at c.args.slot c.args.reg c.source_in.ensures.fits
-    ∙ ap (λ (program : Program). source_before program c.args.slot c.args.reg) c.self.view_is
+    rw (
+      c.source_in.ensures.is,
+      c.as_slice.ensures.value,
+      c.self.invariant.sources_are.at c.args.slot c.args.reg c.source_in.ensures.fits,
+      c.self.view_is,
+    ) refl
 
 pub returns-clause-runs : goal.returns-clause-runs
-returns-clause-runs c =
-    source-holds c.args.self.now c.args.slot c.args.reg c.source_in.result c.sources_hold.ensures (returns-clause-is c)
+returns-clause-runs c = rw (returns-clause-is c) (c.sources_hold.ensures.before c.args.slot c.args.reg)
