@@ -1,21 +1,22 @@
 -- What events do to a replay.
-use Rattle.std.proofs.Common.{◌≡◌, ℕ, zero, suc, ◌+◌, ◌-◌, ◌<◌, Bool, true, false, List, [], ◌∷◌, ◌++◌, take, Option}
+use Rattle.std.proofs.Common.{◌≡◌, ℕ, zero, suc, ◌+◌, ◌-◌, ◌<◌, Bool, true, false, List, ◌++◌, take, Option}
 use Rattle.std.{proofs.Common.{Some, None, refl, sym, ◌∙◌, ap, subst, arith}, specs.Option.{option_to_list}}
-use Rattle.std.{specs.Prelude.{slice_get, if◌then◌else◌, OnOk, Result, Ok, Err}, proofs.lemmas.Bool.{eq-eqb, ne_eqb}}
+use Rattle.std.specs.Prelude.{slice_get, slice_index_or, if◌then◌else◌, length, Err}
+use Rattle.std.proofs.lemmas.{Bool.{eq-eqb, ne_eqb}, Option.{slice_get-get_or}}
 use Rattle.bpf_step_model.specs.Iteration.{iteration}
-use Rattle.loop_core_model.specs.{Gather.{is_bound}, declared.event.Event.{Event}, Intervals.{start_of, end_of}}
-use Rattle.loop_core_model.specs.{Events.{Running as InBlock}, declared.replay_fault.ReplayFault.{ReplayFault}}
-use Rattle.loop_core_model.{specs.Schedule.{ScheduleState, at_first, worker_of, replay}, proofs.SplitLaws.{faultless}}
+use Rattle.loop_core_model.specs.{Gather.{is_bound}, Intervals.{start_of, end_of}}
+use Rattle.loop_core_model.specs.declared.event.{Event.{Event}, EventKind.{EventKind}}
+use Rattle.loop_core_model.specs.declared.replay_fault.ReplayFault.{ReplayFault}
+use Rattle.loop_core_model.{specs.Schedule.{ScheduleState, at_first, replay}, proofs.SplitLaws.{faultless}}
 use Rattle.loop_core_model.proofs.{Steps.{first_break, RunsFrom, Fits as WorkerIsSound}, RunBlocks.{scan_break}}
 use Rattle.loop_core_model.proofs.ScheduleLaws.{Sound, AllOk, events_ok, sound_at_first}
 use Rattle.loop_core_model.specs.declared.event.EventKind.TheVariants as kinds
-use Rattle.loop_core_replay.specs.declared.worker.{Worker.TheVariants.{Running}, PendingIteration.{PendingIteration}}
-use Rattle.loop_core_replay.specs.{Standing.{Standing, WorkersFit, schedule_worker, state}, declared.worker.Step.{Step}}
-use Rattle.loop_core_replay.specs.Steps.{Leads, Faults, StepFollows, IsBefore, IterationFinished}
-use Rattle.loop_core_replay.{specs.InTurn.{LeadTo, EventsInTurn}, proofs.StandingLaws.{seen_at, at_is}}
-use Rattle.loop_core_replay.specs.Replays.{BlocksOf, ReplayOf, loop_breaks, block_numbers, state_of, AreBlocks}
-use Rattle.loop_core_replay.specs.Replays.{BreaksAt, BlockHasRun, HasCome}
-use Rattle.loop_core_replay.specs.declared.worker.Step.TheVariants as steps
+use Rattle.loop_core_replay.specs.declared.worker.{Worker.{Worker, TheVariants.{Idle, Holding, Running, Posting}}}
+use Rattle.loop_core_replay.specs.declared.worker.Worker.TheVariants.{Drained, Stopped}
+use Rattle.loop_core_replay.specs.{Standing.{Standing, WorkersFit, schedule_worker, state}, Moves.{TurnIs}}
+use Rattle.loop_core_replay.specs.{Steps.{LeadsTo, Faults}, InTurn.{LeadTo, EventsInTurn}}
+use Rattle.loop_core_replay.specs.Replays.{BlocksOf, ReplayOf, loop_breaks, block_numbers, AreBlocks, BreaksAt}
+use Rattle.loop_core_replay.{specs.Replays.{TurnBreaks, BlockHasRun, HasCome}, proofs.StandingLaws.{seen_at}}
 use Rattle.loop_core_block.specs.Loops.{LoopOf, IsSpeculative}
 
 -- a state that events lead to is sound
@@ -50,150 +51,88 @@ first_is breaks (suc left) index some_left = go (breaks index)
     go false = not_below breaks left (index + 1) index (omega arith)
 
 -- a worker's iteration breaks where its block does
-pub next_breaks : (s : LoopOf) → IsSpeculative s → (events : List Event) (place : ℕ) (r : ReplayOf)
-    → HasCome s events place r → (turn : PendingIteration) → IsBefore r.workers turn →
-    (broke : Option ℕ) → BreaksAt s turn.block broke → is_bound broke turn.index ≡ loop_breaks s turn.index
-next_breaks s is events place r come turn before broke at =
-    let sound = sound_of s is events place (state_of r) come.led in
-    let here : worker_of (state_of r) turn.worker ≡ InBlock turn.block turn.index =
-    seen_at r.workers.workers turn.worker
-    ∙ ap schedule_worker (at_is r.workers.workers turn.worker (Running turn.block turn.index) before) in
-    let runs : RunsFrom (loop_breaks s) s.bounds turn.block turn.index =
-    subst (WorkerIsSound (loop_breaks s) s.bounds r.workers.shared.next) here (sound.fits turn.worker) in
+turn_breaks : (s : LoopOf) (block index : ℕ) (broke : Bool) → RunsFrom (loop_breaks s) s.bounds block index
+    → BreaksAt s block index broke → loop_breaks s index ≡ broke
+turn_breaks s block index broke runs at =
     let end = runs.before_end in
-    ap (λ (o : Option ℕ). is_bound o turn.index)
-    (at.broke_is
-    ∙ (scan_break (λ (index : ℕ). iteration s.program 4096 s.call index s.start.words) (end_of s.bounds turn.block
-    - start_of s.bounds turn.block) (start_of s.bounds turn.block) at.ran at.ended
-    ∙ runs.no_break))
-    ∙ first_is (loop_breaks s) (end_of s.bounds turn.block - turn.index) turn.index (omega (arith, end))
+    sym (at.breaks_is ∙ ap (λ (o : Option ℕ). is_bound o index)
+    (scan_break (λ (index : ℕ). iteration s.program 4096 s.call index s.start.words) (end_of s.bounds block
+    - start_of s.bounds block) (start_of s.bounds block) at.ran at.ended
+    ∙ runs.no_break)
+    ∙ first_is (loop_breaks s) (end_of s.bounds block - index) index (omega (arith, end)))
 
-module _ (law : EventsInTurn) (s : LoopOf) (is : IsSpeculative s) (events : List Event) (place : ℕ) (old new : ReplayOf)
-    (come : HasCome s events place old) (fits : WorkersFit s.bounds new.workers) where
-  -- an event with which no block was run
-  pub done : (e : Event) → slice_get events place ≡ Some e → new.blocks ≡ old.blocks
-      → Leads s.bounds e place old.workers new.workers [] → HasCome s events (place + 1) new
-  done e there same leads = record {
-    led = subst (λ (ns : List ℕ). LeadTo (loop_breaks s) s.bounds events (place + 1) (state new.workers ns))
-        (sym (ap (λ b. block_numbers b.ran) same))
-        (law.next (loop_breaks s) s.bounds events place e (state_of old)
-        (state new.workers (block_numbers old.blocks.ran)) there come.led
-        (leads (loop_breaks s) (block_numbers old.blocks.ran)));
-    fits = fits;
-    blocks = subst (AreBlocks s) (sym same) come.blocks;
-  }
+-- so what is said of the event's turn is so
+turn_is : (s : LoopOf) (next : ℕ) (kind : EventKind) (worker : Worker) (broke : Bool)
+    → WorkerIsSound (loop_breaks s) s.bounds next (schedule_worker worker) → TurnBreaks s kind worker broke
+    → TurnIs (loop_breaks s) kind worker broke
+turn_is s next kinds.Turn (Running block index) broke sound at = turn_breaks s block index broke sound at
+turn_is s next kinds.Turn Idle broke sound at = tt
+turn_is s next kinds.Turn (Holding block) broke sound at = tt
+turn_is s next kinds.Turn (Posting index) broke sound at = tt
+turn_is s next kinds.Turn Drained broke sound at = tt
+turn_is s next kinds.Turn Stopped broke sound at = tt
+turn_is s next kinds.Claim worker broke sound at = tt
+turn_is s next kinds.Look worker broke sound at = tt
+turn_is s next kinds.Post worker broke sound at = tt
+turn_is s next kinds.Stop worker broke sound at = tt
 
-  -- one with which an empty block was
-  pub passed : (e : Event) → slice_get events place ≡ Some e → (number : ℕ) → BlockHasRun s number old.blocks new.blocks
-      → Leads s.bounds e place old.workers new.workers (number ∷ []) →
-      HasCome s events (place + 1) new
-  passed e there number run leads = record {
-    led = subst (λ (ns : List ℕ). LeadTo (loop_breaks s) s.bounds events (place + 1) (state new.workers ns))
-        (sym run.numbers)
-        (law.next (loop_breaks s) s.bounds events place e (state_of old)
-        (state new.workers (number ∷ block_numbers old.blocks.ran)) there come.led
-        (leads (loop_breaks s) (block_numbers old.blocks.ran)));
-    fits = fits;
-    blocks = run.blocks;
-  }
+-- an event at a place, of a loop and a replay that are seen as their fields
+module _ (law : EventsInTurn) (given s : LoopOf) (same : given ≡ s) (events : List Event) (place : ℕ)
+    (workers : Standing) (blocks : BlocksOf) (old : ReplayOf)
+    (seen_as : record { workers = workers; blocks = blocks } ≡ old) (come : HasCome s events place old)
+    (first : Event) (within : place < length events) where
+  abbrev e : Event
+  e = slice_index_or events place first
 
-  -- a turn
-  pub turned : (turn : PendingIteration) → slice_get events place
-      ≡ Some (record { kind = kinds.Turn; worker = turn.worker }) → IsBefore old.workers turn →
-      (broke : Option ℕ) → BreaksAt s turn.block broke → (b : Bool) → b ≡ is_bound broke turn.index →
-      (ran : Option ℕ) → IterationFinished s.bounds turn b old.workers new.workers ran → AreBlocks s new.blocks →
-      block_numbers new.blocks.ran ≡ option_to_list ran ++ block_numbers old.blocks.ran
-      → HasCome s events (place + 1) new
-  turned turn there before broke at b is_b ran turns blocks numbers = record {
-    led = subst (λ (ns : List ℕ). LeadTo (loop_breaks s) s.bounds events (place + 1) (state new.workers ns))
-        (sym numbers)
-        (law.next (loop_breaks s) s.bounds events place (record { kind = kinds.Turn; worker = turn.worker })
-        (state_of old)
-        (state new.workers (option_to_list ran ++ block_numbers old.blocks.ran)) there come.led
-        (turns (loop_breaks s) (block_numbers old.blocks.ran) place
-        (sym (is_b ∙ next_breaks s is events place old come turn before broke at))));
-    fits = fits;
-    blocks = blocks;
-  }
+  there : slice_get events place ≡ Some e
+  there = slice_get-get_or events place first within
 
--- what holds where a call gave Ok
-pub on_ok : {A B : Type 0} (P Q : Type 0) → (r : Result A B) → (P → Q) → OnOk r P → OnOk r Q
-on_ok P Q (Ok a) go h = go h
-on_ok P Q (Err b) go h = h
+  seen : HasCome s events place (record { workers = workers; blocks = blocks })
+  seen = subst (HasCome s events place) (sym seen_as) come
 
--- the same of a replay and a loop that are seen as their fields
-module _ (law : EventsInTurn) (given s : LoopOf) (same : given ≡ s) (is : IsSpeculative given) (events : List Event)
-    (place : ℕ) (old : ReplayOf)
-    (workers : Standing) (blocks : BlocksOf) (seen_as : record { workers = workers; blocks = blocks } ≡ old)
-    (come : HasCome s events place old)
-    (after : Standing) (fits : WorkersFit given.bounds after) where
-  setting : IsSpeculative s
-  setting = subst IsSpeculative same is
-
-  fits_so : WorkersFit s.bounds after
-  fits_so = subst (λ (o : LoopOf). WorkersFit o.bounds after) same fits
-
-  leads_so : (e : Event) (ran : List ℕ) → Leads given.bounds e place workers after ran
-      → Leads s.bounds e place old.workers after ran
-  leads_so e ran leads =
-      subst (λ (o : LoopOf). Leads o.bounds e place old.workers after ran) same
-      (subst (λ (r : ReplayOf). Leads given.bounds e place r.workers after ran) seen_as leads)
-
-  pub step_done : (e : Event) → slice_get events place ≡ Some e → (step : Step) → step ≡ steps.Done
-      → StepFollows given.bounds e place workers after step →
-      HasCome s events (place + 1) (record { workers = after; blocks = blocks })
-  step_done e there step is follows =
-      done law s setting events place old (record { workers = after; blocks = blocks }) come fits_so e there
-      (ap (λ (r : ReplayOf). r.blocks) seen_as)
-      (leads_so e [] (subst (StepFollows given.bounds e place workers after) is follows))
-
-  pub step_passed : (e : Event) → slice_get events place ≡ Some e → (number : ℕ) (new : BlocksOf)
-      → BlockHasRun s number blocks new →
-      (step : Step) → step ≡ steps.Ran number → StepFollows given.bounds e place workers after step
-      → HasCome s events (place + 1) (record { workers = after; blocks = new })
-  step_passed e there number new run step is follows =
-      passed law s setting events place old (record { workers = after; blocks = new }) come fits_so e there number
-      (subst (λ (r : ReplayOf). BlockHasRun s number r.blocks new) seen_as run)
-      (leads_so e (number ∷ []) (subst (StepFollows given.bounds e place workers after) is follows))
-
-  module _ (turn : PendingIteration) (there : slice_get events place
-      ≡ Some (record { kind = kinds.Turn; worker = turn.worker })) (before : IsBefore old.workers turn)
-      (broke : Option ℕ) (begun : BlocksOf) (kept : begun.ran ≡ blocks.ran) (are : AreBlocks s begun)
-      (at : BreaksAt s turn.block broke)
-      (b : Bool) (is_b : b ≡ is_bound broke turn.index) (ran : Option ℕ) (turns : IterationFinished given.bounds turn b
-      workers after ran) where
-    turns_so : IterationFinished s.bounds turn b old.workers after ran
-    turns_so =
-        subst (λ (o : LoopOf). IterationFinished o.bounds turn b old.workers after ran) same
-        (subst (λ (r : ReplayOf). IterationFinished given.bounds turn b r.workers after ran) seen_as turns)
-
-    kept_so : begun.ran ≡ old.blocks.ran
-    kept_so = kept ∙ ap (λ (r : ReplayOf). r.blocks.ran) seen_as
-
-    pub turn_on : ran ≡ None → HasCome s events (place + 1) (record { workers = after; blocks = begun })
-    turn_on is_none =
-        turned law s setting events place old (record { workers = after; blocks = begun }) come fits_so turn there
-        before broke at b is_b ran turns_so are
-        (ap block_numbers kept_so ∙ ap (λ (o : Option ℕ). option_to_list o ++ block_numbers old.blocks.ran)
-        (sym is_none))
-
-    pub turn_last : (number : ℕ) → ran ≡ Some number → (new : BlocksOf) → BlockHasRun s number begun new
+  -- it leads on
+  module _ (is : IsSpeculative given) (after : Standing) (fits : WorkersFit given.bounds after) (broke : Bool)
+      (worker : Worker) (here : worker ≡ slice_index_or workers.workers e.worker Idle)
+      (turn : TurnBreaks s e.kind worker broke) (ran : Option ℕ)
+      (leads : LeadsTo given.bounds e place broke workers after ran) where
+    leads_on : (new : BlocksOf) → AreBlocks s new
+        → block_numbers new.ran ≡ option_to_list ran ++ block_numbers blocks.ran
         → HasCome s events (place + 1) (record { workers = after; blocks = new })
-    turn_last number is_some new run =
-        turned law s setting events place old (record { workers = after; blocks = new }) come fits_so turn there before
-        broke at b is_b ran turns_so run.blocks
-        (run.numbers ∙ (ap (λ rs. number ∷ block_numbers rs) kept_so
-        ∙ ap (λ (o : Option ℕ). option_to_list o ++ block_numbers old.blocks.ran) (sym is_some)))
+    leads_on new are numbers =
+        let sound = sound_of s (subst IsSpeculative same is) events place (state workers (block_numbers blocks.ran))
+        seen.led in
+        let known : WorkerIsSound (loop_breaks s) s.bounds workers.shared.next
+        (schedule_worker (slice_index_or workers.workers e.worker Idle)) =
+        subst (WorkerIsSound (loop_breaks s) s.bounds workers.shared.next) (seen_at workers.workers e.worker)
+        (sound.fits e.worker) in
+        let is_so : TurnIs (loop_breaks s) e.kind (slice_index_or workers.workers e.worker Idle) broke =
+        turn_is s workers.shared.next e.kind (slice_index_or workers.workers e.worker Idle) broke known
+        (subst (λ (w : Worker). TurnBreaks s e.kind w broke) here turn) in
+        let led = subst (λ (o : LoopOf). LeadsTo o.bounds e place broke workers after ran) same leads in
+        record {
+          led = rw numbers (law.next (loop_breaks s) s.bounds events place e
+              (state workers (block_numbers blocks.ran))
+              (state after (option_to_list ran ++ block_numbers blocks.ran)) there seen.led
+              (led (loop_breaks s) (block_numbers blocks.ran) is_so));
+          fits = subst (λ (o : LoopOf). WorkersFit o.bounds after) same fits;
+          blocks = are;
+        }
 
--- an event that has a fault
-pub step_refused : (law : EventsInTurn) (given s : LoopOf) → given ≡ s
-    → (events : List Event) (place : ℕ) (old : ReplayOf) (workers : Standing) (blocks : BlocksOf) →
-    record { workers = workers; blocks = blocks } ≡ old → HasCome s events place old → (e : Event)
-    → slice_get events place ≡ Some e → (met fault : ReplayFault) → met ≡ fault →
-    Faults given.bounds e place workers met → replay (loop_breaks s) s.bounds events ≡ Err fault
-step_refused law given s same events place old workers blocks seen_as come e there met fault is faults =
-    let so : Faults s.bounds e place old.workers met =
-    subst (λ (o : LoopOf). Faults o.bounds e place old.workers met) same
-    (subst (λ (r : ReplayOf). Faults given.bounds e place r.workers met) seen_as faults) in
-    law.fault (loop_breaks s) s.bounds events place e (state_of old) met there come.led
-    (so (loop_breaks s) (block_numbers old.blocks.ran)) ∙ ap Err is
+    -- without a block that was run
+    pub step_alone : (new : BlocksOf) → AreBlocks s new → new.ran ≡ blocks.ran → ran ≡ None
+        → HasCome s events (place + 1) (record { workers = after; blocks = new })
+    step_alone new are kept none = leads_on new are (rw (none, kept) refl)
+
+    -- with one
+    pub step_last : (number : ℕ) (active new : BlocksOf) → active.ran ≡ blocks.ran → ran ≡ Some number
+        → BlockHasRun s number active new → HasCome s events (place + 1) (record { workers = after; blocks = new })
+    step_last number active new kept some run =
+        leads_on new run.blocks (run.numbers ∙ rw (some, kept) refl)
+
+  -- it has a fault
+  pub step_refused : (met fault : ReplayFault) → met ≡ fault → Faults given.bounds e place workers met
+      → replay (loop_breaks s) s.bounds events ≡ Err fault
+  step_refused met fault is faults =
+      let so = subst (λ (o : LoopOf). Faults o.bounds e place workers met) same faults in
+      law.fault (loop_breaks s) s.bounds events place e (state workers (block_numbers blocks.ran)) met there seen.led
+      (so (loop_breaks s) (block_numbers blocks.ran)) ∙ ap Err is

@@ -1,12 +1,10 @@
--- What an event asks for.
+-- What an event makes of a worker.
 use Rattle.std.specs.Prelude.{◌≡◌, ℕ, ◌<◌, ◌≤◌, Bool, List, ◌++◌, slice_set, IfSome, Some, None}
 use Rattle.std.specs.Option.{option_to_list}
 use Rattle.loop_core_model.specs.{declared.event.EventKind.{EventKind}, Intervals.{blocks_of}}
-use Rattle.loop_core_model.specs.Events.{Moved, becomes, transition}
-use Rattle.loop_core_model.specs.declared.event.EventKind.TheVariants as kinds
+use Rattle.loop_core_model.specs.{Events.{Moved, becomes, transition}, declared.event.EventKind.TheVariants.{Turn}}
 use Rattle.loop_core_replay.specs.declared.worker.{Worker.{Worker, TheVariants.{Running}}, Shared.{Shared}}
-use Rattle.loop_core_replay.specs.declared.moves.{WorkerTransition.{WorkerTransition}, Asked.{Asked}}
-use Rattle.loop_core_replay.specs.declared.moves.Asked.TheVariants.{Moves, Iteration}
+use Rattle.loop_core_replay.specs.declared.moves.WorkerTransition.{WorkerTransition}
 use Rattle.loop_core_replay.specs.Standing.{schedule_worker, shared_of, Standing, WorkerFits}
 
 -- what a worker and what it shares become, where these blocks were run before
@@ -25,17 +23,17 @@ abbrev pub after_transition : Standing → (number : ℕ) → WorkerTransition �
 after_transition standing number move =
     record { shared = move.shared; workers = slice_set standing.workers number move.worker }
 
--- the event is enabled: whatever breaks, it moves the worker so
-pub record IsTransition (bounds : List ℕ) (kind : EventKind) (worker : Worker) (shared : Shared)
+-- where the event is a worker's turn, its iteration breaks or not
+abbrev pub TurnIs : (ℕ → Bool) → EventKind → Worker → Bool → Type 0
+TurnIs breaks Turn (Running block index) broke = breaks index ≡ broke
+TurnIs breaks kind worker broke = Unit {0}
+
+-- the event is enabled: whichever other iterations break, it moves the worker so
+pub record IsTransition (bounds : List ℕ) (kind : EventKind) (worker : Worker) (shared : Shared) (broke : Bool)
     (move : WorkerTransition) : Type 0 where
   pub fits : TransitionFits bounds move
-  pub moves : (breaks : ℕ → Bool) (runs : List ℕ) → transition breaks bounds kind (schedule_worker worker)
-      (shared_of shared runs) ≡ Some (transition_result move runs)
-
--- whatever breaks, the event moves the worker so; or it is the turn of this iteration
-abbrev pub IsAskedFor : List ℕ → EventKind → Worker → Shared → Asked → Type 0
-IsAskedFor bounds kind worker shared (Moves move) = IsTransition bounds kind worker shared move
-IsAskedFor bounds kind worker shared (Iteration block index) = (kind ≡ kinds.Turn) × (worker ≡ Running block index)
+  pub moves : (breaks : ℕ → Bool) (runs : List ℕ) → TurnIs breaks kind worker broke → transition breaks bounds kind
+      (schedule_worker worker) (shared_of shared runs) ≡ Some (transition_result move runs)
 
 -- the event isn't enabled, whatever breaks
 abbrev pub IsNeverEnabled : List ℕ → EventKind → Worker → Shared → Type 0

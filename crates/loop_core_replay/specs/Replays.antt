@@ -1,8 +1,10 @@
 -- The state of a replay, event by event.
-use Rattle.std.specs.Prelude.{◌≡◌, ℕ, ◌<◌, Bool, true, List, ◌∷◌, map, length, slice_index_or, Option, Some, None}
-use Rattle.std.specs.{Prelude.{is_some, Ok}, List.{AllByRecursion}}
+use Rattle.std.specs.Prelude.{◌≡◌, ℕ, Bool, List, ◌∷◌, map, length, slice_index_or, Option, Some, None, Ok}
+use Rattle.std.specs.List.{AllByRecursion}
 use Rattle.bpf_step_model.specs.{Run.{Ended}, Iteration.{Iterated}}
-use Rattle.loop_core_model.specs.{Block.{block_run, break_from}, declared.event.Event.{Event}, Outcome.{breaks_at}}
+use Rattle.loop_core_model.specs.{Block.{block_run, break_from}, Gather.{is_bound}, Outcome.{breaks_at}}
+use Rattle.loop_core_model.specs.declared.event.{Event.{Event}, EventKind.{EventKind, TheVariants.{Turn}}}
+use Rattle.loop_core_replay.specs.declared.worker.Worker.{Worker, TheVariants.{Running}}
 use Rattle.loop_core_model.specs.{Intervals.{blocks_of, start_of, end_of}, Schedule.{ScheduleState, replay}}
 use Rattle.loop_core_replay.specs.{Standing.{Standing, WorkersFit, state}, InTurn.{LeadTo}}
 use Rattle.loop_core_block.specs.{declared.block.Block.{Block}, Loops.{LoopOf}, LoopBlocks.{IsBlockOf}, Shown.{shown}}
@@ -40,17 +42,17 @@ pub record AreBlocks (s : LoopOf) (blocks : BlocksOf) : Type 0 where
   pub under_way : (number : ℕ) → IfBlockOf s number (slice_index_or blocks.under_way number None)
   pub ran : AllByRecursion (λ b. IsBlockOf s (shown b).number (shown b)) blocks.ran
 
--- a block is active
-pub record IsUnderWay (blocks : BlocksOf) (number : ℕ) : Type 0 where
-  pub within : number < length blocks.under_way
-  pub there : is_some (slice_index_or blocks.under_way number None) ≡ true
-
--- a block breaks here on the start words, or not at all
-pub record BreaksAt (s : LoopOf) (number : ℕ) (broke : Option ℕ) : Type 0 where
+-- whether a block breaks at this index on the start words
+pub record BreaksAt (s : LoopOf) (number index : ℕ) (breaks : Bool) : Type 0 where
   pub ran : List Iterated
   pub ended : block_run s.program 4096 s.call s.start.words (start_of s.bounds number) (end_of s.bounds number)
       ≡ Ended ran
-  pub broke_is : broke ≡ break_from (start_of s.bounds number) ran
+  pub breaks_is : breaks ≡ is_bound (break_from (start_of s.bounds number) ran) index
+
+-- where the event is a worker's turn: whether its block breaks at its index
+abbrev pub TurnBreaks : LoopOf → EventKind → Worker → Bool → Type 0
+TurnBreaks s Turn (Running block index) breaks = BreaksAt s block index breaks
+TurnBreaks s kind worker breaks = Unit {0}
 
 -- a block was run more
 pub record BlockHasRun (s : LoopOf) (number : ℕ) (old new : BlocksOf) : Type 0 where

@@ -1,11 +1,13 @@
 //! The blocks that a replay runs.
 
 ghost use Rattle.std.specs.Prelude.{◌≡◌, ◌<◌, [], replicate, None, IfOk, OnOk};
-ghost use Rattle.loop_core_model.specs.Intervals.{blocks_of};
-ghost use Rattle.loop_core_block.specs.Loops.{LoopOf};
-ghost use Rattle.loop_core_replay.specs.Replays.{AreBlocks, IsUnderWay, BreaksAt, BlockHasRun};
+ghost use Rattle.loop_core_model.specs.{Gather.{is_bound}, Intervals.{blocks_of}};
+ghost use Rattle.loop_core_block.specs.{LoopBlocks.{IsBlockOf}, Shown.{shown}};
+ghost use Rattle.loop_core_replay.specs.{Standing.{WorkerFits}, Replays.{AreBlocks, BreaksAt, TurnBreaks, BlockHasRun}};
 
+use crate::worker::Worker;
 use loop_core_block::{Block, SpeculativeLoop};
+use loop_core_model::EventKind;
 use loop_core_split::{NoGate, Split};
 use std::alloc::{AllocError, Global};
 use std::marker::Model;
@@ -28,6 +30,16 @@ impl<'a> Model for Blocks<'a> {
     ghost view = { λ b. record { under_way = b.under_way.items; ran = b.ran.items } };
 }
 
+/// Whether a break is at this index.
+fn is_at(broke: Option<u32>, index: u32) -> bool
+    ensures { result ≡ is_bound broke index }
+{
+    match broke {
+        Some(at) => at == index,
+        None => false,
+    }
+}
+
 impl<'a> Blocks<'a> {
     /// No block of this split was begun.
     pub(crate) fn try_new(alloc: Global, split: &Split) -> Result<Blocks<'a>, AllocError>
@@ -44,41 +56,64 @@ impl<'a> Blocks<'a> {
         })
     }
 
-    /// Where a block breaks, which is active then.
-    pub(crate) fn begin(
+    /// Whether a block, which is active then, breaks at this index.
+    fn begin(
         &mut self,
         of: &SpeculativeLoop<'_, 'a>,
         number: u32,
-    ) -> Result<Option<u32>, AllocError>
+        index: u32,
+    ) -> Result<bool, AllocError>
         requires within { number < blocks_of of.now.bounds }
         requires blocks { AreBlocks of.now self.old }
         ensures blocks { OnOk result (AreBlocks of.now self.new) }
         ensures ran { self.new.ran ≡ self.old.ran }
-        ensures under_way { OnOk result (IsUnderWay self.new number) }
-        ensures broke { IfOk result (BreaksAt of.now number) }
+        ensures breaks { IfOk result (BreaksAt of.now number index) }
     {
         if let Some(block) = &self.under_way[number as usize] {
-            return Ok(block.broke());
+            return Ok(is_at(block.broke(), index));
         }
         let block = of.run_block(number, &NoGate)?;
-        let broke = block.broke();
+        let breaks = is_at(block.broke(), index);
         self.under_way[number as usize] = Some(block);
-        Ok(broke)
+        Ok(breaks)
     }
 
-    /// A worker has run this block, which is active.
-    pub(crate) fn end(&mut self, number: u32) -> Result<(), AllocError>
-        requires { IsUnderWay self.old number }
-        ensures { OnOk result ((l : LoopOf) → AreBlocks l self.old → BlockHasRun l number self.old self.new) }
+    /// Whether the iteration breaks that a worker does by this event, whose block is active then. `false` where it is
+    /// no worker's turn.
+    pub(crate) fn breaks(
+        &mut self,
+        of: &SpeculativeLoop<'_, 'a>,
+        kind: EventKind,
+        worker: Worker,
+    ) -> Result<bool, AllocError>
+        requires worker { WorkerFits of.now.bounds worker }
+        requires blocks { AreBlocks of.now self.old }
+        ensures blocks { OnOk result (AreBlocks of.now self.new) }
+        ensures ran { self.new.ran ≡ self.old.ran }
+        ensures breaks { IfOk result (TurnBreaks of.now kind worker) }
     {
-        match self.under_way[number as usize].take() {
-            Some(block) => Ok(self.ran.insert(0, block)?),
-            None => unreachable!(),
+        match (kind, worker) {
+            (EventKind::Turn, Worker::Running { block, index }) => self.begin(of, block, index),
+            _ => Ok(false),
         }
     }
 
-    /// A worker has run this block at once: it is empty.
-    pub(crate) fn pass(
+    /// The block of this number, which isn't active any more.
+    fn take(&mut self, of: &SpeculativeLoop<'_, 'a>, number: u32) -> Result<Block<'a>, AllocError>
+        requires within { number < blocks_of of.now.bounds }
+        requires blocks { AreBlocks of.now self.old }
+        ensures blocks { AreBlocks of.now self.new }
+        ensures ran { self.new.ran ≡ self.old.ran }
+        ensures block { IfOk result (λ b. IsBlockOf of.now number (shown b)) }
+    {
+        match self.under_way[number as usize].take() {
+            Some(block) => Ok(block),
+            None => of.run_block(number, &NoGate),
+        }
+    }
+
+    /// A worker has run this block. An empty one was never active, and is run at once.
+    pub(crate) fn end(
         &mut self,
         of: &SpeculativeLoop<'_, 'a>,
         number: u32,
@@ -87,8 +122,9 @@ impl<'a> Blocks<'a> {
         requires blocks { AreBlocks of.now self.old }
         ensures { OnOk result (BlockHasRun of.now number self.old self.new) }
     {
-        let _broke = self.begin(of, number)?;
-        self.end(number)
+        let block = self.take(of, number)?;
+        self.ran.insert(0, block)?;
+        Ok(())
     }
 
     /// Those that were run.

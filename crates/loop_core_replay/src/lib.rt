@@ -7,8 +7,8 @@
 //! // outcome.verdict, outcome.answer and outcome.maps are the loop's; maps is as before
 //! ```
 //!
-//! Each event goes to `Workers::begin`. Where it asks for a turn, that iteration runs on the loop's start words, and
-//! `Workers::finish` learns whether it broke.
+//! Where an event is a worker's turn, `Blocks::breaks` says whether that iteration breaks on the loop's start words.
+//! `Workers::step` does the event, and `Blocks::end` takes the block that was run with it.
 #![tactic(auto)]
 
 mod blocks;

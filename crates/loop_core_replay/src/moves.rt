@@ -3,7 +3,7 @@
 ghost use Rattle.std.specs.Prelude.{◌≡◌, ◌<◌, ◌≤◌, ℕ, Bool, List, IfSome, IfNone, Some, None};
 ghost use Rattle.loop_core_model.specs.{Intervals.{blocks_of, end_of}, Events.{claims, looks, iterates, posts}};
 ghost use Rattle.loop_core_replay.specs.Standing.{schedule_worker, shared_of, WorkerFits};
-ghost use Rattle.loop_core_replay.specs.Moves.{TransitionFits, transition_result, IsAskedFor, IsNeverEnabled};
+ghost use Rattle.loop_core_replay.specs.Moves.{TransitionFits, transition_result, IsTransition, IsNeverEnabled};
 
 use crate::worker::{Shared, Worker};
 use loop_core_model::EventKind;
@@ -15,13 +15,6 @@ pub(crate) struct WorkerTransition {
     pub(crate) worker: Worker,
     pub(crate) shared: Shared,
     pub(crate) ran: Option<u32>,
-}
-
-/// What an enabled event is.
-#[derive(Clone, Copy)]
-pub(crate) enum Asked {
-    Moves(WorkerTransition),
-    Iteration { block: u32, index: u32 },
 }
 
 fn becomes(worker: Worker, shared: Shared) -> WorkerTransition
@@ -83,18 +76,11 @@ fn look(split: &Split, block: u32, shared: Shared) -> WorkerTransition
 }
 
 /// What comes of the iteration of this index, which broke or not.
-pub(crate) fn iterate(
-    split: &Split,
-    block: u32,
-    index: u32,
-    broke: bool,
-    shared: Shared,
-) -> WorkerTransition
+fn iterate(split: &Split, block: u32, index: u32, broke: bool, shared: Shared) -> WorkerTransition
     requires next { shared.next ≤ blocks_of split.now }
     requires block { block < blocks_of split.now }
     requires index { index < end_of split.now block }
     ensures fits { TransitionFits split.now result }
-    ensures ran { IfSome result.ran (λ ran. ran ≡ block) }
     ensures iterates { (breaks : ℕ → Bool) (runs : List ℕ) → breaks index ≡ broke →
         iterates breaks split.now block index (shared_of shared runs) ≡ transition_result result runs }
 {
@@ -128,30 +114,28 @@ fn post(split: &Split, index: u32, shared: Shared) -> WorkerTransition
     )
 }
 
-/// What an event of this kind is for a worker, or `None` where it isn't enabled.
-pub(crate) fn asked_of(
+/// What an event of this kind makes of a worker, or `None` where it isn't enabled. Where it is the worker's turn, the
+/// iteration breaks or not.
+pub(crate) fn transition_of(
     split: &Split,
     kind: EventKind,
     worker: Worker,
     shared: Shared,
-) -> Option<Asked>
+    breaks: bool,
+) -> Option<WorkerTransition>
     requires next { shared.next ≤ blocks_of split.now }
     requires worker { WorkerFits split.now worker }
-    ensures some { IfSome result (IsAskedFor split.now kind worker shared) }
+    ensures some { IfSome result (IsTransition split.now kind worker shared breaks) }
     ensures none { IfNone result (IsNeverEnabled split.now kind worker shared) }
 {
     match (kind, worker) {
-        (EventKind::Claim, Worker::Idle) => Some(Asked::Moves(claim(split, shared))),
-        (EventKind::Look, Worker::Holding { block }) => {
-            Some(Asked::Moves(look(split, block, shared)))
-        }
+        (EventKind::Claim, Worker::Idle) => Some(claim(split, shared)),
+        (EventKind::Look, Worker::Holding { block }) => Some(look(split, block, shared)),
         (EventKind::Turn, Worker::Running { block, index }) => {
-            Some(Asked::Iteration { block, index })
+            Some(iterate(split, block, index, breaks, shared))
         }
-        (EventKind::Post, Worker::Posting { index }) => Some(Asked::Moves(post(
-            split, index, shared,
-        ))),
-        (EventKind::Stop, Worker::Drained) => Some(Asked::Moves(becomes(Worker::Stopped, shared))),
+        (EventKind::Post, Worker::Posting { index }) => Some(post(split, index, shared)),
+        (EventKind::Stop, Worker::Drained) => Some(becomes(Worker::Stopped, shared)),
         _ => None,
     }
 }

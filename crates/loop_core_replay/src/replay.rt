@@ -1,14 +1,12 @@
 //! A replay, event by event.
 
-ghost use Rattle.std.specs.Prelude.{◌≡◌, ◌+◌, ◌<◌, List, length, slice_get, Some, Err, IfOk, IfErr, OnOk};
-ghost use Rattle.loop_core_model.specs.{Gather.{is_bound}, Schedule.{replay}};
-ghost use Rattle.loop_core_model.specs.declared.event.EventKind.TheVariants as kinds;
-ghost use Rattle.loop_core_replay.specs.{Steps.{IsBefore}, Replays.{loop_breaks, HasCome, IsLeft}};
+ghost use Rattle.std.specs.Prelude.{◌≡◌, ◌+◌, ◌<◌, List, length, Err, IfOk, IfErr, OnOk};
+ghost use Rattle.loop_core_model.specs.Schedule.{replay};
+ghost use Rattle.loop_core_replay.specs.Replays.{loop_breaks, HasCome, IsLeft};
 
 use crate::blocks::Blocks;
 use crate::error::ReplayError;
 use crate::laws::law_of_events_in_turn;
-use crate::worker::{PendingIteration, Step};
 use crate::workers::Workers;
 use loop_core_block::{Block, SpeculativeLoop};
 use loop_core_model::{Event, ReplayFault};
@@ -30,16 +28,6 @@ impl<'a> Model for Replay<'a> {
     ghost view = { λ r. record { workers = r.workers; blocks = r.blocks } };
 }
 
-/// Whether a break is at this index.
-fn is_at(broke: Option<u32>, index: u32) -> bool
-    ensures { result ≡ is_bound broke index }
-{
-    match broke {
-        Some(at) => at == index,
-        None => false,
-    }
-}
-
 impl<'a> Replay<'a> {
     fn try_new(of: &SpeculativeLoop<'_, 'a>) -> Result<Replay<'a>, AllocError>
         ensures { IfOk result (λ r. (events : List Event) → HasCome of.now events 0 r) }
@@ -48,28 +36,6 @@ impl<'a> Replay<'a> {
             workers: Workers::new(),
             blocks: Blocks::try_new(of.alloc, of.split)?,
         })
-    }
-
-    /// A worker has its turn, which is the event at this place.
-    fn turn(
-        &mut self,
-        of: &SpeculativeLoop<'_, 'a>,
-        events: &[Event],
-        place: usize,
-        turn: PendingIteration,
-    ) -> Result<(), AllocError>
-        requires come { HasCome of.now events.now place self.old }
-        requires event { slice_get events.now place ≡ Some (record { kind = kinds.Turn; worker = turn.worker }) }
-        requires before { IsBefore self.old.workers turn }
-        ensures { OnOk result (HasCome of.now events.now (place + 1) self.new) }
-    {
-        law_of_events_in_turn();
-        let broke = self.blocks.begin(of, turn.block)?;
-        let breaks = is_at(broke, turn.index);
-        match self.workers.finish(of.split, turn, breaks) {
-            Some(block) => self.blocks.end(block),
-            None => Ok(()),
-        }
     }
 
     /// Does the event at this place.
@@ -86,10 +52,12 @@ impl<'a> Replay<'a> {
             → replay (loop_breaks of.now) of.now.bounds events.now ≡ Err fault }
     {
         law_of_events_in_turn();
-        match self.workers.begin(of.split, events[place], place) {
-            Ok(Step::Done) => Ok(()),
-            Ok(Step::Ran { block }) => Ok(self.blocks.pass(of, block)?),
-            Ok(Step::Turn(turn)) => Ok(self.turn(of, events, place, turn)?),
+        let event = events[place];
+        let worker = self.workers.get(event.worker);
+        let breaks = self.blocks.breaks(of, event.kind, worker)?;
+        match self.workers.step(of.split, event, place, breaks) {
+            Ok(Some(block)) => Ok(self.blocks.end(of, block)?),
+            Ok(None) => Ok(()),
             Err(fault) => Err(ReplayError::Fault(fault)),
         }
     }
@@ -106,10 +74,8 @@ impl<'a> Replay<'a> {
     {
         law_of_events_in_turn();
         let Replay { workers, blocks } = self;
-        match workers.end(events) {
-            Ok(()) => Ok(blocks.into_ran()),
-            Err(fault) => Err(fault),
-        }
+        workers.end(events)?;
+        Ok(blocks.into_ran())
     }
 }
 

@@ -25,25 +25,3 @@ pub struct Shared {
     /// The least break that was posted.
     pub least: Option<u32>,
 }
-
-/// An iteration that a worker is about to run.
-#[derive(Clone, Copy)]
-pub struct PendingIteration {
-    /// The worker's number, 0 to 15.
-    pub worker: u8,
-    /// The block that it runs.
-    pub block: u32,
-    /// The iteration's index. It is the block's first one where the block begins.
-    pub index: u32,
-}
-
-/// What came of an event.
-#[derive(Clone, Copy)]
-pub enum Step {
-    /// It was done.
-    Done,
-    /// It was done, and with it this block, which is empty, was run.
-    Ran { block: u32 },
-    /// It is done once this iteration was run, by `Workers::finish`.
-    Turn(PendingIteration),
-}

@@ -1,14 +1,14 @@
 //! The workers of a replayed schedule.
 
-ghost use Rattle.std.specs.Prelude.{◌≡◌, ◌<◌, ◌≤◌, ℕ, Bool, true, false, List, [], length, IfSome, IfOk, IfErr, OnOk};
-ghost use Rattle.std.specs.{Prelude.{OnErr}, List.{list_all}};
+ghost use Rattle.std.specs.Prelude.{◌≡◌, ◌<◌, ℕ, true, false, List, [], length, IfSome, IfOk, IfErr, OnOk};
+ghost use Rattle.std.specs.{Prelude.{OnErr, slice_index_or}, List.{list_all}};
 ghost use Rattle.loop_core_model.specs.declared.replay_fault.ReplayFault.TheVariants.{NotEnded};
-ghost use Rattle.loop_core_model.specs.Schedule.{at_first, has_ended, is_stopped, worker_of};
+ghost use Rattle.loop_core_model.specs.{Intervals.{blocks_of}, Schedule.{at_first, has_ended, is_stopped, worker_of}};
 ghost use Rattle.loop_core_replay.specs.{Standing.{WorkersFit, state}, Moves.{after_transition}};
-ghost use Rattle.loop_core_replay.specs.Steps.{IsStepOf, StepFits, StepFollows, Faults, IsBefore, IterationFinished};
+ghost use Rattle.loop_core_replay.specs.{Steps.{LeadsTo, Faults}, declared.worker.Worker.TheVariants.{Idle}};
 
-use crate::moves::{Asked, WorkerTransition, asked_of, iterate};
-use crate::worker::{PendingIteration, Shared, Step, Worker};
+use crate::moves::{WorkerTransition, transition_of};
+use crate::worker::{Shared, Worker};
 use loop_core_model::{Event, MAX_WORKERS, ReplayFault};
 use loop_core_split::Split;
 use std::marker::Model;
@@ -33,27 +33,6 @@ impl Model for Workers {
     ghost invariant = { λ w. length w.workers ≡ 16 };
 }
 
-fn step_of(ran: Option<u32>) -> Step
-    ensures { IsStepOf ran result }
-{
-    match ran {
-        None => Step::Done,
-        Some(block) => Step::Ran { block },
-    }
-}
-
-impl Default for Workers {
-    ghost use Rattle.std.specs.Prelude.{◌≡◌, []};
-    ghost use Rattle.loop_core_model.specs.Schedule.{at_first};
-    ghost use Rattle.loop_core_replay.specs.Standing.{state};
-
-    ghost is_default = { λ w. state w [] ≡ at_first };
-
-    fn default() -> Workers {
-        Workers::new()
-    }
-}
-
 impl Workers {
     /// Workers that haven't done anything.
     pub fn new() -> Workers
@@ -69,49 +48,42 @@ impl Workers {
         }
     }
 
-    /// Does the event that is at this place of a list, or says which iteration is to be run first, and then
-    /// changes nothing.
+    /// What the worker of this number does. One above 15 does nothing.
+    pub(crate) fn get(&self, number: u8) -> Worker
+        ensures { result ≡ slice_index_or self.now.workers number Idle }
+    {
+        let worker = self.workers.get(usize::from(number));
+        worker.copied().unwrap_or(Worker::Idle)
+    }
+
+    /// Does the event that is at this place of a list. Where it is a worker's turn, the iteration breaks or not.
+    /// Returns the block if the event ran it to its break or its end. The split is the one that these workers share.
     ///
-    /// E1 (`NoSuchWorker`) a worker above 15, E2 (`NotEnabled`) an event that isn't enabled, each with the place;
-    /// nothing has changed then. The split is the one that these workers share.
-    pub fn begin(&mut self, split: &Split, event: Event, place: usize) -> Result<Step, ReplayFault>
+    /// E1 (`NoSuchWorker`) a worker above 15, E2 (`NotEnabled`) an event that isn't enabled, each with the place.
+    pub(crate) fn step(
+        &mut self,
+        split: &Split,
+        event: Event,
+        place: usize,
+        breaks: bool,
+    ) -> Result<Option<u32>, ReplayFault>
         requires { WorkersFit split.now self.old }
-        ensures fits { WorkersFit split.now self.new }
-        ensures within { IfOk result (StepFits split.now) }
-        ensures follows { IfOk result (StepFollows split.now event place self.old self.new) }
+        ensures fits { OnOk result (WorkersFit split.now self.new) }
+        ensures within { IfOk result (λ ran. IfSome ran (λ block. block < blocks_of split.now)) }
+        ensures follows { IfOk result (LeadsTo split.now event place breaks self.old self.new) }
         ensures fault { IfErr result (Faults split.now event place self.old) }
-        ensures kept { OnErr result (self.new ≡ self.old) }
     {
         let number = usize::from(event.worker);
         if number >= WORKERS {
             return Err(ReplayFault::NoSuchWorker { event: place });
         }
-        match asked_of(split, event.kind, self.workers[number], self.shared) {
-            None => Err(ReplayFault::NotEnabled { event: place }),
-            Some(Asked::Iteration { block, index }) => Ok(Step::Turn(PendingIteration {
-                worker: event.worker,
-                block,
-                index,
-            })),
-            Some(Asked::Moves(change)) => {
+        match transition_of(split, event.kind, self.workers[number], self.shared, breaks) {
+            Some(change) => {
                 self.apply(number, change);
-                Ok(step_of(change.ran))
+                Ok(change.ran)
             }
+            None => Err(ReplayFault::NotEnabled { event: place }),
         }
-    }
-
-    /// Does a turn that `begin` returned, whose iteration broke or not. Returns the block if the turn ran it to its
-    /// break or its end. The split is the one that these workers share.
-    pub fn finish(&mut self, split: &Split, turn: PendingIteration, broke: bool) -> Option<u32>
-        requires fits { WorkersFit split.now self.old }
-        requires before { IsBefore self.old turn }
-        ensures fits { WorkersFit split.now self.new }
-        ensures ran { IfSome result (λ block. block ≡ turn.block) }
-        ensures turned { IterationFinished split.now turn broke self.old self.new result }
-    {
-        let change = iterate(split, turn.block, turn.index, broke, self.shared);
-        self.apply(usize::from(turn.worker), change);
-        change.ran
     }
 
     /// Whether these events have ended: some worker is in them, and each that does has stopped.
@@ -141,21 +113,13 @@ impl Workers {
     fn has_stopped(&self, number: u8) -> bool
         ensures { result ≡ is_stopped (worker_of (state self.now []) number) }
     {
-        match self.workers.get(usize::from(number)) {
-            Some(Worker::Stopped) => true,
-            _ => false,
-        }
+        matches!(self.get(number), Worker::Stopped)
     }
 
     /// Whether each worker of these events has stopped.
     fn have_stopped(&self, events: &[Event]) -> bool
         ensures { result ≡ list_all (λ e. is_stopped (worker_of (state self.now []) e.worker)) events.now }
     {
-        for event in events {
-            if !self.has_stopped(event.worker) {
-                return false;
-            }
-        }
-        true
+        events.iter().all(|event| self.has_stopped(event.worker))
     }
 }
