@@ -1,20 +1,20 @@
 -- The access by which an element isn't reduction-only.
-use Rattle.std.proofs.Common.{◌≡◌, ℕ, zero, suc, ◌+◌, ◌-◌, ◌≤◌, ◌<◌, Bool, true, false, List, [], ◌++◌, map, take}
-use Rattle.std.{proofs.Common.{Option, Some, None, refl, sym, ap, subst, ◌∙◌, arith}, specs.List.{range_with_len}}
-use Rattle.std.{specs.Prelude.{if◌then◌else◌, slice_index_or}, proofs.lemmas.List.{append-nil, take_all}}
+use Rattle.std.proofs.Common.{◌≡◌, ℕ, zero, suc, ◌+◌, ◌-◌, ◌≤◌, ◌<◌, inl, inr, false, List, ◌++◌, take, Option, Some}
+use Rattle.std.proofs.Common.{None, refl, subst, add-one, arith}
+use Rattle.std.proofs.lemmas.{Bool.{cases_Bool}, List.{append-nil, take_all}}
 use Rattle.array_maps.specs.{declared.access.Op.{Op}, Accesses.{Action, Access, actions_at}}
 use Rattle.bpf_insn_types.specs.Program.{Program}
-use Rattle.bpf_step_model.specs.{State.{LoopCall}, Run.{BoundedResult, Ended, mapped}, Iteration.{Iterated, iteration}}
-use Rattle.loop_core_model.specs.{Actions.{is_same, reduces_by, joined, only_operator}, Conflict.{at_element}}
-use Rattle.loop_core_model.{specs.LeastBreak.{all_ended, accesses_of_each}, proofs.OneElement.{same_op}}
+use Rattle.bpf_step_model.specs.{State.{LoopCall}, Run.{BoundedResult, Ended}, Iteration.{Iterated, iteration}}
+use Rattle.loop_core_model.specs.{Actions.{is_same, joined}, Conflict.{at_element}, LeastBreak.{accesses_of_each}}
+use Rattle.loop_core_model.proofs.OneElement.{same_op}
 use Rattle.loop_core_trace.specs.declared.{following.Trace.{Trace}, slots.FirstReduce.{FirstReduce}}
-use Rattle.loop_core_trace.specs.{Operators.{AreAlike}, Places.{AccessesAt, FirstReduceAt, OtherAccessAt}}
-use Rattle.loop_core_trace.{specs.Traced.{ReduceIs, OtherIs, IsTraceOf}, proofs.OperatorLaws.{by_more}}
-use Rattle.loop_core_witness.{specs.{declared.place.Place.{Place}, Breaks.{AreCounted}}, proofs.Runs.{AllRan, all_ran}}
-use Rattle.loop_core_witness.specs.Reductions.{are_reduces, GoOn, AreQuiet, EndsReduction, IsEnd, HasEnd}
-use Rattle.loop_core_witness.specs.Reductions.{operator_after, end_slot}
-use Rattle.loop_core_witness.proofs.ReductionLaws.{joined-take, IsKept, IsOff, off_alike, off_first, off_none}
-use Rattle.loop_core_witness.proofs.ReductionLaws.{off_other, kept_reduces, kept_ends, kept_on, kept_quiet}
+use Rattle.loop_core_trace.specs.Places.{AccessesAt, FirstReduceAt, OtherAccessAt}
+use Rattle.loop_core_trace.specs.Traced.{ReduceIs, OtherIs, IsTraceOf}
+use Rattle.loop_core_witness.specs.{Breaks.{AreCounted}}
+use Rattle.loop_core_witness.specs.Reductions.{AreQuiet, EndsReduction, HasEnd, operator_after, end_slot}
+use Rattle.loop_core_witness.proofs.Runs.{AllRan, all_counted, runs_counted}
+use Rattle.loop_core_witness.proofs.ReductionLaws.{joined-take, IsKept, IsOff, Fits, goes_on, kept_more, off_more}
+use Rattle.loop_core_witness.proofs.ReductionLaws.{off_other, kept_reduces, kept_ends, kept_quiet}
 
 module _ (program : Program) (call : LoopCall) (words : List ℕ) (element : ℕ) where
   abbrev Iterate : ℕ → BoundedResult Iterated
@@ -30,46 +30,28 @@ module _ (program : Program) (call : LoopCall) (words : List ℕ) (element : ℕ
   pub none_yet : (count : ℕ) → KeptUpTo count None 0
   none_yet count ran = refl
 
-  -- what an iteration did, where all of it is alike
-  alike_here : (index : ℕ) (accesses : List Access) (first : Option FirstReduce) (other : Option ℕ)
-      → OtherIs program call index words element accesses first other → other ≡ None
-      → AreAlike first (actions_at element accesses)
-  alike_here index accesses first None was is = was
-  alike_here index accesses first (Some slot) was is = absurd cc
+  -- an iteration more, with which what is kept goes on
+  one_more : (count : ℕ) (kept next : Option Op) (index : ℕ) → index < count → (it : Iterated)
+      → Iterate index ≡ Ended it →
+      ((earlier : List Action) → IsKept kept earlier → IsKept next (earlier ++ actions_at element it.accesses))
+      → KeptUpTo count kept index → KeptUpTo count next (suc index)
+  one_more count kept next index below it ended on so_far ran =
+      rw (joined-take (Iterations ran) index, ran.at index index below (omega arith) it ended element)
+      (on (joined (take index (Iterations ran))) (so_far ran))
 
-  pub one_more : (count : ℕ) (kept : Option Op) (index next : ℕ) (trace : Trace) → index < count → next ≡ index + 1
+  -- by its trace
+  pub one_traced : (count : ℕ) (kept : Option Op) (index : ℕ) (trace : Trace) → index < count
       → IsTraceOf program call index words element trace → KeptUpTo count kept index
       → end_slot kept trace.slots.reduce trace.slots.other ≡ None →
-      KeptUpTo count (operator_after kept trace.slots.reduce) next
-  one_more count kept index next trace below is it so_far none ran =
-      let from_zero : index ≡ 0 + index = omega arith in
-      let one : suc index ≡ next = omega (arith, is) in
-      let here : slice_index_or (Iterations ran) index [] ≡ actions_at element it.iterated.accesses =
-      ran.at index index below from_zero it.iterated it.ended element in
-      let split : joined (take next (Iterations ran)) ≡ joined (take index (Iterations ran))
-      ++ actions_at element it.iterated.accesses =
-      ap (λ (n : ℕ). joined (take n (Iterations ran))) (sym one) ∙ joined-take (Iterations ran) index
-      ∙ ap (λ (xs : List Action). joined (take index (Iterations ran)) ++ xs) here in
-      subst (IsKept (operator_after kept trace.slots.reduce)) (sym split)
-      (kept_on kept trace.slots.reduce trace.slots.other (joined (take index (Iterations ran)))
-      (actions_at element it.iterated.accesses) (so_far ran) none
-      (alike_here index it.iterated.accesses trace.slots.reduce trace.slots.other it.slots.other))
+      KeptUpTo count (operator_after kept trace.slots.reduce) (index + 1)
+  one_traced count kept index trace below it so_far none =
+      let parts = goes_on kept trace.slots.reduce trace.slots.other none in
+      rw add-one (one_more count kept (operator_after kept trace.slots.reduce) index below it.iterated it.ended
+      (λ earlier is.
+      kept_more kept trace.slots.reduce earlier (actions_at element it.iterated.accesses) parts.0 is
+      (rw parts.1 at it.slots.other)) so_far)
 
   -- iterations that go on with it
-  one_quiet : (count : ℕ) (kept : Option Op) (index next : ℕ) → index < count → next ≡ index + 1 → (it : Iterated)
-      → Iterate index ≡ Ended it → GoOn kept (actions_at element it.accesses) → KeptUpTo count kept index →
-      KeptUpTo count kept next
-  one_quiet count kept index next below is it told on so_far ran =
-      let from_zero : index ≡ 0 + index = omega arith in
-      let one : suc index ≡ next = omega (arith, is) in
-      let split : joined (take next (Iterations ran)) ≡ joined (take index (Iterations ran))
-      ++ actions_at element it.accesses =
-      ap (λ (n : ℕ). joined (take n (Iterations ran))) (sym one) ∙ joined-take (Iterations ran) index
-      ∙ ap (λ (xs : List Action). joined (take index (Iterations ran)) ++ xs)
-      (ran.at index index below from_zero it told element) in
-      subst (IsKept kept) (sym split)
-      (kept_quiet kept (joined (take index (Iterations ran))) (actions_at element it.accesses) (so_far ran) on)
-
   many_quiet : (count : ℕ) (kept : Option Op) (many index : ℕ) → AreQuiet program call words element kept index
       (index + many) → index + many ≤ count → KeptUpTo count kept index → KeptUpTo count kept (index + many)
   many_quiet count kept zero index quiet within so_far =
@@ -77,9 +59,11 @@ module _ (program : Program) (call : LoopCall) (words : List ℕ) (element : ℕ
       subst (KeptUpTo count kept) here so_far
   many_quiet count kept (suc many) index quiet within so_far =
       let last = quiet (index + many) (omega arith) (omega arith) in
-      one_quiet count kept (index + many) (index + suc many) (omega (arith, within)) (omega arith) last.0 last.1 last.2
+      let one : suc (index + many) ≡ index + suc many = omega arith in
+      subst (KeptUpTo count kept) one (one_more count kept kept (index + many) (omega (arith, within)) last.0 last.1
+      (λ earlier is. kept_quiet kept earlier (actions_at element last.0.accesses) is last.2)
       (many_quiet count kept many index (λ k low high. quiet k low (omega (arith, high))) (omega (arith, within))
-      so_far)
+      so_far))
 
   pub all_quiet : (count : ℕ) (kept : Option Op) (index past next : ℕ) → index ≤ next → next ≤ past → next ≤ count
       → AreQuiet program call words element kept index past → KeptUpTo count kept index → KeptUpTo count kept next
@@ -88,21 +72,6 @@ module _ (program : Program) (call : LoopCall) (words : List ℕ) (element : ℕ
       subst (KeptUpTo count kept) many
       (many_quiet count kept (next - index) index (λ k from upto. quiet k from (omega (arith, upto, many, high)))
       (omega (arith, many, within)) so_far)
-
-  -- the iteration's first access that isn't alike
-  at_other : (index : ℕ) (accesses : List Access) (slot : ℕ) (first : Option FirstReduce) (other : Option ℕ)
-      → OtherIs program call index words element accesses first other → other ≡ Some slot
-      → OtherAccessAt program call index words element first slot
-  at_other index accesses slot first None was is = absurd cc
-  at_other index accesses slot first (Some at) was is =
-      let same : at ≡ slot = cc in
-      subst (OtherAccessAt program call index words element first) same was
-
-  -- the first one's operator is the one that is kept
-  abbrev Fits : Option Op → Option FirstReduce → Type 0
-  Fits None first = Unit {0}
-  Fits (Some op) None = Unit {0}
-  Fits (Some op) (Some first) = op ≡ first.op
 
   module _ {count : ℕ} (ran : AllRan Iterate 0 count) where
     -- an access that is off, after actions that are kept
@@ -124,25 +93,10 @@ module _ (program : Program) (call : LoopCall) (words : List ℕ) (element : ℕ
         → IsKept kept (joined (take index (Iterations ran)))
         → OtherAccessAt program call index words element first slot →
         EndsReduction program call words element (Iterations ran) (record { index = index; slot = slot })
-    by_other None index slot below None fits is o =
-        ends None index slot below o.before o.access o.made o.here
-        (ap (λ (xs : List Action). xs ++ actions_at element o.before) is ∙ o.alike)
-        (off_first o.access.action o.other)
-    by_other None index slot below (Some first) fits is o =
-        ends (Some first.op) index slot below o.before o.access o.made o.here
-        (ap (λ (xs : List Action). only_operator (xs ++ actions_at element o.before)) is ∙ o.alike)
-        (off_alike first o.access.action o.other)
-    by_other (Some op) index slot below None fits is o =
-        ends (Some op) index slot below o.before o.access o.made o.here
-        (ap (λ (xs : List Action). only_operator (joined (take index (Iterations ran)) ++ xs)) o.alike
-        ∙ ap only_operator (append-nil (joined (take index (Iterations ran)))) ∙ is)
-        (off_none op o.access.action (off_first o.access.action o.other))
-    by_other (Some op) index slot below (Some first) same is o =
-        ends (Some op) index slot below o.before o.access o.made o.here
-        (by_more op (joined (take index (Iterations ran))) (actions_at element o.before) is
-        (o.alike ∙ ap Some (sym same)))
-        (subst (λ (x : Op). reduces_by x o.access.action ≡ false) (sym same)
-        (off_alike first o.access.action o.other))
+    by_other kept index slot below first fits is o =
+        ends (operator_after kept first) index slot below o.before o.access o.made o.here
+        (kept_more kept first (joined (take index (Iterations ran))) (actions_at element o.before) fits is o.alike)
+        (off_more kept first o.access.action fits o.other)
 
     by_first : (op : Op) (index : ℕ) → index < count → (first : FirstReduce) → is_same op first.op ≡ false
         → IsKept (Some op) (joined (take index (Iterations ran)))
@@ -150,8 +104,7 @@ module _ (program : Program) (call : LoopCall) (words : List ℕ) (element : ℕ
         EndsReduction program call words element (Iterations ran) (record { index = index; slot = first.slot })
     by_first op index below first apart is r =
         ends (Some op) index first.slot below r.before r.access r.made r.here
-        (ap (λ (xs : List Action). only_operator (joined (take index (Iterations ran)) ++ xs)) r.alone
-        ∙ ap only_operator (append-nil (joined (take index (Iterations ran)))) ∙ is)
+        (rw (r.alone, append-nil (joined (take index (Iterations ran)))) is)
         (off_other op first.op r.access.action r.reducing apart)
 
     ended_here : (kept : Option Op) (index slot : ℕ) → index < count → (first : Option FirstReduce) (other : Option ℕ)
@@ -160,52 +113,43 @@ module _ (program : Program) (call : LoopCall) (words : List ℕ) (element : ℕ
         → OtherIs program call index words element accesses first other → end_slot kept first other ≡ Some slot →
         EndsReduction program call words element (Iterations ran) (record { index = index; slot = slot })
     ended_here None index slot below first other accesses is reduce was found =
-        by_other None index slot below first tt is (at_other index accesses slot first other was found)
+        let same : other ≡ Some slot = found in
+        by_other None index slot below first tt is (rw same at was)
     ended_here (Some op) index slot below None other accesses is reduce was found =
-        by_other (Some op) index slot below None tt is (at_other index accesses slot None other was found)
+        let same : other ≡ Some slot = found in
+        by_other (Some op) index slot below None tt is (rw same at was)
     ended_here (Some op) index slot below (Some first) other accesses is reduce was found =
-        go (is_same op first.op) refl found
-      where
-        go : (b : Bool) → is_same op first.op ≡ b → (if b then other else Some first.slot) ≡ Some slot →
-            EndsReduction program call words element (Iterations ran) (record { index = index; slot = slot })
-        go true same it =
-            by_other (Some op) index slot below (Some first) (same_op op first.op same) is
-            (at_other index accesses slot (Some first) other was it)
-        go false apart it =
-            let at : first.slot ≡ slot = cc in
-            subst (λ (n : ℕ). EndsReduction program call words element (Iterations ran)
-            (record { index = index; slot = n })) at (by_first op index below first apart is reduce)
+        elim (cases_Bool (is_same op first.op)) [
+          | inl same ↦
+              let last : other ≡ Some slot = rw same at found in
+              by_other (Some op) index slot below (Some first) (same_op op first.op same) is (rw last at was)
+          | inr apart ↦
+              let both : Some first.slot ≡ Some slot = rw apart at found in
+              let here : first.slot ≡ slot = cc in
+              rw (← here) (by_first op index below first apart is reduce)
+        ]
 
   module _ {count : ℕ} (counts : AreCounted program call words count) where
-    all_counted : AllRan Iterate 0 count
-    all_counted = all_ran Iterate 0 count (λ index low high. let below : index < count = omega (arith, high) in
-        counts.ends index below)
-
-    tells : (told : Option Place) → IsEnd program call words element (Iterations all_counted) told
-        → HasEnd program call words element told
-    tells told is = record {
-      runs = accesses_of_each all_counted.its;
-      counted = ap (λ (n : ℕ). mapped accesses_of_each (all_ended (map Iterate (range_with_len 0 n)))) (sym counts.all)
-          ∙ ap (mapped accesses_of_each) all_counted.ended;
-      end = is;
-    }
-
     -- it is in this iteration
     pub found : (kept : Option Op) (index slot : ℕ) (trace : Trace) → index < count
         → IsTraceOf program call index words element trace → KeptUpTo count kept index
         → end_slot kept trace.slots.reduce trace.slots.other ≡ Some slot →
         HasEnd program call words element (Some (record { index = index; slot = slot }))
-    found kept index slot trace below it so_far is =
-        tells (Some (record { index = index; slot = slot }))
-        (ended_here all_counted kept index slot below trace.slots.reduce trace.slots.other it.iterated.accesses
-        (so_far all_counted) it.slots.reduce it.slots.other is)
+    found kept index slot trace below it so_far is = record {
+      runs = accesses_of_each (all_counted counts).its;
+      counted = runs_counted counts;
+      end = ended_here (all_counted counts) kept index slot below trace.slots.reduce trace.slots.other
+          it.iterated.accesses (so_far (all_counted counts)) it.slots.reduce it.slots.other is;
+    }
 
     -- or in none
     pub found_none : (kept : Option Op) (index : ℕ) → count ≤ index → KeptUpTo count kept index
         → HasEnd program call words element None
     found_none kept index past so_far =
-        let long = all_counted.long element in
-        let all : take index (Iterations all_counted) ≡ Iterations all_counted =
-        take_all index (Iterations all_counted) (omega (arith, past, long)) in
-        tells None (ap (λ (its : List (List Action)). are_reduces (joined its)) (sym all)
-        ∙ kept_reduces kept (joined (take index (Iterations all_counted))) (so_far all_counted))
+        let long = (all_counted counts).long element in
+        let all = take_all index (Iterations (all_counted counts)) (omega (arith, past, long)) in
+        record {
+          runs = accesses_of_each (all_counted counts).its;
+          counted = runs_counted counts;
+          end = kept_reduces kept (joined (Iterations (all_counted counts))) (rw all at (so_far (all_counted counts)));
+        }

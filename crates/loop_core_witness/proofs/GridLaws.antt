@@ -1,9 +1,10 @@
 -- Rows of cells.
-use Rattle.std.proofs.Common.{◌≡◌, ℕ, suc, ◌+◌, ◌-◌, ◌≤◌, ◌<◌, List, [], ◌∷◌, ◌++◌, length, get_or, take, sym, ap}
-use Rattle.std.{proofs.{Common.{subst, ◌∙◌, append_assoc, arith, Bool}, Math.Seq.{take-suc}}, specs.Prelude.{cond}}
-use Rattle.std.proofs.lemmas.List.{map-append, take_all, append-nil, Elements.{filter-append}}
+use Rattle.std.proofs.Common.{◌≡◌, ℕ, ◌+◌, ◌-◌, ◌<◌, List, [], ◌∷◌, ◌++◌, length, get_or, take, refl, sym, ap}
+use Rattle.std.{proofs.{Common.{◌∙◌, add-one, append_assoc, arith, Bool}, Math.Seq.{take-suc}}, specs.Prelude.{cond}}
+use Rattle.std.proofs.lemmas.List.{map-append, append-nil, Elements.{filter-append}}
 use Rattle.std.specs.List.{AllByRecursion, filter, range_with_len}
 use Rattle.loop_core_model.proofs.PlaneLaws.{range-append}
+use Rattle.loop_core_trace.proofs.JournalLaws.{all_and_last}
 use Rattle.loop_core_witness.specs.{declared.grid.{Cell.{Cell}, Row.{Row}}, Grids.{elements_of, indices}}
 
 -- a cell more, of the next element
@@ -11,46 +12,40 @@ pub columns_last : (cells more : List Cell) (elements : List ℕ) (at : ℕ) (ce
     → elements_of cells ≡ take at elements → at < length elements → cell.element ≡ get_or elements at 0
     → elements_of more ≡ take (at + 1) elements
 columns_last cells more elements at cell is before within here =
-    let next : suc at ≡ at + 1 = omega arith in
-    ap elements_of is
-    ∙ map-append (λ (c : Cell). c.element) cells (cell ∷ [])
-    ∙ ap (λ (es : List ℕ). es ++ cell.element ∷ []) before
-    ∙ ap (λ (e : ℕ). take at elements ++ e ∷ []) here
-    ∙ sym (take-suc elements at 0 within)
-    ∙ ap (λ (n : ℕ). take n elements) next
-
--- past the last element
-pub columns_all : (cells : List Cell) (elements : List ℕ) (at : ℕ) → elements_of cells ≡ take at elements
-    → length elements ≤ at → elements_of cells ≡ elements
-columns_all cells elements at before over = before ∙ take_all at elements over
+    rw (
+      is,
+      map-append (λ (c : Cell). c.element) cells (cell ∷ []),
+      before,
+      here,
+      add-one,
+      take-suc elements at 0 within,
+    ) refl
 
 -- one more of a list of which each is so
-append_one : {X : Type 0} (P : X → Type 0) (xs : List X) (x : X) → AllByRecursion P xs → P x
-    → AllByRecursion P (xs ++ x ∷ [])
-append_one P [] x each here = (here, tt)
-append_one P (y ∷ ys) x each here = (each.0, append_one P ys x each.1 here)
-
 pub all_last : {X : Type 0} (P : X → Type 0) (xs more : List X) (x : X) → more ≡ xs ++ x ∷ [] → AllByRecursion P xs
     → P x → AllByRecursion P more
-all_last P xs more x is each here = subst (AllByRecursion P) (sym is) (append_one P xs x each here)
+all_last P xs more x is each here = rw is (all_and_last P xs x each here)
 
 -- between an index and itself are none
 pub none_between : (before : List ℕ) (from : ℕ) → before ≡ before ++ range_with_len from (from - from)
 none_between before from =
     let none : from - from ≡ 0 = omega arith in
-    sym (ap (λ (n : ℕ). before ++ range_with_len from n) none ∙ append-nil before)
+    rw (none, append-nil before) refl
 
 -- one row more, of the next index
 pub indices_last : (rows more : List Row) (row : Row) (before : List ℕ) (from count index : ℕ) → more ≡ rows ++ row ∷ []
     → indices rows ≡ before ++ range_with_len from count → row.index ≡ index → from + count ≡ index
     → indices more ≡ before ++ range_with_len from (count + 1)
 indices_last rows more row before from count index is so_far here next =
-    ap indices is
-    ∙ map-append (λ (r : Row). r.index) rows (row ∷ [])
-    ∙ ap (λ (is : List ℕ). is ++ row.index ∷ []) so_far
-    ∙ append_assoc before (range_with_len from count) (row.index ∷ [])
-    ∙ ap (λ (n : ℕ). before ++ (range_with_len from count ++ n ∷ [])) (here ∙ sym next)
-    ∙ ap (λ (is : List ℕ). before ++ is) (sym (range-append from count 1))
+    rw (
+      is,
+      map-append (λ (r : Row). r.index) rows (row ∷ []),
+      so_far,
+      here,
+      append_assoc before (range_with_len from count) (index ∷ []),
+      range-append from count 1,
+      next,
+    ) refl
 
 -- one number more, if it passes
 pub listed_more : (p : ℕ → Bool) (e : ℕ) (xs more : List ℕ) → xs ≡ filter p (range_with_len 0 e)

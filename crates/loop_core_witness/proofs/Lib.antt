@@ -3,7 +3,6 @@ pub mod Searches
 pub mod SurveyLaws
 pub mod BreakLaws
 pub mod PairLaws
-pub mod Explaining
 pub mod ReductionLaws
 pub mod EndLaws
 pub mod GridLaws

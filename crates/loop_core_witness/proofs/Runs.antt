@@ -2,8 +2,12 @@
 use Rattle.std.proofs.Common.{◌≡◌, ℕ, zero, suc, ◌+◌, ◌≤◌, ◌<◌, List, [], ◌∷◌, length, map, refl, sym, ap, ◌∙◌, arith}
 use Rattle.std.specs.{Prelude.{slice_index_or}, List.{range_with_len}}
 use Rattle.array_maps.specs.Accesses.{actions_at}
-use Rattle.bpf_step_model.specs.{Run.{BoundedResult, Ended, followed}, Iteration.{Iterated}}
+use Rattle.bpf_insn_types.specs.Program.{Program}
+use Rattle.bpf_step_model.specs.{Run.{BoundedResult, Ended, followed, mapped}, Iteration.{Iterated, iteration}}
+use Rattle.bpf_step_model.specs.State.{LoopCall}
 use Rattle.loop_core_model.specs.{Conflict.{at_element}, LeastBreak.{in_front_of, all_ended, accesses_of_each}}
+use Rattle.loop_core_model.{specs.LeastBreak.{is_break, counted_runs}, proofs.Least.{counts_to}}
+use Rattle.loop_core_witness.specs.Breaks.{AreCounted}
 
 -- a number of iterations from a first index on ended
 pub record AllRan (iterate : ℕ → BoundedResult Iterated) (first count : ℕ) : Type 0 where
@@ -50,3 +54,19 @@ all_ran iterate first (suc count) each =
     let here = each first (omega arith) (omega arith) in
     one_more iterate first count here.0 here.1
     (all_ran iterate (first + 1) count (λ index low high. each index (omega (arith, low)) (omega (arith, high))))
+
+-- the counted iterations of a loop call
+module _ {program : Program} {call : LoopCall} {words : List ℕ} {count : ℕ} (counts : AreCounted program call words
+    count) where
+  pub all_counted : AllRan (λ index. iteration program 4096 call index words) 0 count
+  all_counted = all_ran (λ index. iteration program 4096 call index words) 0 count
+      (λ index low high. counts.ends index (omega arith))
+
+  pub runs_counted : counted_runs program 4096 call words ≡ Ended (accesses_of_each all_counted.its)
+  runs_counted = rw (← counts.all) (ap (mapped accesses_of_each) all_counted.ended)
+
+  pub within : count ≤ call.n
+  within =
+      let few = (counts_to (λ index. is_break (iteration program 4096 call index words)) call.n).within in
+      let all = counts.all in
+      omega (arith, few, all)

@@ -1,6 +1,6 @@
 -- Searching iterations in order.
-use Rattle.std.proofs.Common.{◌≡◌, ℕ, ◌+◌, ◌≤◌, ◌<◌, ◌⊎◌, inl, inr, List, Option, None, sym, subst, arith, eqb}
-use Rattle.std.{specs.Prelude.{true, false}, proofs.lemmas.Bool.{cases_lt, Decides.{eqb_tells}}}
+use Rattle.std.proofs.Common.{◌≡◌, ℕ, ◌+◌, inl, inr, List, Option, None, arith}
+use Rattle.std.proofs.lemmas.Bool.{cases_eq, cases_lt}
 use Rattle.bpf_insn_types.specs.Program.{Program}
 use Rattle.bpf_step_model.specs.State.{LoopCall}
 use Rattle.loop_core_trace.specs.{declared.following.Trace.{Trace}, Traced.{IsTraceOf}}
@@ -18,34 +18,17 @@ module _ (kind : Kind) (program : Program) (call : LoopCall) (words : List ℕ) 
       → slot ≡ slot_of kind trace.slots →
       Does kind program call words element index slot
   traced index trace it slot is =
-      subst (Does kind program call words element index) (sym is)
-      (record { iterated = it.iterated; ended = it.ended; seen = at_slot kind index trace it })
-
-  -- none yet
-  pub none_yet : (from : ℕ) → NoneDoes kind program call words element from from
-  none_yet from index low high = absurd (omega (arith, low, high))
+      rw is (record { iterated = it.iterated; ended = it.ended; seen = at_slot kind index trace it })
 
   -- one more that doesn't
   pub none_more : (from past next : ℕ) → next ≡ past + 1 → NoneDoes kind program call words element from past
       → Does kind program call words element past None →
       NoneDoes kind program call words element from next
-  none_more from past next is none here index low high = go (eqb_tells index past)
-    where
-      go : ((eqb index past ≡ true) × (index ≡ past)) ⊎ ((eqb index past ≡ false) × (index ≡ past → ⊥))
-          → Does kind program call words element index None
-      go (inl same) = subst (λ (i : ℕ). Does kind program call words element i None) (sym same.1) here
-      go (inr other) = none index low (let apart = other.1 in omega (arith, high, is))
-
-  -- up to an index that is past the end
-  pub none_up_to : (from past index : ℕ) → past ≤ index → NoneDoes kind program call words element from index
-      → NoneDoes kind program call words element from past
-  none_up_to from past index over none i low high = none i low (omega (arith, over, high))
+  none_more from past next is none here index low high =
+      elim (cases_eq index past) [ inl same ↦ rw same here | inr apart ↦ none index low (omega arith) ]
 
   -- and on from there
   pub none_both : (from middle past : ℕ) → NoneDoes kind program call words element from middle
       → NoneDoes kind program call words element middle past → NoneDoes kind program call words element from past
-  none_both from middle past none rest i low high = go (cases_lt i middle)
-    where
-      go : (i < middle) ⊎ (middle ≤ i) → Does kind program call words element i None
-      go (inl h) = none i low h
-      go (inr h) = rest i h high
+  none_both from middle past none rest i low high =
+      elim (cases_lt i middle) [ inl h ↦ none i low h | inr h ↦ rest i h high ]

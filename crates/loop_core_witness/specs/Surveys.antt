@@ -1,5 +1,5 @@
 -- What the iterations of a loop did, stretch by stretch.
-use Rattle.std.specs.Prelude.{◌≡◌, ℕ, ◌<◌, Bool, false, not, ◌&&◌, ◌||◌, nat_lt, List, length, Option, Some, None}
+use Rattle.std.specs.Prelude.{◌≡◌, ℕ, ◌<◌, Bool, true, false, not, ◌&&◌, ◌||◌, nat_lt, List, length, Option, Some, None}
 use Rattle.std.specs.List.{All}
 use Rattle.array_maps.specs.declared.access.Op.{Op, TheVariants.{Add, Or, And, Xor, AddH}}
 use Rattle.bpf_insn_types.specs.Program.{Program}
@@ -27,24 +27,27 @@ lacks_tested kind (Flow planes) e = false
 abbrev pub lacks : Kind → Planes → ℕ → Bool
 lacks kind planes e = nat_lt e planes.elements && lacks_tested kind planes.tested e
 
--- an iteration reduces an element by an operator that isn't this one
-abbrev pub reduces_by_other : OperatorPlanes → Op → ℕ → Bool
-reduces_by_other planes op e =
-    ((((not (is_same op Add) && bit_of planes.add.items e)
-    || (not (is_same op Or) && bit_of planes.or.items e))
-    || (not (is_same op And) && bit_of planes.and.items e))
-    || (not (is_same op Xor) && bit_of planes.xor.items e))
-    || (not (is_same op AddH) && bit_of planes.addh.items e)
+-- an operator isn't the one that is kept; where none is, each isn't
+abbrev pub is_other : Option Op → Op → Bool
+is_other None op = true
+is_other (Some kept) op = not (is_same kept op)
 
--- iterations do nothing at an element but reduce it by this operator
-abbrev pub reduces_alone : Op → Planes → ℕ → Bool
-reduces_alone op planes e =
-    nat_lt e planes.elements && (not (bit_of planes.plain.items e) && not (reduces_by_other planes.operators op e))
+-- an iteration reduces an element by such an operator
+abbrev pub reduces_by_other : OperatorPlanes → Option Op → ℕ → Bool
+reduces_by_other planes kept e =
+    ((((is_other kept Add && bit_of planes.add.items e)
+    || (is_other kept Or && bit_of planes.or.items e))
+    || (is_other kept And && bit_of planes.and.items e))
+    || (is_other kept Xor && bit_of planes.xor.items e))
+    || (is_other kept AddH && bit_of planes.addh.items e)
+
+-- an iteration does more at an element than reduce it by the operator that is kept; where none is, it accesses it
+abbrev pub does_more : Planes → Option Op → ℕ → Bool
+does_more planes kept e = bit_of planes.plain.items e || reduces_by_other planes.operators kept e
 
 -- iterations don't end a reduction by an operator; where there was none yet, they don't access the element
 abbrev pub is_quiet : Option Op → Planes → ℕ → Bool
-is_quiet None planes e = lacks FirstWrite planes e && lacks ExposedRead planes e
-is_quiet (Some op) planes e = reduces_alone op planes e
+is_quiet kept planes e = nat_lt e planes.elements && not (does_more planes kept e)
 
 -- the iterations of a stretch, each run on these words: all of them end, none breaks, and the planes represent them
 pub record IsStretch (program : Program) (call : LoopCall) (words : List ℕ) (stretch : Stretch) : Type 0 where

@@ -1,12 +1,12 @@
 -- Which elements iterations access.
-use Rattle.std.specs.Prelude.{◌≡◌, ℕ, Bool, true, false, ◌||◌, List, [], ◌∷◌, length}
+use Rattle.std.specs.Prelude.{◌≡◌, ℕ, Bool, true, false, ◌||◌, List, [], ◌∷◌, length, None}
 use Rattle.std.specs.List.{list_any, filter, range_with_len}
 use Rattle.array_maps.specs.Accesses.{Action, Access, actions_at}
 use Rattle.bpf_insn_types.specs.Program.{Program}
 use Rattle.bpf_step_model.specs.{State.{LoopCall}, Run.{Ended}, Iteration.{Iterated}}
-use Rattle.loop_core_model.specs.{Block.{block_run}, LeastBreak.{accesses_of_each}, Planes.{bit_of}}
-use Rattle.shadow_marks.specs.declared.planes.{OperatorPlanes.{OperatorPlanes}, Planes.{Planes}}
-use Rattle.loop_core_witness.specs.declared.choosing.Span.{Span}
+use Rattle.loop_core_model.specs.{Block.{block_run}, LeastBreak.{accesses_of_each}}
+use Rattle.shadow_marks.specs.declared.planes.Planes.{Planes}
+use Rattle.loop_core_witness.specs.{declared.choosing.Span.{Span}, Surveys.{does_more}}
 
 -- there are actions
 abbrev pub is_some_action : List Action → Bool
@@ -38,16 +38,7 @@ pub record AreTouched (program : Program) (call : LoopCall) (words : List ℕ) (
   pub upper_ran : SpanRuns program call words upper upper_runs
   pub all : elements ≡ accessed_by lower_runs upper_runs (length words)
 
--- planes mark an element as reduced
-abbrev pub is_reduced : OperatorPlanes → ℕ → Bool
-is_reduced planes e = (((bit_of planes.add.items e || bit_of planes.or.items e) || bit_of planes.and.items e)
-    || bit_of planes.xor.items e) || bit_of planes.addh.items e
-
--- planes mark it as accessed, plainly or by a reduce
-abbrev pub is_marked : Planes → ℕ → Bool
-is_marked planes e = bit_of planes.plain.items e || is_reduced planes.operators e
-
 -- the elements that the planes of one of two blocks mark as accessed, rising
 abbrev pub marked_by : (lower upper : Planes) → List ℕ
-marked_by lower upper = filter (λ (element : ℕ). is_marked lower element || is_marked upper element)
+marked_by lower upper = filter (λ (element : ℕ). does_more lower None element || does_more upper None element)
     (range_with_len 0 lower.elements)

@@ -1,8 +1,8 @@
 //! Which iterations and elements are shown.
 
 ghost use Rattle.std.specs.Prelude.{◌≡◌, ◌≤◌, IfOk};
-ghost use Rattle.loop_core_witness.specs.Choosing.{span_around, lesser_of, greater_of, are_apart, first_span};
-ghost use Rattle.loop_core_witness.specs.Choosing.{second_span, lower_span, upper_span, less_than, shown_elements};
+ghost use Rattle.loop_core_witness.specs.Choosing.{span_around, lesser_of, greater_of, are_apart};
+ghost use Rattle.loop_core_witness.specs.Choosing.{lower_span, upper_span, less_than, shown_elements};
 
 use crate::focus::Focus;
 use std::alloc::{AllocError, Global};
@@ -61,12 +61,15 @@ fn are_apart(low: u32, high: u32, count: u32) -> bool
     high.saturating_sub(low) >= MOST && high < count
 }
 
-/// The first span of `count` iterations that is shown: with two of them in its middle, or around the lesser one.
-fn first_span(low: u32, high: u32, count: u32) -> Span
-    ensures is { result ≡ first_span low high count }
+/// The first span of `count` iterations that is shown: with both iterations of a focus in its middle, or around the
+/// lesser one.
+pub(crate) fn lower_span(count: u32, focus: Option<Focus>) -> Span
+    ensures is { result ≡ lower_span count focus }
     ensures rising { result.from ≤ result.past }
     ensures within { result.past ≤ count }
 {
+    let low = lesser_of(focus);
+    let high = greater_of(focus);
     if are_apart(low, high, count) {
         span_around(low, count, MOST / 2)
     } else {
@@ -75,37 +78,17 @@ fn first_span(low: u32, high: u32, count: u32) -> Span
 }
 
 /// The second one: around the greater one, or empty where the first has both.
-fn second_span(low: u32, high: u32, count: u32) -> Span
-    ensures is { result ≡ second_span low high count }
-    ensures rising { result.from ≤ result.past }
-    ensures within { result.past ≤ count }
-{
-    if are_apart(low, high, count) {
-        return span_around(high, count, MOST / 2);
-    }
-    let both = first_span(low, high, count);
-    Span {
-        from: both.past,
-        past: both.past,
-    }
-}
-
-/// The first span of `count` iterations that is shown: with both iterations of a focus, or around the lesser one.
-pub(crate) fn lower_span(count: u32, focus: Option<Focus>) -> Span
-    ensures is { result ≡ lower_span count focus }
-    ensures rising { result.from ≤ result.past }
-    ensures within { result.past ≤ count }
-{
-    first_span(lesser_of(focus), greater_of(focus), count)
-}
-
-/// The second one: around the greater one, or empty.
 pub(crate) fn upper_span(count: u32, focus: Option<Focus>) -> Span
     ensures is { result ≡ upper_span count focus }
     ensures rising { result.from ≤ result.past }
     ensures within { result.past ≤ count }
 {
-    second_span(lesser_of(focus), greater_of(focus), count)
+    let high = greater_of(focus);
+    if are_apart(lesser_of(focus), high, count) {
+        return span_around(high, count, MOST / 2);
+    }
+    let past = lower_span(count, focus).past;
+    Span { from: past, past }
 }
 
 /// How many of some elements are less than that of a focus.

@@ -19,12 +19,9 @@ use std::alloc::{AllocError, Global};
 fn operator_after(op: Option<Op>, first: Option<FirstReduce>) -> Option<Op>
     ensures { result ≡ operator_after op first }
 {
-    match op {
-        Some(kept) => Some(kept),
-        None => match first {
-            Some(reduce) => Some(reduce.op),
-            None => None,
-        },
+    match (op, first) {
+        (None, Some(reduce)) => Some(reduce.op),
+        _ => op,
     }
 }
 
@@ -32,16 +29,9 @@ fn operator_after(op: Option<Op>, first: Option<FirstReduce>) -> Option<Op>
 fn end_slot(op: Option<Op>, slots: Slots) -> Option<u32>
     ensures { result ≡ end_slot op slots.reduce slots.other }
 {
-    match op {
-        None => slots.other,
-        Some(kept) => match slots.reduce {
-            None => slots.other,
-            Some(first) => if kept == first.op {
-                slots.other
-            } else {
-                Some(first.slot)
-            },
-        },
+    match (op, slots.reduce) {
+        (Some(kept), Some(first)) if kept != first.op => Some(first.slot),
+        _ => slots.other,
     }
 }
 

@@ -57,17 +57,6 @@ fn lrpd_pair(search: &Search<'_>) -> Result<Option<Witness>, AllocError>
     Ok(Some(Witness { writer, reader }))
 }
 
-/// The least pair by a test.
-fn least_pair(search: &Search<'_>, test: Test) -> Result<Option<Witness>, AllocError>
-    requires { IsSearch search.now }
-    ensures { IfOk result (FindsPair search.now test) }
-{
-    match test {
-        Test::Flow => flow_pair(search),
-        Test::Lrpd => lrpd_pair(search),
-    }
-}
-
 /// Of the counted iterations of a loop call that main of this program made, each run on the start maps, the two that
 /// fail a test at an element, where two do: of all such pairs the one with the least reader, and of these the one with
 /// the least writer. The start maps are of the program's sizes, `broke` is what `find_break` returned for them, and the
@@ -97,5 +86,8 @@ pub fn find_pair(
         count: counted_by(program, call, start, broke),
         survey,
     };
-    least_pair(&search, test)
+    match test {
+        Test::Flow => flow_pair(&search),
+        Test::Lrpd => lrpd_pair(&search),
+    }
 }

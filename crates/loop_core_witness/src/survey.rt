@@ -1,8 +1,8 @@
 //! What the iterations of a loop did, stretch by stretch.
 
 ghost use Rattle.std.specs.Prelude.{◌≡◌, ◌/◌, ◌<◌, length};
-ghost use Rattle.shadow_marks.specs.{Standing.{EachPlane}, Ending.{LrpdHave}};
-ghost use Rattle.loop_core_witness.specs.Surveys.{lacks_kind, reduces_by_other};
+ghost use Rattle.shadow_marks.specs.{Standing.{ArePlanes, EachPlane}, Ending.{LrpdHave}};
+ghost use Rattle.loop_core_witness.specs.Surveys.{lacks_kind, is_other, reduces_by_other, does_more};
 
 use crate::kind::Kind;
 use array_maps::Op;
@@ -39,47 +39,53 @@ fn lacks_kind(kind: Kind, planes: &LrpdPlanes, e: u32) -> bool
     }
 }
 
-/// Whether an iteration reduces an element by an operator that isn't this one, as planes show.
-fn reduces_by_other(planes: &OperatorPlanes, op: Op, e: u32) -> bool
-    requires { EachPlane (λ words. e / 64 < length words) planes.now }
-    ensures { result ≡ reduces_by_other planes.now op e }
+/// Whether an operator isn't the one that is kept, if one is.
+fn is_other(kept: Option<Op>, op: Op) -> bool
+    ensures { result ≡ is_other kept op }
 {
-    op != Op::Add && is_set(&planes.add, e)
-        || op != Op::Or && is_set(&planes.or, e)
-        || op != Op::And && is_set(&planes.and, e)
-        || op != Op::Xor && is_set(&planes.xor, e)
-        || op != Op::AddH && is_set(&planes.addh, e)
+    match kept {
+        None => true,
+        Some(kept) => kept != op,
+    }
+}
+
+/// Whether an iteration reduces an element by such an operator, as planes show.
+fn reduces_by_other(planes: &OperatorPlanes, kept: Option<Op>, e: u32) -> bool
+    requires { EachPlane (λ words. e / 64 < length words) planes.now }
+    ensures { result ≡ reduces_by_other planes.now kept e }
+{
+    is_other(kept, Op::Add) && is_set(&planes.add, e)
+        || is_other(kept, Op::Or) && is_set(&planes.or, e)
+        || is_other(kept, Op::And) && is_set(&planes.and, e)
+        || is_other(kept, Op::Xor) && is_set(&planes.xor, e)
+        || is_other(kept, Op::AddH) && is_set(&planes.addh, e)
+}
+
+/// Whether an iteration does more at an element than reduce it by the operator that is kept, as planes show; where none
+/// is, whether it accesses it. Each access is plain or by an operator.
+pub(crate) fn does_more(planes: &Planes, kept: Option<Op>, e: u32) -> bool
+    requires whole { ArePlanes planes.now }
+    requires below { e < planes.now.elements }
+    ensures { result ≡ does_more planes.now kept e }
+{
+    is_set(&planes.plain, e) || reduces_by_other(&planes.operators, kept, e)
 }
 
 impl Stretch {
     ghost use Rattle.std.specs.Prelude.{◌≡◌, Option};
     ghost use Rattle.shadow_marks.specs.Standing.{ArePlanes};
-    ghost use Rattle.loop_core_witness.specs.Surveys.{lacks, reduces_alone, is_quiet};
+    ghost use Rattle.loop_core_witness.specs.Surveys.{lacks, is_quiet};
 
     /// Whether none of its iterations does what is looked for at an element, as its planes show.
     pub(crate) fn lacks(&self, kind: Kind, element: u32) -> bool
         requires { ArePlanes self.now.planes }
         ensures { result ≡ lacks kind self.now.planes element }
     {
-        if element >= self.planes.elements {
-            return false;
-        }
         match &self.planes.tested {
-            Tested::Lrpd(planes) => lacks_kind(kind, planes, element),
+            Tested::Lrpd(planes) => element < self.planes.elements
+                && lacks_kind(kind, planes, element),
             Tested::Flow(_) => false,
         }
-    }
-
-    /// Whether its iterations do nothing at an element but reduce it by an operator, as its planes show.
-    fn reduces_alone(&self, op: Op, element: u32) -> bool
-        requires { ArePlanes self.now.planes }
-        ensures { result ≡ reduces_alone op self.now.planes element }
-    {
-        if element >= self.planes.elements {
-            return false;
-        }
-        !is_set(&self.planes.plain, element)
-            && !reduces_by_other(&self.planes.operators, op, element)
     }
 
     /// Whether its iterations don't end a reduction of an element by an operator, as its planes show; if there was
@@ -88,9 +94,6 @@ impl Stretch {
         requires { ArePlanes self.now.planes }
         ensures { result ≡ is_quiet op self.now.planes element }
     {
-        match op {
-            None => self.lacks(Kind::FirstWrite, element) && self.lacks(Kind::ExposedRead, element),
-            Some(kept) => self.reduces_alone(kept, element),
-        }
+        element < self.planes.elements && !does_more(&self.planes, op, element)
     }
 }

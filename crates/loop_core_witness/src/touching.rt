@@ -1,42 +1,22 @@
 //! Which elements iterations access.
 
-ghost use Rattle.std.specs.Prelude.{◌≡◌, ◌/◌, ◌<◌, ◌≤◌, ◌||◌, if◌then◌else◌, [], ◌∷◌, ◌++◌, length, IfOk, OnOk};
+ghost use Rattle.std.specs.Prelude.{◌≡◌, ◌<◌, ◌≤◌, ◌||◌, if◌then◌else◌, [], ◌∷◌, ◌++◌, None, IfOk, OnOk};
 ghost use Rattle.bpf_verify_sound.specs.Soundness.{OverApproximatesCall};
 ghost use Rattle.loop_core_block.specs.{Ran.{RecordsRun}, Shown.{shown}};
 ghost use Rattle.loop_core_model.specs.declared.loop_test.Test.TheVariants.{Flow};
-ghost use Rattle.shadow_marks.specs.Standing.{ArePlanes, EachPlane};
-ghost use Rattle.loop_core_witness.specs.Touching.{AreTouched, is_reduced, is_marked, marked_by};
+ghost use Rattle.shadow_marks.specs.Standing.{ArePlanes};
+ghost use Rattle.loop_core_witness.specs.{Surveys.{does_more}, Touching.{AreTouched, marked_by}};
 
 use crate::choosing::Span;
+use crate::survey::does_more;
 use array_maps::Maps;
 use bpf_step::LoopCall;
 use bpf_verify::Verified;
 use loop_core_block::{Block, run_block};
 use loop_core_model::Test;
 use loop_core_split::{NoGate, Split};
-use shadow_marks::{OperatorPlanes, Planes, is_set};
+use shadow_marks::Planes;
 use std::alloc::{AllocError, Global};
-
-/// Whether planes mark an element as reduced.
-fn is_reduced(planes: &OperatorPlanes, element: u32) -> bool
-    requires { EachPlane (λ words. element / 64 < length words) planes.now }
-    ensures { result ≡ is_reduced planes.now element }
-{
-    is_set(&planes.add, element)
-        || is_set(&planes.or, element)
-        || is_set(&planes.and, element)
-        || is_set(&planes.xor, element)
-        || is_set(&planes.addh, element)
-}
-
-/// Whether planes mark an element as accessed. Each access is plain or by an operator.
-fn is_marked(planes: &Planes, element: u32) -> bool
-    requires whole { ArePlanes planes.now }
-    requires below { element < planes.now.elements }
-    ensures { result ≡ is_marked planes.now element }
-{
-    is_set(&planes.plain, element) || is_reduced(&planes.operators, element)
-}
 
 /// The split of a call's n iterations of which block 1 is a span.
 #[tactic(auto, using(crate::proofs::SpanLaws::no_fault))]
@@ -85,9 +65,9 @@ fn add_if_marked(
     requires in_lower { element < lower.now.elements }
     requires in_upper { element < upper.now.elements }
     ensures { OnOk result (elements.new.items ≡ elements.old.items
-        ++ (if is_marked lower.now element || is_marked upper.now element then element ∷ [] else [])) }
+        ++ (if does_more lower.now None element || does_more upper.now None element then element ∷ [] else [])) }
 {
-    if is_marked(lower, element) || is_marked(upper, element) {
+    if does_more(lower, None, element) || does_more(upper, None, element) {
         elements.push(element)?;
     }
     Ok(())

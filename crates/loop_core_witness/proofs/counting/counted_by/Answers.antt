@@ -1,12 +1,11 @@
-use Rattle.std.proofs.Common.{subst}
-use Rattle.loop_core_witness.{specs.Breaks.{IsBreak}, proofs.BreakLaws.{break_within, are_counted}}
+use Rattle.loop_core_witness.proofs.BreakLaws.{break_within, are_counted}
 use Rattle.loop_core_witness.proofs.counting.counted_by.Goals as goal
 
 pub up_to_break-requires : goal.up_to_break-requires
 up_to_break-requires c = record {
   within = λ place same.
       break_within c.args.program.now c.args.call.now c.args.start.now.words place
-      (subst (IsBreak c.args.program.now c.args.call.now c.args.start.now.words) same c.requires.broke);
+      (rw same at c.requires.broke);
 }
 
 pub returns : goal.returns

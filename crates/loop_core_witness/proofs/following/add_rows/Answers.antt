@@ -27,10 +27,7 @@ loop-index-preserved c =
 pub returns : goal.returns
 returns c =
     let from = c.args.span.from in
-    let rising = c.requires.rising in
-    let past = c.loop-index-test.false in
-    let end = c.loop-index.auto.index-end in
-    let all : c.loop-index.index - from ≡ c.args.span.past - from = omega (arith, rising, past, end) in
+    let all : c.loop-index.index - from ≡ c.args.span.past - from = omega arith in
     record {
       rows = c.loop-index.invariant.rows;
       iterations = c.loop-index.invariant.iterations

@@ -1,20 +1,17 @@
-use Rattle.std.proofs.Common.{◌≤◌, ◌<◌, length, get_or, refl, subst, ◌∙◌, arith}
-use Rattle.array_maps.specs.MapList.{MapList}
+use Rattle.std.proofs.Common.{◌≤◌, ◌<◌, length, get_or, refl, ◌∙◌, arith}
+use Rattle.std.proofs.lemmas.List.{take_all}
 use Rattle.loop_core_trace.specs.Traced.{IsTraceOf}
 use Rattle.loop_core_witness.specs.{declared.grid.Cell.{Cell}, Grids.{IsCell}}
-use Rattle.loop_core_witness.proofs.GridLaws.{columns_last, columns_all, all_last}
+use Rattle.loop_core_witness.proofs.GridLaws.{columns_last, all_last}
 use Rattle.loop_core_witness.proofs.following.row_of.Goals as goal
 
 pub loop-at-preserved : goal.loop-at-preserved
 loop-at-preserved c =
     let element = get_or c.args.elements.now c.loop-at.at 0 in
     let told : IsTraceOf c.args.program.now c.args.call.now c.args.index c.args.start.now.words element
-    c.in_ok-trace.trace = subst (λ (maps : MapList). IsTraceOf c.args.program.now c.args.call.now c.args.index
-    maps.words
-    element c.in_ok-trace.trace) c.loop-at.invariant.same c.in_ok-trace.ensures.traced in
+    c.in_ok-trace.trace = rw c.loop-at.invariant.same at c.in_ok-trace.ensures.traced in
     let cell : Cell = record { element = element; slots = c.in_ok-trace.trace.slots } in
-    let more = c.loop-at-test.true in
-    let within : c.loop-at.at < length c.args.elements.now = omega (arith, more) in
+    let within : c.loop-at.at < length c.args.elements.now = omega arith in
     record {
       same = c.in_ok-trace.ensures.same ∙ c.loop-at.invariant.same;
       columns = columns_last c.loop-at.cells.items c.push.new.self.items c.args.elements.now c.loop-at.at cell
@@ -26,9 +23,8 @@ loop-at-preserved c =
 
 pub returns-clause-cells : goal.returns-clause-cells
 returns-clause-cells c =
-    let past = c.loop-at-test.false in
-    let over : length c.args.elements.now ≤ c.loop-at.at = omega (arith, past) in
+    let over : length c.args.elements.now ≤ c.loop-at.at = omega arith in
     record {
-      columns = columns_all c.loop-at.cells.items c.args.elements.now c.loop-at.at c.loop-at.invariant.columns over;
+      columns = c.loop-at.invariant.columns ∙ take_all c.loop-at.at c.args.elements.now over;
       cells = c.loop-at.invariant.cells;
     }

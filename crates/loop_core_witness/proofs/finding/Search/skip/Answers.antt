@@ -5,9 +5,8 @@ use Rattle.loop_core_witness.proofs.finding.Search.skip.Goals as goal
 pub returns-in-Some : goal.returns-in-Some
 returns-in-Some c =
     let search = c.args.self.now in
-    let past = c.in-Some.ensures.past in
     record {
-      on = omega (arith, past);
+      on = omega (arith, c.in-Some.ensures.past);
       none = lacks_none search.program.now search.call.now search.start.now.words search.element c.in-Some.stretch.now
           c.in-Some.ensures.is c.args.kind (sym c.lacks.ensures ∙ c.if-lacks.true) c.args.index
           c.in-Some.ensures.first;

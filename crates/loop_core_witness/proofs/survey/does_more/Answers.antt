@@ -1,18 +1,18 @@
 use Rattle.std.proofs.Common.{ℕ, ◌/◌, ◌<◌, List, length, sym, subst}
 use Rattle.array_maps.specs.declared.access.Op.TheVariants.{Add, Or, And, Xor, AddH}
-use Rattle.loop_core_witness.proofs.TouchLaws.{word_there}
-use Rattle.loop_core_witness.proofs.touching.is_marked.Goals as goal
+use Rattle.loop_core_witness.proofs.SurveyLaws.{word_there}
+use Rattle.loop_core_witness.proofs.survey.does_more.Goals as goal
 
 pub is_set-requires : goal.is_set-requires
 is_set-requires c =
     let planes = c.args.planes.now in
-    subst (λ (words : List ℕ). c.args.element / 64 < length words) (sym c.deref.ensures.value)
-    (word_there planes.elements c.args.element planes.plain.items c.requires.whole.plain c.requires.below)
+    subst (λ (words : List ℕ). c.args.e / 64 < length words) (sym c.deref.ensures.value)
+    (word_there planes.elements c.args.e planes.plain.items c.requires.whole.plain c.requires.below)
 
-pub is_reduced-requires : goal.is_reduced-requires
-is_reduced-requires c =
+pub reduces_by_other-requires : goal.reduces_by_other-requires
+reduces_by_other-requires c =
     let planes = c.args.planes.now in
-    let e = c.args.element in
+    let e = c.args.e in
     let by = c.requires.whole.by in
     let below = c.requires.below in
     record {
