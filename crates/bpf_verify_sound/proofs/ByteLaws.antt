@@ -13,19 +13,14 @@ abbrev pub IsNumberOf : ℕ → Option ℕ → Type 0
 IsNumberOf size None = ⊥
 IsNumberOf size (Some n) = n < 256 ^ size
 
-take-written : (marks : List Bool) (bytes : Bytes) (k : ℕ) → AreWritten marks bytes
-    → AreWritten (take k marks) (take k bytes)
-take-written marks bytes zero c = tt
-take-written [] bytes (suc k) c = tt
-take-written (x ∷ marks) [] (suc k) c = absurd c
-take-written (x ∷ marks) (b ∷ bytes) (suc k) c = (c.0, take-written marks bytes k c.1)
-
-drop-written : (marks : List Bool) (bytes : Bytes) (k : ℕ) → AreWritten marks bytes
-    → AreWritten (drop k marks) (drop k bytes)
-drop-written marks bytes zero c = c
-drop-written [] bytes (suc k) c = tt
-drop-written (x ∷ marks) [] (suc k) c = absurd c
-drop-written (x ∷ marks) (b ∷ bytes) (suc k) c = drop-written marks bytes k c.1
+split-written : (marks : List Bool) (bytes : Bytes) (k : ℕ) → AreWritten marks bytes
+    → AreWritten (take k marks) (take k bytes) × AreWritten (drop k marks) (drop k bytes)
+split-written marks bytes zero c = (tt, c)
+split-written [] bytes (suc k) c = (tt, tt)
+split-written (x ∷ marks) [] (suc k) c = absurd c
+split-written (x ∷ marks) (b ∷ bytes) (suc k) c =
+    let rest = split-written marks bytes k c.1 in
+    ((c.0, rest.0), rest.1)
 
 append-written : (xs ys : List Bool) (bs cs : Bytes) → length xs ≡ length bs → AreWritten xs bs → AreWritten ys cs
     → AreWritten (xs ++ ys) (bs ++ cs)
@@ -58,16 +53,6 @@ length-range xs p size h =
     let some : p + size - p ≤ length (drop p xs) = omega (arith, length-drop p xs) in
     length-take-le (p + size - p) (drop p xs) some ∙ omega arith
 
--- so are n from a position on
-pub number-known : (marks : List Bool) (bytes : Bytes) (p size : ℕ) → AreWritten marks bytes → p + size ≤ length marks
-    → p + size ≤ length bytes →
-    all_written marks p size ≡ true → IsNumberOf size (number_at bytes p size)
-number-known marks bytes p size c h k all =
-    subst (λ (n : ℕ). IsNumberOf n (number_at bytes p size)) (length-range bytes p size k)
-    (number-of-written (slice_range marks p (p + size)) (slice_range bytes p (p + size)) (length-range marks p size h
-    ∙ sym (length-range bytes p size k))
-    (take-written (drop p marks) (drop p bytes) (p + size - p) (drop-written marks bytes p c)) all)
-
 -- written bytes are written, whatever is known
 pub byte-below : (i n : ℕ) → byte_at i n < 256
 byte-below zero n = omega arith
@@ -90,32 +75,7 @@ pub length-low : (i size n : ℕ) → length (map Some (bytes_low_first i size n
 length-low i zero n = refl
 length-low i (suc size) n = ap suc (length-low (suc i) size n)
 
--- some bytes written from a position on
-middle-written : (marks middle : List Bool) (bytes : Bytes) (p size n : ℕ) → AreWritten marks bytes
-    → length middle ≡ size → p + size ≤ length marks → p + size ≤ length bytes →
-    AreWritten (take p marks ++ middle ++ drop (p + size) marks) (written_at bytes p size n)
-middle-written marks middle bytes p size n c same h k =
-    let first : length (take p marks) ≡ length (take p bytes) = omega (
-      arith,
-      length-take-le p marks (omega arith),
-      length-take-le p bytes (omega arith),
-    ) in
-    let low : length middle ≡ length (map Some (bytes_low_first 0 size n)) = same ∙ sym (length-low 0 size n) in
-    append-written (take p marks ++ middle) (drop (p + size) marks) (take p bytes
-    ++ map Some (bytes_low_first 0 size n)) (drop (p + size) bytes)
-    (simp length-append (omega (arith, first, low)))
-    (append-written (take p marks) middle (take p bytes) (map Some (bytes_low_first 0 size n)) first
-    (take-written marks bytes p c) (low-written middle 0 size n (omega arith)))
-    (drop-written marks bytes (p + size) c)
-
--- a write that is known
-pub write-known : (marks : List Bool) (bytes : Bytes) (p size n : ℕ) → AreWritten marks bytes → p + size ≤ length marks
-    → p + size ≤ length bytes →
-    AreWritten (written_from marks p size) (written_at bytes p size n)
-write-known marks bytes p size n c h k = middle-written marks (replicate size true) bytes p size n c
-    (length-replicate size true) h k
-
--- and one that isn't
+-- take p, size more and the rest
 parts : (marks : List Bool) (p size : ℕ) → p + size ≤ length marks → take p marks ++ slice_range marks p (p + size)
     ++ drop (p + size) marks ≡ marks
 parts marks p size h =
@@ -123,9 +83,36 @@ parts marks p size h =
     ∙ ap (λ (l : List Bool). take p marks ++ l) (sym (drop_split marks p (p + size) (omega arith)))
     ∙ take-append-drop p marks
 
-pub write-unknown : (marks : List Bool) (bytes : Bytes) (p size n : ℕ) → AreWritten marks bytes
-    → p + size ≤ length marks → p + size ≤ length bytes →
-    AreWritten marks (written_at bytes p size n)
-write-unknown marks bytes p size n c h k =
-    subst (λ (l : List Bool). AreWritten l (written_at bytes p size n)) (parts marks p size h)
-    (middle-written marks (slice_range marks p (p + size)) bytes p size n c (length-range marks p size h) h k)
+module _ (marks : List Bool) (bytes : Bytes) (p size : ℕ) (c : AreWritten marks bytes) (h : p + size ≤ length marks)
+    (k : p + size ≤ length bytes) where
+  -- bytes from a position on that are all written are a number
+  pub number-known : all_written marks p size ≡ true → IsNumberOf size (number_at bytes p size)
+  number-known all =
+      subst (λ (n : ℕ). IsNumberOf n (number_at bytes p size)) (length-range bytes p size k)
+      (number-of-written (slice_range marks p (p + size)) (slice_range bytes p (p + size)) (length-range marks p size h
+      ∙ sym (length-range bytes p size k))
+      (split-written (drop p marks) (drop p bytes) (p + size - p) (split-written marks bytes p c).1).0 all)
+
+  -- some bytes written from a position on
+  middle-written : (middle : List Bool) (n : ℕ) → length middle ≡ size
+      → AreWritten (take p marks ++ middle ++ drop (p + size) marks) (written_at bytes p size n)
+  middle-written middle n same =
+      let first : length (take p marks) ≡ length (take p bytes) = omega (
+        arith,
+        length-take-le p marks (omega arith),
+        length-take-le p bytes (omega arith),
+      ) in
+      let low : length middle ≡ length (map Some (bytes_low_first 0 size n)) = same ∙ sym (length-low 0 size n) in
+      append-written (take p marks ++ middle) (drop (p + size) marks) (take p bytes
+      ++ map Some (bytes_low_first 0 size n)) (drop (p + size) bytes) (simp length-append (omega (arith, first, low)))
+      (append-written (take p marks) middle (take p bytes) (map Some (bytes_low_first 0 size n)) first
+      (split-written marks bytes p c).0 (low-written middle 0 size n (omega arith)))
+      (split-written marks bytes (p + size) c).1
+
+  -- a write that is known, and one that isn't
+  pub write-known : (n : ℕ) → AreWritten (written_from marks p size) (written_at bytes p size n)
+  write-known n = middle-written (replicate size true) n (length-replicate size true)
+
+  pub write-unknown : (n : ℕ) → AreWritten marks (written_at bytes p size n)
+  write-unknown n = subst (λ (l : List Bool). AreWritten l (written_at bytes p size n)) (parts marks p size h)
+      (middle-written (slice_range marks p (p + size)) n (length-range marks p size h))

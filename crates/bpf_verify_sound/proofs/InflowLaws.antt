@@ -1,12 +1,12 @@
 -- What flows to a slot is known before it.
 use Rattle.std.proofs.Common.{◌≡◌, ℕ, zero, suc, ◌<◌, inl, inr, Bool, true, false, Option, Some, None, refl, subst}
-use Rattle.std.{proofs.{Common.{arith}, lemmas.Bool.Decides.{nat_tests}}, specs.Prelude.{◌==◌, nat_eq, if◌then◌else◌}}
+use Rattle.std.{proofs.{Common.{arith}, lemmas.Bool.Decides.{nat_tests}}, specs.Prelude.{◌==◌}}
 use Rattle.bpf_insn_types.specs.Program.{Program, insn_at}
 use Rattle.bpf_verify_model.specs.declared.{state.State.{State}, outflow.{Edge.{Edge}, Outflow.{Outflow}}}
 use Rattle.bpf_verify_model.specs.Inflow.{flow_from, joined_with, received, received_all, incoming, state_before}
 use Rattle.bpf_step_model.specs.State.{Machine}
 use Rattle.bpf_verify_sound.specs.{Containment.{Contained, ContainedIf}, Ways.{EdgeLeadsTo, FlowsTo}}
-use Rattle.bpf_verify_sound.proofs.JoinLaws.{states-first, states-second}
+use Rattle.bpf_verify_sound.proofs.{JoinLaws.{states-first, states-second}, Tests.{if-either}}
 
 joined_with-first : (before : Option State) (state : State) (m : Machine) → ContainedIf before m
     → ContainedIf (joined_with before state) m
@@ -22,24 +22,17 @@ joined_with-second (Some known) state m c = states-second known state m c
 received-keeps : (slot : ℕ) (before : Option State) (edge : Option Edge) (m : Machine) → ContainedIf before m
     → ContainedIf (received slot before edge) m
 received-keeps slot before None m c = c
-received-keeps slot before (Some edge) m c = by_test (edge.target == slot)
-  where
-    by_test : (test : Bool) → ContainedIf (if test then joined_with before edge.state else before) m
-    by_test true = joined_with-first before edge.state m c
-    by_test false = c
+received-keeps slot before (Some edge) m c = if-either (λ (o : Option State). ContainedIf o m) (edge.target == slot)
+    (λ e. joined_with-first before edge.state m c) (λ e. c)
 
 -- and a way that leads to the machine makes it known
 received-brings : (before : Option State) (edge : Option Edge) (m : Machine) → EdgeLeadsTo edge m
     → ContainedIf (received m.slot before edge) m
 received-brings before None m leads = absurd leads
-received-brings before (Some edge) m leads = by_test (edge.target == m.slot) refl
-  where
-    by_test : (test : Bool) → (edge.target == m.slot) ≡ test →
-        ContainedIf (if test then joined_with before edge.state else before) m
-    by_test true e = joined_with-second before edge.state m leads.1
-    by_test false e =
-        let here : edge.target ≡ m.slot = leads.0 in
-        absurd (grind (arith, nat_tests))
+received-brings before (Some edge) m leads =
+    let here : edge.target ≡ m.slot = leads.0 in
+    let test : (edge.target == m.slot) ≡ true = grind (arith, nat_tests) in
+    rw test (joined_with-second before edge.state m leads.1)
 
 received_all-keeps : (slot : ℕ) (before : Option State) (out : Outflow) (m : Machine) → ContainedIf before m
     → ContainedIf (received_all slot before out) m
@@ -58,27 +51,22 @@ incoming-brings : (program : Program) (count from : ℕ) (m : Machine) → from 
     → ContainedIf (incoming program count m.slot) m
 unfolding incoming
 incoming-brings program zero from m h flows = absurd (omega arith)
-incoming-brings program (suc count) from m h flows = by_place program count from m h flows (nat_eq from count) refl
+incoming-brings program (suc count) from m h flows = by_place (from == count) refl
     (incoming-brings program count from m)
   where
-    by_place : (program : Program) (count from : ℕ) (m : Machine) → from < suc count →
-        FlowsTo (flow_from program from (insn_at program.insns from) (state_before program from)) m → (b : Bool)
-        → nat_eq from count ≡ b →
-        (from < count → FlowsTo (flow_from program from (insn_at program.insns from) (state_before program from)) m
-        → ContainedIf (incoming program count m.slot) m) →
-        ContainedIf (received_all m.slot (incoming program count m.slot)
-        (flow_from program count (insn_at program.insns count) (incoming program count count))) m
-    by_place program count from m h flows true e go =
+    out : ℕ → Outflow
+    out slot = flow_from program slot (insn_at program.insns slot) (state_before program slot)
+
+    by_place : (last : Bool) → (from == count) ≡ last
+        → (from < count → FlowsTo (out from) m → ContainedIf (incoming program count m.slot) m)
+        → ContainedIf (received_all m.slot (incoming program count m.slot) (out count)) m
+    by_place true e go =
         let last : from ≡ count = grind (arith, nat_tests) in
-        received_all-brings (incoming program count m.slot) (flow_from program count (insn_at program.insns count)
-        (state_before program count)) m
-        (subst (λ (slot : ℕ). FlowsTo (flow_from program slot (insn_at program.insns slot) (state_before program slot))
-        m) last flows)
-    by_place program count from m h flows false e go =
+        received_all-brings (incoming program count m.slot) (out count) m
+        (subst (λ (slot : ℕ). FlowsTo (out slot) m) last flows)
+    by_place false e go =
         let earlier : from < count = grind (arith, nat_tests) in
-        received_all-keeps m.slot (incoming program count m.slot) (flow_from program count (insn_at program.insns count)
-        (incoming program count count)) m
-        (go earlier flows)
+        received_all-keeps m.slot (incoming program count m.slot) (out count) m (go earlier flows)
 
 -- so what flows from a slot to a machine at a later one is known before it
 pub state_before-brings : (program : Program) (from : ℕ) (m : Machine) → from < m.slot →

@@ -1,5 +1,6 @@
 -- The join of two abstract states contains a machine that one of them contains.
-use Rattle.std.proofs.Common.{◌≡◌, ℕ, Bool, true, false, ◌&&◌, List, [], ◌∷◌, Option, Some, None, refl, subst, arith}
+use Rattle.bpf_verify_sound.proofs.Tests.{if-either}
+use Rattle.std.proofs.Common.{◌≡◌, ℕ, Bool, true, false, ◌&&◌, List, [], ◌∷◌, Option, Some, None, subst, arith}
 use Rattle.std.{specs.Prelude.{◌==◌, if◌then◌else◌}, proofs.lemmas.Bool.Decides.{nat_tests}}
 use Rattle.value_range.{specs.Spans.{Span, Contains, join}, proofs.SpanLaws.{join-first, join-second}}
 use Rattle.bpf_verify_model.specs.{Written.{joined_written}, declared.abstract_value.AbstractValue.{AbstractValue}}
@@ -9,12 +10,6 @@ use Rattle.bpf_verify_model.specs.declared.abstract_value.AbstractValue.TheVaria
 use Rattle.bpf_step_model.specs.State.{Value, Word, Area, Bytes, Machine}
 use Rattle.bpf_verify_sound.specs.Containment.{ContainsValue, ContainEach, IsWritten, AreWritten, AreWrittenByCaller}
 use Rattle.bpf_verify_sound.specs.Containment.{Contained}
-
--- what is kept only where a test holds
-if_kept : (test : Bool) (x : AbstractValue) (v : Value) → (test ≡ true → ContainsValue x v)
-    → ContainsValue (if test then x else known.Unwritten) v
-if_kept true x v kept = kept refl
-if_kept false x v kept = tt
 
 -- a wider range
 number-wider : (a b : Span) (v : Value) → ((n : ℕ) → Contains a n → Contains b n) → ContainsValue (known.Number a) v
@@ -33,123 +28,94 @@ null-wider m a b (Area n o) wider c = (c.0, wider o c.1)
 null-wider m a b v wider c = c
 
 -- an address may be one that may be null
-pub area-null : (m : ℕ) (a : Span) (v : Value) → ContainsValue (known.Area m a) v → ContainsValue (known.AreaOrNull m a)
-    v
+area-null : (m : ℕ) (a : Span) (v : Value) → ContainsValue (known.Area m a) v → ContainsValue (known.AreaOrNull m a) v
 area-null m a (Word n) c = absurd c
 area-null m a v c = c
 
-same : (m n : ℕ) → (m == n) ≡ true → n ≡ m
-same m n e = grind (arith, nat_tests)
+-- what is kept only where two numbers are the same, the other one on the right and on the left
+both-kept : (m n : ℕ) (right left : ℕ → AbstractValue) (v : Value) → ContainsValue (right m) v
+    → ContainsValue (left m) v
+    → ContainsValue (if m == n then right m else known.Unwritten) v
+    × ContainsValue (if n == m then left n else known.Unwritten) v
+both-kept m n right left v c d = (
+  if-either (λ (x : AbstractValue). ContainsValue x v) (m == n) (λ e. c) (λ e. tt),
+  if-either (λ (x : AbstractValue). ContainsValue x v) (n == m) (λ e.
+      let same : m ≡ n = grind (arith, nat_tests) in
+      subst (λ (k : ℕ). ContainsValue (left k) v) same d) (λ e. tt),
+)
 
--- of a value's two
-pub joined-first : (x y : AbstractValue) (v : Value) → ContainsValue x v → ContainsValue (joined_values x y) v
-joined-first (known.Number a) (known.Number b) v c = number-wider a (join a b) v (join-first a b) c
-joined-first (known.Frame p) (known.Frame q) v c = if_kept (p == q) (known.Frame p) v (λ e. c)
-joined-first (known.Ctx p) (known.Ctx q) v c = if_kept (p == q) (known.Ctx p) v (λ e. c)
-joined-first (known.Map m) (known.Map n) v c = if_kept (m == n) (known.Map m) v (λ e. c)
-joined-first (known.Area m a) (known.Area n b) v c =
-    if_kept (m == n) (known.Area m (join a b)) v (λ e. area-wider m a (join a b) v (join-first a b) c)
-joined-first (known.Area m a) (known.AreaOrNull n b) v c =
-    if_kept (m == n) (known.AreaOrNull m (join a b)) v (λ e. null-wider m a (join a b) v (join-first a b)
-    (area-null m a v c))
-joined-first (known.AreaOrNull m a) (known.Area n b) v c = if_kept (m == n) (known.AreaOrNull m (join a b)) v
-    (λ e. null-wider m a (join a b) v (join-first a b) c)
-joined-first (known.AreaOrNull m a) (known.AreaOrNull n b) v c = if_kept (m == n) (known.AreaOrNull m (join a b)) v
-    (λ e. null-wider m a (join a b) v (join-first a b) c)
-joined-first (known.Code s) (known.Code t) v c = if_kept (s == t) (known.Code s) v (λ e. c)
-joined-first _ _ v c = tt
+module _ (v : Value) where
+  either-area : (m n : ℕ) (a b : Span) → ContainsValue (known.AreaOrNull m a) v
+      → ContainsValue (if m == n then known.AreaOrNull m (join a b) else known.Unwritten) v
+      × ContainsValue (if n == m then known.AreaOrNull n (join b a) else known.Unwritten) v
+  either-area m n a b c = both-kept m n (λ k. known.AreaOrNull k (join a b)) (λ k. known.AreaOrNull k (join b a)) v
+      (null-wider m a (join a b) v (join-first a b) c) (null-wider m a (join b a) v (join-second b a) c)
 
-pub joined-second : (x y : AbstractValue) (v : Value) → ContainsValue y v → ContainsValue (joined_values x y) v
-joined-second (known.Number a) (known.Number b) v c = number-wider b (join a b) v (join-second a b) c
-joined-second (known.Frame p) (known.Frame q) v c =
-    if_kept (p == q) (known.Frame p) v (λ e. subst (λ (r : ℕ). ContainsValue (known.Frame r) v) (same p q e) c)
-joined-second (known.Ctx p) (known.Ctx q) v c =
-    if_kept (p == q) (known.Ctx p) v (λ e. subst (λ (r : ℕ). ContainsValue (known.Ctx r) v) (same p q e) c)
-joined-second (known.Map m) (known.Map n) v c =
-    if_kept (m == n) (known.Map m) v (λ e. subst (λ (r : ℕ). ContainsValue (known.Map r) v) (same m n e) c)
-joined-second (known.Area m a) (known.Area n b) v c =
-    if_kept (m == n) (known.Area m (join a b)) v (λ e. subst (λ (r : ℕ). ContainsValue (known.Area r (join a b)) v)
-    (same m n e) (area-wider n b (join a b) v (join-second a b) c))
-joined-second (known.Area m a) (known.AreaOrNull n b) v c =
-    if_kept (m == n) (known.AreaOrNull m (join a b)) v
-    (λ e. subst (λ (r : ℕ). ContainsValue (known.AreaOrNull r (join a b)) v) (same m n e)
-    (null-wider n b (join a b) v (join-second a b) c))
-joined-second (known.AreaOrNull m a) (known.Area n b) v c =
-    if_kept (m == n) (known.AreaOrNull m (join a b)) v
-    (λ e. subst (λ (r : ℕ). ContainsValue (known.AreaOrNull r (join a b)) v) (same m n e)
-    (null-wider n b (join a b) v (join-second a b) (area-null n b v c)))
-joined-second (known.AreaOrNull m a) (known.AreaOrNull n b) v c =
-    if_kept (m == n) (known.AreaOrNull m (join a b)) v
-    (λ e. subst (λ (r : ℕ). ContainsValue (known.AreaOrNull r (join a b)) v) (same m n e)
-    (null-wider n b (join a b) v (join-second a b) c))
-joined-second (known.Code s) (known.Code t) v c =
-    if_kept (s == t) (known.Code s) v (λ e. subst (λ (r : ℕ). ContainsValue (known.Code r) v) (same s t e) c)
-joined-second _ _ v c = tt
+  -- of a value's two, on the left and on the right
+  either-value : (x y : AbstractValue) → ContainsValue x v
+      → ContainsValue (joined_values x y) v × ContainsValue (joined_values y x) v
+  either-value known.Unwritten known.Unwritten c = (tt, tt)
+  either-value (known.Number a) (known.Number b) c =
+      (number-wider a (join a b) v (join-first a b) c, number-wider a (join b a) v (join-second b a) c)
+  either-value (known.Frame p) (known.Frame q) c = both-kept p q known.Frame known.Frame v c c
+  either-value (known.Ctx p) (known.Ctx q) c = both-kept p q known.Ctx known.Ctx v c c
+  either-value (known.Map m) (known.Map n) c = both-kept m n known.Map known.Map v c c
+  either-value (known.Code s) (known.Code t) c = both-kept s t known.Code known.Code v c c
+  either-value (known.Area m a) (known.Area n b) c =
+      both-kept m n (λ k. known.Area k (join a b)) (λ k. known.Area k (join b a)) v
+      (area-wider m a (join a b) v (join-first a b) c) (area-wider m a (join b a) v (join-second b a) c)
+  either-value (known.Area m a) (known.AreaOrNull n b) c = either-area m n a b (area-null m a v c)
+  either-value (known.AreaOrNull m a) (known.Area n b) c = either-area m n a b c
+  either-value (known.AreaOrNull m a) (known.AreaOrNull n b) c = either-area m n a b c
+  either-value _ _ c = (tt, tt)
 
 -- of each register
-registers-first : (xs ys : List AbstractValue) (vs : List Value) → ContainEach xs vs
-    → ContainEach (joined_registers xs ys) vs
-registers-first [] ys vs c = tt
-registers-first (x ∷ xs) [] vs c = tt
-registers-first (x ∷ xs) (y ∷ ys) [] c = c
-registers-first (x ∷ xs) (y ∷ ys) (v ∷ vs) c = (joined-first x y v c.0, registers-first xs ys vs c.1)
-
-registers-second : (xs ys : List AbstractValue) (vs : List Value) → ContainEach ys vs
-    → ContainEach (joined_registers xs ys) vs
-registers-second [] ys vs c = tt
-registers-second (x ∷ xs) [] vs c = tt
-registers-second (x ∷ xs) (y ∷ ys) [] c = c
-registers-second (x ∷ xs) (y ∷ ys) (v ∷ vs) c = (joined-second x y v c.0, registers-second xs ys vs c.1)
+registers-either : (xs ys : List AbstractValue) (vs : List Value) → ContainEach xs vs
+    → ContainEach (joined_registers xs ys) vs × ContainEach (joined_registers ys xs) vs
+registers-either (x ∷ xs) (y ∷ ys) [] c = (c, c)
+registers-either (x ∷ xs) (y ∷ ys) (v ∷ vs) c =
+    let here = either-value v x y c.0 in
+    let rest = registers-either xs ys vs c.1 in
+    ((here.0, rest.0), (here.1, rest.1))
+registers-either [] [] vs c = (tt, tt)
+registers-either xs ys vs c = (tt, tt)
 
 -- of each byte
-byte-first : (x y : Bool) (b : Option ℕ) → IsWritten x b → IsWritten (x && y) b
-byte-first true true b c = c
-byte-first true false b c = tt
-byte-first false y b c = tt
+byte-either : (x y : Bool) (b : Option ℕ) → IsWritten x b → IsWritten (x && y) b × IsWritten (y && x) b
+byte-either true true b c = (c, c)
+byte-either false true b c = (tt, tt)
+byte-either x y b c = (tt, tt)
 
-byte-second : (x y : Bool) (b : Option ℕ) → IsWritten y b → IsWritten (x && y) b
-byte-second true y b c = c
-byte-second false y b c = tt
+written-either : (xs ys : List Bool) (bytes : Bytes) → AreWritten xs bytes
+    → AreWritten (joined_written xs ys) bytes × AreWritten (joined_written ys xs) bytes
+written-either [] [] bytes c = (tt, tt)
+written-either (x ∷ xs) (y ∷ ys) [] c = (c, c)
+written-either (x ∷ xs) (y ∷ ys) (b ∷ bytes) c =
+    let here = byte-either x y b c.0 in
+    let rest = written-either xs ys bytes c.1 in
+    ((here.0, rest.0), (here.1, rest.1))
+written-either xs ys bytes c = (tt, tt)
 
-written-first : (xs ys : List Bool) (bytes : Bytes) → AreWritten xs bytes → AreWritten (joined_written xs ys) bytes
-written-first [] ys bytes c = tt
-written-first (x ∷ xs) [] bytes c = tt
-written-first (x ∷ xs) (y ∷ ys) [] c = c
-written-first (x ∷ xs) (y ∷ ys) (b ∷ bytes) c = (byte-first x y b c.0, written-first xs ys bytes c.1)
-
-written-second : (xs ys : List Bool) (bytes : Bytes) → AreWritten ys bytes → AreWritten (joined_written xs ys) bytes
-written-second [] ys bytes c = tt
-written-second (x ∷ xs) [] bytes c = tt
-written-second (x ∷ xs) (y ∷ ys) [] c = c
-written-second (x ∷ xs) (y ∷ ys) (b ∷ bytes) c = (byte-second x y b c.0, written-second xs ys bytes c.1)
-
-callers-first : (x y : Option (List Bool)) (caller : Option Bytes) → AreWrittenByCaller x caller
-    → AreWrittenByCaller (joined_callers x y) caller
-callers-first None y caller c = tt
-callers-first (Some xs) None caller c = tt
-callers-first (Some xs) (Some ys) None c = c
-callers-first (Some xs) (Some ys) (Some bytes) c = written-first xs ys bytes c
-
-callers-second : (x y : Option (List Bool)) (caller : Option Bytes) → AreWrittenByCaller y caller
-    → AreWrittenByCaller (joined_callers x y) caller
-callers-second None y caller c = tt
-callers-second (Some xs) None caller c = tt
-callers-second (Some xs) (Some ys) None c = c
-callers-second (Some xs) (Some ys) (Some bytes) c = written-second xs ys bytes c
+callers-either : (x y : Option (List Bool)) (caller : Option Bytes) → AreWrittenByCaller x caller
+    → AreWrittenByCaller (joined_callers x y) caller × AreWrittenByCaller (joined_callers y x) caller
+callers-either None None caller c = (tt, tt)
+callers-either (Some xs) (Some ys) None c = (c, c)
+callers-either (Some xs) (Some ys) (Some bytes) c = written-either xs ys bytes c
+callers-either x y caller c = (tt, tt)
 
 -- of a machine
 pub states-first : (a b : State) (m : Machine) → Contained a m → Contained (joined_states a b) m
 unfolding joined_states
 states-first a b m c = record {
-  registers = registers-first a.registers b.registers m.registers c.registers;
-  own = written-first a.own b.own m.frame c.own;
-  caller = callers-first a.caller b.caller m.caller c.caller;
+  registers = (registers-either a.registers b.registers m.registers c.registers).0;
+  own = (written-either a.own b.own m.frame c.own).0;
+  caller = (callers-either a.caller b.caller m.caller c.caller).0;
 }
 
 pub states-second : (a b : State) (m : Machine) → Contained b m → Contained (joined_states a b) m
 unfolding joined_states
 states-second a b m c = record {
-  registers = registers-second a.registers b.registers m.registers c.registers;
-  own = written-second a.own b.own m.frame c.own;
-  caller = callers-second a.caller b.caller m.caller c.caller;
+  registers = (registers-either b.registers a.registers m.registers c.registers).1;
+  own = (written-either b.own a.own m.frame c.own).1;
+  caller = (callers-either b.caller a.caller m.caller c.caller).1;
 }

@@ -1,107 +1,65 @@
 -- An accepted program keeps each rule at each slot.
-use Rattle.std.proofs.Common.{arith, ◌≡◌, ℕ, zero, suc, ◌-◌, Bool, true, false, List, [], ◌∷◌, Some, None, refl, sym}
-use Rattle.std.proofs.Common.{ap, ◌∙◌, subst}
-use Rattle.std.{proofs.lemmas.Bool.Decides.{nat_tests}, specs.Prelude.{nat_lt, if◌then◌else◌}}
-use Rattle.bpf_insn_types.specs.{Limits.{sizes_fit}, declared.insn.Insn.{Insn}}
-use Rattle.bpf_insn_types.specs.{Slots.{slots_of}, Values.{InsnFits, AreInsns}, Program.{Program, insn_at, slot_count}}
-use Rattle.bpf_verify_model.{specs.declared.state.State.{State}, proofs.JumpLaws.{fault_at-none, within}}
-use Rattle.bpf_verify_model.specs.Accesses.{memory_access_of}
-use Rattle.bpf_verify_model.specs.{Inflow.{state_before}, Accepted.{fault_at_insn, fault_within, first_fault, Accepted}}
-use Rattle.bpf_verify_model.specs.Rules.{jumps_astray, falls_off, names_none, calls_no_helper, calls_otherwise}
-use Rattle.bpf_verify_model.specs.Rules.{loads_outer, loads_no_map, writes_r10, reads_unwritten}
-use Rattle.bpf_verify_model.specs.Rules.{has_wrong_arithmetic_operands, has_wrong_comparison_operands, stores_no_number}
-use Rattle.bpf_verify_model.specs.Rules.{access_fault, call_fault, state_fault, insn_fault, slot_fault, fault_of}
-use Rattle.bpf_verify_sound.specs.{KnownStates.{IsWellFormedState}, Standing.{KeepsRules}}
+use Rattle.bpf_insn_types.specs.{Limits.{sizes_fit}, Program.{Program, insn_at, slot_count, function_of}}
+use Rattle.bpf_insn_types.specs.{Slots.{slots_of}, Values.{InsnFits, AreInsns}, declared.insn.Insn.{Insn}}
+use Rattle.bpf_verify_model.proofs.JumpLaws.{fault_at-none, within}
+use Rattle.bpf_verify_model.specs.{Accepted.{fault_at_insn, fault_within, first_fault, Accepted}, Inflow.{state_before}}
+use Rattle.bpf_verify_model.specs.Rules.{callback_fault, exit_fault, state_fault, insn_fault, slot_fault, fault_of}
+use Rattle.bpf_verify_model.specs.declared.state.State.{State}
+use Rattle.bpf_verify_sound.{proofs.Tests.{later-some}, specs.{KnownStates.{IsWellFormedState}, Standing.{KeepsRules}}}
+use Rattle.std.proofs.Common.{arith, ◌≡◌, ℕ, zero, suc, ◌-◌, true, List, [], ◌∷◌, Some, None, refl, sym, ap, ◌∙◌, subst}
+use Rattle.std.{proofs.lemmas.Bool.Decides.{nat_tests}, specs.Prelude.{nat_lt}}
 
--- a test that gives something where it holds, and all in all nothing was given
--- V3 to V6
-pub record KeepsSlotRules (insns : List Insn) (slot : ℕ) (insn : Insn) : Type 0 where
-  pub astray : jumps_astray insns slot insn ≡ false
-  pub falls : falls_off insns slot insn ≡ false
-  pub named : names_none insns slot insn ≡ false
+-- where no rule gave a fault, none of a kind did
+pub record HasNoFault (program : Program) (slot : ℕ) (insn : Insn) (state : State) : Type 0 where
+  pub of_slot : slot_fault program.insns slot insn ≡ None
+  pub of_insn : insn_fault program.sizes insn ≡ None
+  pub of_state : state_fault program.sizes state insn ≡ None
+  pub callback : callback_fault (function_of program.insns slot) insn ≡ None
+  pub end : exit_fault (function_of program.insns slot) state insn ≡ None
 
-slot-rules : (insns : List Insn) (slot : ℕ) (insn : Insn) → slot_fault insns slot insn ≡ None
-    → KeepsSlotRules insns slot insn
-unfolding slot_fault
-slot-rules insns slot insn e = record {
-  astray = grind (arith, nat_tests);
-  falls = grind (arith, nat_tests);
-  named = grind (arith, nat_tests);
+no-fault : (program : Program) (slot : ℕ) (insn : Insn) (state : State) → fault_of program slot insn (Some state) ≡ None
+    → HasNoFault program slot insn state
+unfolding fault_of
+no-fault program slot insn state e = record {
+  of_slot = grind (arith, nat_tests);
+  of_insn = grind (arith, nat_tests);
+  of_state = grind (arith, nat_tests);
+  callback = grind (arith, nat_tests);
+  end = grind (arith, nat_tests);
 }
 
--- V7 to V11
-pub record KeepsInsnRules (sizes : List ℕ) (insn : Insn) : Type 0 where
-  pub helper : calls_no_helper insn ≡ false
-  pub call_kind : calls_otherwise insn ≡ false
-  pub load_kind : loads_outer insn ≡ false
-  pub map_there : loads_no_map sizes insn ≡ false
-  pub frame_pointer : writes_r10 insn ≡ false
-
-insn-rules : (sizes : List ℕ) (insn : Insn) → insn_fault sizes insn ≡ None → KeepsInsnRules sizes insn
-unfolding insn_fault
-insn-rules sizes insn e = record {
-  helper = grind (arith, nat_tests);
-  call_kind = grind (arith, nat_tests);
-  load_kind = grind (arith, nat_tests);
-  map_there = grind (arith, nat_tests);
-  frame_pointer = grind (arith, nat_tests);
-}
-
--- V12 to V22
-pub record KeepsStateRules (sizes : List ℕ) (state : State) (insn : Insn) : Type 0 where
-  pub reads : reads_unwritten state insn ≡ false
-  pub arithmetic : has_wrong_arithmetic_operands state insn ≡ false
-  pub comparison : has_wrong_comparison_operands state insn ≡ false
-  pub stored : stores_no_number state insn ≡ false
-  pub access : access_fault sizes state (memory_access_of insn) ≡ None
-  pub call : call_fault state insn ≡ None
-
-state-rules : (sizes : List ℕ) (state : State) (insn : Insn) → state_fault sizes state insn ≡ None
-    → KeepsStateRules sizes state insn
-unfolding state_fault
-state-rules sizes state insn e = record {
-  reads = grind (arith, nat_tests);
-  arithmetic = grind (arith, nat_tests);
-  comparison = grind (arith, nat_tests);
-  stored = grind (arith, nat_tests);
-  access = grind (arith, nat_tests);
-  call = grind (arith, nat_tests);
-}
-
--- all of them
+-- so each is kept: V3 to V6 of the slot, V7 to V11 of the instruction, and V12 to V22
 pub fault_of-none : (program : Program) (slot : ℕ) (insn : Insn) (state : State)
     → fault_of program slot insn (Some state) ≡ None →
     insn_at program.insns slot ≡ Some insn → sizes_fit program.sizes ≡ true → InsnFits insn → IsWellFormedState state
     → KeepsRules program slot insn state
-unfolding fault_of
+unfolding slot_fault insn_fault state_fault
 fault_of-none program slot insn state e here sizes fits spans =
-    let slot_none : slot_fault program.insns slot insn ≡ None = grind (arith, nat_tests) in
-    let insn_none : insn_fault program.sizes insn ≡ None = grind (arith, nat_tests) in
-    let state_none : state_fault program.sizes state insn ≡ None = grind (arith, nat_tests) in
-    let s = slot-rules program.insns slot insn slot_none in
-    let i = insn-rules program.sizes insn insn_none in
-    let t = state-rules program.sizes state insn state_none in
+    let none = no-fault program slot insn state e in
+    let slot_none : slot_fault program.insns slot insn ≡ None = none.of_slot in
+    let insn_none : insn_fault program.sizes insn ≡ None = none.of_insn in
+    let state_none : state_fault program.sizes state insn ≡ None = none.of_state in
     record {
       here = here;
       sizes = sizes;
       fits = fits;
       spans = spans;
-      astray = s.astray;
-      falls = s.falls;
-      named = s.named;
-      helper = i.helper;
-      call_kind = i.call_kind;
-      load_kind = i.load_kind;
-      map_there = i.map_there;
-      frame_pointer = i.frame_pointer;
-      reads = t.reads;
-      arithmetic = t.arithmetic;
-      comparison = t.comparison;
-      stored = t.stored;
-      access = t.access;
-      call = t.call;
-      callback = grind (arith, nat_tests);
-      end = grind (arith, nat_tests);
+      astray = grind (arith, nat_tests);
+      falls = grind (arith, nat_tests);
+      named = grind (arith, nat_tests);
+      helper = grind (arith, nat_tests);
+      call_kind = grind (arith, nat_tests);
+      load_kind = grind (arith, nat_tests);
+      map_there = grind (arith, nat_tests);
+      frame_pointer = grind (arith, nat_tests);
+      reads = grind (arith, nat_tests);
+      arithmetic = grind (arith, nat_tests);
+      comparison = grind (arith, nat_tests);
+      stored = grind (arith, nat_tests);
+      access = grind (arith, nat_tests);
+      call = grind (arith, nat_tests);
+      callback = none.callback;
+      end = none.end;
     }
 
 -- an accepted program has no fault at any slot, and its sizes are within the limits
@@ -128,11 +86,5 @@ fits_at [] slot insn fits here = absurd cc
 fits_at (x ∷ xs) zero insn fits here =
     let e : x ≡ insn = cc in
     subst InsnFits e fits.0
-fits_at (x ∷ xs) (suc slot) insn fits here = by_test (nat_lt (suc slot) (slots_of x)) xs (suc slot - slots_of x) insn
-    here (fits_at xs (suc slot - slots_of x) insn fits.1)
-  where
-    by_test : (test : Bool) (xs : List Insn) (slot : ℕ) (insn : Insn) → (if test then None else insn_at xs slot)
-        ≡ Some insn →
-        (insn_at xs slot ≡ Some insn → InsnFits insn) → InsnFits insn
-    by_test true xs slot insn e go = absurd cc
-    by_test false xs slot insn e go = go e
+fits_at (x ∷ xs) (suc slot) insn fits here =
+    fits_at xs (suc slot - slots_of x) insn fits.1 (later-some (nat_lt (suc slot) (slots_of x)) insn _ here).1

@@ -22,6 +22,12 @@ pub or_else-two : {A : Type 0} (a b : Option A) → or_else a b ≡ None → b �
 or_else-two None b e = e
 or_else-two (Some a) b e = absurd cc
 
+-- where something was given later, the test failed
+pub later-some : {A : Type 0} (test : Bool) (a : A) (later : Option A) → (if test then None else later) ≡ Some a
+    → (test ≡ false) × (later ≡ Some a)
+later-some true a later e = absurd cc
+later-some false a later e = (refl, e)
+
 -- the parts of a test
 pub and-one : (a b : Bool) → (a && b) ≡ true → a ≡ true
 and-one true b e = refl
@@ -42,3 +48,9 @@ or-right false b e = e
 pub not-not-true : (b : Bool) → not b ≡ false → b ≡ true
 not-not-true true e = refl
 not-not-true false e = absurd cc
+
+-- what holds of both of two holds of the one that a test takes
+pub if-either : {A : Type 0} (P : A → Type 0) (test : Bool) {a b : A} → (test ≡ true → P a) → (test ≡ false → P b)
+    → P (if test then a else b)
+if-either P true p q = p refl
+if-either P false p q = q refl
