@@ -2,7 +2,8 @@
 use Rattle.std.specs.Prelude.{◌≡◌, ℕ, List, IfSome}
 use Rattle.bpf_insn_types.specs.Program.{Program}
 use Rattle.bpf_step_ir.specs.{declared.ir_op.IrOp.{IrOp}, Translation.{AreOps}}
-use Rattle.row_list.specs.{declared.translating.RowList.{RowList}, Agreement.{AgreesWithValues}, Joined.{LeavesWithValues}}
+use Rattle.row_list.specs.{declared.translating.RowList.{RowList}, Agreement.{AgreesWithValues}, Lanes.{AgreesWithRuns}}
+use Rattle.row_list.specs.Joined.{LeavesWithValues}
 use Rattle.row_facts.specs.{declared.listing.ListSites.{ListSites}, Lists.{AreListSites}}
 use Rattle.bpf_verify.specs.declared.callback_rows.CallbackRows.{CallbackRows}
 
@@ -11,10 +12,11 @@ pub record LeavesRows (ops : List IrOp) (start : ℕ) (list : RowList) (sites : 
   pub leaves : LeavesWithValues ops start list.list.items list.result
   pub listed : AreListSites list.list.items sites
 
--- the list agrees with the operations from the callback's start on, and leaves what they leave; so does the one with
--- reductions
+-- the list agrees with the operations from the callback's start on, by itself and in a batch, and leaves what they
+-- leave; so does the one with reductions
 pub record AreRows (ops : List IrOp) (rows : CallbackRows) : Type 0 where
   pub agrees : AgreesWithValues ops rows.start rows.list.list.items rows.list.result
+  pub runs : AgreesWithRuns ops rows.start rows.list.list.items rows.list.result
   pub leaves : LeavesRows ops rows.start rows.list rows.sites
   pub joined : IfSome rows.joined (λ joined. LeavesRows ops rows.start joined.list joined.sites)
 

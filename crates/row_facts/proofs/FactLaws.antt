@@ -36,7 +36,7 @@ more-facts list facts op fact is are more = record {
           | inl old ↦ fit.each k other old
           | inr new ↦
               let last : IsFact fact index (slice_index values (length facts)) =
-              more index caller words values (slice_index values (length facts)) few fit (lane.fit (length facts))
+              more index caller (words (length facts)) values (slice_index values (length facts)) few fit (lane.fit (length facts))
               (lane.each (length facts) op is) in
               let P : Fact → Type 0 = λ f. IsFact f index (slice_index values k) in
               let Q : ℕ → Type 0 = λ j. IsFact fact index (slice_index values j) in

@@ -3,9 +3,9 @@ pub mod OperatorLaws
 pub mod FactLaws
 pub mod SlotLaws
 pub mod ApartLaws
+pub mod NarrowLaws
 pub mod NonzeroLaws
 pub mod SiteLaws
 pub mod MeetingLaws
-pub mod NarrowLaws
 pub mod ListLaws
 pub mod MarkLaws

@@ -1,16 +1,12 @@
 -- Masks in whose lanes a value isn't 0.
-use Rattle.std.proofs.Common.{◌≡◌, ◌∙◌, ℕ, ◌+◌, inl, inr, List, [], ◌∷◌, ◌++◌, length, Bool, true, false, refl, sym}
-use Rattle.std.{proofs.Common.{arith, subst}, specs.Prelude.{slice_get, slice_index, Some, ◌==◌, ◌&&◌, ◌||◌, not}}
-use Rattle.std.proofs.lemmas.Bool.{and_from, and_parts, not-true, or_cases}
+use Rattle.std.proofs.Common.{◌≡◌, ◌∙◌, ℕ, inl, inr, List, [], ◌∷◌, ◌++◌, length, Bool, true, false, refl, sym}
+use Rattle.std.{proofs.Common.{subst}, specs.Prelude.{slice_get, slice_index, Some, ◌==◌, ◌&&◌, not}}
+use Rattle.std.proofs.lemmas.Bool.{and_from, and_parts, not-true}
 use Rattle.bpf_insn_types.specs.{declared.insn.{Width.TheVariants.{W64}, Compare.TheVariants.{Eq, Ne}}, Words.{holds}}
-use Rattle.row_list.specs.declared.row_op.RowOp.{RowOp, TheVariants.{Number, Holds, Without, Either}}
+use Rattle.row_list.specs.declared.row_op.RowOp.{RowOp, TheVariants.{Number, Holds, Without}}
 use Rattle.row_list.specs.Rows.{is_in, bit}
-use Rattle.row_facts.specs.{Narrower.{IsNarrower}, Nonzero.{IsNonzeroIn, IsNullTest, AreNonzeroIn}}
-use Rattle.row_facts.proofs.FactLaws.{get-more}
-
-bit-true : (b : Bool) (n : ℕ) → n ≡ bit b → (n == 1) ≡ true → b ≡ true
-bit-true true n e h = refl
-bit-true false n e h = rw e at h
+use Rattle.row_facts.specs.Nonzero.{IsNonzeroIn, IsNullTest, AreNonzeroIn}
+use Rattle.row_facts.proofs.{FactLaws.{get-more}, NarrowLaws.{bit-true}}
 
 bit-false : (b : Bool) (n : ℕ) → n ≡ bit b → (n == 1) ≡ false → b ≡ false
 bit-false true n e h = absurd (let k = rw e at h in cc)
@@ -26,15 +22,6 @@ unfolding holds
 always-equal = refl
 
 module _ (list : List RowOp) (k value : ℕ) where
-  -- the lanes of a mask are in another
-  pub of_wider : (mask : ℕ) → IsNarrower list k mask → IsNonzeroIn list mask value → IsNonzeroIn list k value
-  of_wider mask narrow known = record {
-    never = λ index caller words values are there zero.
-        known.never index caller words values are
-        (narrow.each (k + mask + 1) index caller words values (omega arith) (omega arith) (λ j op below. are.each j op)
-        there) zero;
-  }
-
   -- they are lanes where the value isn't 0
   pub of_test : (mask second : ℕ) → slice_get list k ≡ Some (Holds mask W64 Ne value second) →
       slice_get list second ≡ Some (Number 0) → IsNonzeroIn list k value
@@ -57,19 +44,6 @@ module _ (list : List RowOp) (k value : ℕ) where
         let both = and_parts one (not two) (bit-true (one && not two) (slice_index values k) (are.each k (Without mask
         other) is) there) in
         test.never index caller words values are both.0 (not-true two both.1) zero;
-  }
-
-  -- they are in either of two masks
-  pub of_either : (first second : ℕ) → slice_get list k ≡ Some (Either first second) →
-      IsNonzeroIn list first value → IsNonzeroIn list second value → IsNonzeroIn list k value
-  of_either first second is one two = record {
-    never = λ index caller words values are there zero.
-        let a = is_in values first in
-        let b = is_in values second in
-        elim (or_cases a b (bit-true (a || b) (slice_index values k) (are.each k (Either first second) is) there)) [
-          | inl there ↦ one.never index caller words values are there zero
-          | inr there ↦ two.never index caller words values are there zero
-        ];
   }
 
   -- the lanes of a mask where the value is 0

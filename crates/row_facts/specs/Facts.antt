@@ -2,7 +2,7 @@
 use Rattle.std.specs.Prelude.{◌≡◌, ℕ, ◌+◌, ◌*◌, ◌%◌, ◌^◌, ◌<◌, ◌≤◌, ◌⊎◌, true, bit_or, bit_xor, List, slice_index}
 use Rattle.std.specs.Prelude.{slice_get, Some}
 use Rattle.value_range.specs.Spans.{Contains}
-use Rattle.row_list.specs.{declared.row_op.RowOp.{RowOp}, Rows.{AreValues}}
+use Rattle.row_list.specs.{declared.row_op.RowOp.{RowOp}, Rows.{AreValuesOn}}
 use Rattle.row_facts.specs.declared.{lines.Line.{Line}, fact.Fact.{Fact}}
 
 -- a number is on a line, in the lane of an index
@@ -32,7 +32,7 @@ pub record FitFacts (facts : List Fact) (index : ℕ) (values : List ℕ) : Type
 
 -- the values of each lane do: whatever the words are, main's frame, and the index, up to the greatest of a loop
 pub record AreFacts (list : List RowOp) (facts : List Fact) : Type 0 where
-  pub each : (index : ℕ) (caller words values : List ℕ) → index ≤ 2 ^ 23 → AreValues list index caller words values →
+  pub each : (index : ℕ) (caller : List ℕ) (words : ℕ → List ℕ) (values : List ℕ) → index ≤ 2 ^ 23 → AreValuesOn list index caller words values →
       FitFacts facts index values
 
 -- two numbers have no bit in common: either operator on bits gives their sum

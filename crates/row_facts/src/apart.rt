@@ -25,7 +25,7 @@ fn are_ranges_apart(first: Range, first_size: u64, second: Range, second_size: u
 }
 
 /// Whether they are never the same, by their lines, where the first access is so many indexes after the second.
-fn are_lines_apart(
+pub(crate) fn are_lines_apart(
     first: Line,
     first_size: u64,
     second: Line,

@@ -25,7 +25,7 @@ pub use elements::are_lines_clear;
 pub use fact::Fact;
 pub use lines::{Line, common_bits, low};
 pub use listing::{ListSites, list_sites};
-pub use meeting::{Meeting, leaves, loads, meetings, reads, reduce_alike};
+pub use meeting::{Meeting, leaves, may_load_own, meetings, reads, reduce_alike};
 pub use narrowing::is_narrower;
 pub use ordering::is_ordered;
 pub use site::{Site, sites};

@@ -1,7 +1,10 @@
 //! Lines modulo a power of two, and what operations make of the numbers on them.
 
 ghost use Rattle.std.specs.Prelude.{◌≡◌, ℕ, ◌+◌, ◌-◌, ◌*◌, ◌/◌, ◌%◌, ◌^◌, ◌<◌, ◌≤◌, true};
+ghost use Rattle.bpf_step_model.specs.AreaWords.{byte_named};
 ghost use Rattle.row_facts.specs.Facts.{IsOnLine, IsOfMultiples};
+
+use row_list::Place;
 
 /// A number of each lane, modulo 2^bits: `scale * index + offset`, by the index of the lane's iteration. A scale of 0
 /// says that it is the same in all lanes, and bits of 0 say nothing.
@@ -20,6 +23,18 @@ pub(crate) fn anything() -> Line
         bits: 0,
         scale: 0,
         offset: 0,
+    }
+}
+
+/// The line of the bytes that addresses name at a place, each by the address in place of an index.
+#[tactic(auto, using(crate::proofs::OperatorLaws::twice))]
+pub(crate) fn line_at(place: &Place) -> Line
+    ensures { (address : ℕ) → IsOnLine result address (byte_named address place.now.offset) }
+{
+    Line {
+        bits: 32,
+        scale: 1,
+        offset: (place.offset as i64).cast_unsigned(),
     }
 }
 

@@ -2,13 +2,15 @@
 
 ghost use Rattle.std.specs.Prelude.{◌≡◌, ℕ, List, ◌<◌, ◌≤◌, true, false, IfOk, OnOk, length};
 ghost use Rattle.row_list.specs.declared.row_op.RowOp.{RowOp};
-ghost use Rattle.row_facts.specs.{declared.fact.Fact.{Fact}, Facts.{IsSure, AreFacts}, Apart.{IsAmong}};
-ghost use Rattle.row_facts.specs.{Sites.{IsSite, bytes_in}, Elements.{reads}};
-ghost use Rattle.row_facts.specs.Meetings.{IsHalfOf, loads, leaves, ReducesBy, ReduceAlike, AreApart, LanesNeverMeet};
-ghost use Rattle.row_facts.specs.Meetings.{LoadsNoOwn, NeverMeet, AreMeetings, AreKept, AreDone};
+ghost use Rattle.row_facts.specs.{declared.fact.Fact.{Fact}, Facts.{AreFacts}};
+ghost use Rattle.row_facts.specs.{Sites.{AreSites, bytes_in}, Elements.{reads}};
+ghost use Rattle.row_facts.specs.Meetings.{IsAligned, loads, leaves, ReducesBy, ReduceAlike, AreApart, LanesNeverMeet};
+ghost use Rattle.row_facts.specs.Meetings.{AreApartInLane, LoadsNoOwn, LoadsNoneOwn, NeverMeet, AreMeetings, AreKept};
+ghost use Rattle.row_facts.specs.Meetings.{AreDone, Follows, IsListedOrNever};
 
-use crate::apart::are_apart;
-use crate::lines::is_of_multiples;
+use crate::apart::{are_apart, are_lines_apart};
+use crate::lines::{is_of_multiples, line_at};
+use crate::narrowing::are_masks_apart;
 use crate::site::{Site, sites};
 use crate::transfer::facts;
 use bpf_insn_types::{SimpleOp, Width};
@@ -17,6 +19,9 @@ use std::alloc::{AllocError, Global};
 
 /// How many lanes a batch has at most.
 const LANES: u64 = 512;
+
+/// How many steps are made at most to find that two masks are apart.
+const MASK_STEPS: u32 = 64;
 
 /// Two sites, by their numbers: a lane may touch a half at the first that an earlier lane, or the lane itself, left at
 /// the second.
@@ -85,8 +90,7 @@ pub fn reduce_alike(first: &RowOp, second: &RowOp) -> bool
 
 /// Whether the byte of an access is known to be a multiple of its size.
 fn is_aligned(site: &Site) -> bool
-    ensures { result ≡ true → (index byte half : ℕ) → IsSure site.now.byte index byte →
-        IsHalfOf site.now.place.width byte half → IsAmong byte (bytes_in site.now.place.width) half }
+    ensures { result ≡ true → IsAligned site.now }
 {
     match site.place.width {
         Width::W32 => is_of_multiples(site.byte.line, 2),
@@ -96,9 +100,8 @@ fn is_aligned(site: &Site) -> bool
 
 /// Whether lanes never touch a half at the first site that one so many indexes before touches at the second.
 fn never_touch(first: &Site, second: &Site, from: u64, upto: u64) -> bool
-    ensures { result ≡ true → (list : List RowOp) (facts : List Fact) → AreFacts list facts →
-        IsSite list facts first.now → IsSite list facts second.now →
-        (distance : ℕ) → from ≤ distance → distance < upto → AreApart list first.now.op second.now.op distance }
+    ensures { result ≡ true → (list : List RowOp) → Follows list first.now second.now ((distance : ℕ) →
+        from ≤ distance → distance < upto → AreApart list first.now.op second.now.op distance) }
 {
     let first_size = bytes_in(first.place.width);
     let second_size = bytes_in(second.place.width);
@@ -107,11 +110,27 @@ fn never_touch(first: &Site, second: &Site, from: u64, upto: u64) -> bool
         && are_apart(first.byte, first_size, second.byte, second_size, from, upto)
 }
 
+/// Whether two sites are at one address, and their bytes are apart by the offsets.
+fn are_offsets_apart(first: &Site, second: &Site) -> bool
+    ensures { result ≡ true → (list : List RowOp) → Follows list first.now second.now
+        (AreApartInLane list first.now.op second.now.op) }
+{
+    if first.place.address != second.place.address {
+        return false;
+    }
+    let line = line_at(&first.place);
+    let other = line_at(&second.place);
+    let first_size = bytes_in(first.place.width);
+    let second_size = bytes_in(second.place.width);
+    is_aligned(first)
+        && is_aligned(second)
+        && are_lines_apart(line, first_size, other, second_size, 0)
+}
+
 /// Whether a lane may touch at the first site what an earlier one left at the second, where order matters.
 fn lanes_may_meet(first: usize, at: &Site, second: usize, by: &Site) -> bool
-    ensures { result ≡ false → (list : List RowOp) (facts : List Fact) → AreFacts list facts →
-        IsSite list facts at.now → IsSite list facts by.now →
-        LanesNeverMeet list first second at.now.op by.now.op }
+    ensures { result ≡ false → (list : List RowOp) → Follows list at.now by.now
+        (LanesNeverMeet list first second at.now.op by.now.op) }
 {
     if !leaves(&by.op) || (!loads(&at.op) && second <= first) {
         return false;
@@ -119,35 +138,60 @@ fn lanes_may_meet(first: usize, at: &Site, second: usize, by: &Site) -> bool
     !reduce_alike(&at.op, &by.op) && !never_touch(at, by, 1, LANES)
 }
 
-/// Whether a lane may load at the first site what it left itself at the second.
-fn own_may_meet(first: usize, at: &Site, second: usize, by: &Site) -> bool
-    ensures { result ≡ false → (list : List RowOp) (facts : List Fact) → AreFacts list facts →
-        IsSite list facts at.now → IsSite list facts by.now →
-        LoadsNoOwn list first second at.now.op by.now.op }
+/// Whether a lane may load at the first site what it left itself at the second: their bytes may be the same, and it may
+/// make both accesses.
+#[tactic(auto, using(crate::proofs::MeetingLaws::same_lane, crate::proofs::MeetingLaws::masks_apart))]
+fn own_may_meet(list: &[RowOp], first: usize, at: &Site, second: usize, by: &Site) -> bool
+    ensures { result ≡ false → Follows list.now at.now by.now
+        (LoadsNoOwn list.now first second at.now.op by.now.op) }
 {
     if !leaves(&by.op) || !loads(&at.op) || first <= second {
         return false;
     }
-    !never_touch(at, by, 0, 1)
+    if never_touch(at, by, 0, 1) || are_offsets_apart(at, by) {
+        return false;
+    }
+    !are_masks_apart(list, at.place.mask, by.place.mask, MASK_STEPS)
+}
+
+/// Whether a lane may load at a site of a list, by its number, what it left itself before, at another.
+pub fn may_load_own(list: &[RowOp], sites: &[Site], first: usize) -> bool
+    ensures { result ≡ false → (facts : List Fact) → AreFacts list.now facts →
+        AreSites list.now facts list.now sites.now → LoadsNoneOwn list.now first }
+{
+    if first >= sites.len() {
+        return true;
+    }
+    for second in 0..sites.len() {
+        if own_may_meet(list, first, &sites[first], second, &sites[second]) {
+            return true;
+        }
+    }
+    false
 }
 
 /// Whether two sites may meet.
-fn may_meet(first: usize, at: &Site, second: usize, by: &Site) -> bool
-    ensures { result ≡ false → (list : List RowOp) (facts : List Fact) → AreFacts list facts →
-        IsSite list facts at.now → IsSite list facts by.now →
-        NeverMeet list first second at.now.op by.now.op }
+fn may_meet(list: &[RowOp], first: usize, at: &Site, second: usize, by: &Site) -> bool
+    ensures { result ≡ false → Follows list.now at.now by.now
+        (NeverMeet list.now first second at.now.op by.now.op) }
 {
-    lanes_may_meet(first, at, second, by) || own_may_meet(first, at, second, by)
+    lanes_may_meet(first, at, second, by) || own_may_meet(list, first, at, second, by)
 }
 
 /// Adds the meetings at a site. It fails where memory runs out.
-fn add_meetings(meetings: &mut Vec<Meeting>, sites: &[Site], first: usize) -> Result<(), AllocError>
+fn add_meetings(
+    meetings: &mut Vec<Meeting>,
+    list: &[RowOp],
+    sites: &[Site],
+    first: usize,
+) -> Result<(), AllocError>
     requires { first < length sites.now }
     ensures kept { OnOk result (AreKept meetings.old.items meetings.new.items) }
-    ensures done { OnOk result (AreDone sites.now first (length sites.now) meetings.new.items) }
+    ensures done { OnOk result (AreDone list.now sites.now first (length sites.now)
+        (IsListedOrNever list.now meetings.new.items first)) }
 {
     for second in 0..sites.len() {
-        if may_meet(first, &sites[first], second, &sites[second]) {
+        if may_meet(list, first, &sites[first], second, &sites[second]) {
             meetings.push(Meeting { first, second })?;
         }
     }
@@ -164,7 +208,7 @@ pub fn meetings(alloc: Global, ops: &[RowOp]) -> Result<Vec<Meeting>, AllocError
     let sites = listed.as_slice();
     let mut meetings = Vec::new(alloc);
     for first in 0..sites.len() {
-        add_meetings(&mut meetings, sites, first)?;
+        add_meetings(&mut meetings, ops, sites, first)?;
     }
     Ok(meetings)
 }

@@ -1,7 +1,7 @@
-//! Masks that are in others.
+//! Masks that are in others, or have no lane in common with them.
 
 ghost use Rattle.std.specs.Prelude.{◌≡◌, ◌≤◌, true, slice_get, IfSome};
-ghost use Rattle.row_facts.specs.Narrower.{IsNarrower};
+ghost use Rattle.row_facts.specs.Narrower.{AreMasksApart, IsNarrower};
 
 use row_list::RowOp;
 
@@ -55,4 +55,29 @@ pub fn is_narrower(list: &[RowOp], mask: usize, other: usize) -> bool
         return true; // mostly
     }
     is_taken_from(list, mask, other)
+}
+
+/// Whether no lane is in both of two masks, as far as the operations say it that made them of others. The one that was
+/// made later is looked at first. The work is bounded by a number of steps.
+#[tactic(auto, using(crate::proofs::NarrowLaws::apart_turned, crate::proofs::NarrowLaws::apart_without, crate::proofs::NarrowLaws::never_in_narrower, crate::proofs::NarrowLaws::never_in_either))]
+pub(crate) fn are_masks_apart(list: &[RowOp], one: usize, other: usize, steps: u32) -> bool
+    ensures { result ≡ true → AreMasksApart list.now one other }
+{
+    if steps == 0 {
+        return false;
+    }
+    if one < other {
+        return are_masks_apart(list, other, one, steps - 1);
+    }
+    match op_at(list, one) {
+        Some(RowOp::Either { first, second }) => {
+            are_masks_apart(list, first, other, steps / 2)
+                && are_masks_apart(list, second, other, steps / 2)
+        }
+        Some(RowOp::Without { other: without, .. }) if is_narrower(list, other, without) => true,
+        _ => match wider(list, one) {
+            Some(mask) => are_masks_apart(list, mask, other, steps - 1),
+            None => false,
+        },
+    }
 }

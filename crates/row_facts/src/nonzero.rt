@@ -46,7 +46,7 @@ fn is_null_test(ops: &[RowOp], test: usize, within: usize, value: usize) -> bool
 }
 
 /// Whether a mask was made of lanes where a value isn't 0, by the masks before it.
-#[tactic(auto, using(crate::proofs::NonzeroLaws::of_wider))]
+#[tactic(auto, using(crate::proofs::NarrowLaws::never_in_narrower))]
 fn is_made_of_nonzero(ops: &[RowOp], k: usize, masks: &[bool], value: usize) -> bool
     ensures { result ≡ true → AreNonzeroIn ops.now masks.now value → IsNonzeroIn ops.now k value }
 {
@@ -57,7 +57,7 @@ fn is_made_of_nonzero(ops: &[RowOp], k: usize, masks: &[bool], value: usize) -> 
 }
 
 /// Whether a value isn't 0 in the lanes of the mask that an operation makes, by the masks before it.
-#[tactic(auto, using(crate::proofs::NonzeroLaws::of_test, crate::proofs::NonzeroLaws::of_without, crate::proofs::NonzeroLaws::of_either))]
+#[tactic(auto, using(crate::proofs::NonzeroLaws::of_test, crate::proofs::NonzeroLaws::of_without, crate::proofs::NarrowLaws::never_in_either))]
 fn is_nonzero_in(ops: &[RowOp], k: usize, masks: &[bool], value: usize) -> bool
     ensures { result ≡ true → AreNonzeroIn ops.now masks.now value → IsNonzeroIn ops.now k value }
 {

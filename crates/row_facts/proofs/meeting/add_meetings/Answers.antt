@@ -1,5 +1,7 @@
-use Rattle.std.{proofs.{Common.{◌≡◌, length, refl}, lemmas.Option.{slice_get_read}}, specs.Prelude.{slice_get, Some}}
-use Rattle.row_facts.proofs.MeetingLaws.{more-kept, done-listed, done-never}
+use Rattle.std.proofs.{Common.{◌≡◌, List, [], ◌∷◌, ◌++◌, length, refl, inl, inr}, lemmas.Option.{slice_get_read}}
+use Rattle.std.{specs.Prelude.{slice_get, Some}, proofs.lemmas.List.Elements.{Contains-push}}
+use Rattle.row_facts.specs.{declared.meeting.Meeting.{Meeting}, Meetings.{IsListedOrNever}}
+use Rattle.row_facts.proofs.MeetingLaws.{more-kept, push-kept, done_kept, done_more}
 use Rattle.row_facts.proofs.meeting.add_meetings.Goals.{then-may_meet+in_ok-push, else-may_meet}
 use Rattle.row_facts.proofs.meeting.add_meetings.Goals as goal
 
@@ -16,12 +18,18 @@ loop-second-preserved c =
     slice_get_read sites (length sites) c.args.first at refl c.requires c.index-sites-first.is in
     let is_by : slice_get sites k ≡ Some by =
     slice_get_read sites (length sites) k by refl c.loop-second-test.true c.index-sites-second.is in
+    let pair : Meeting = record { first = c.args.first; second = k } in
+    let never = λ (all : List Meeting). IsListedOrNever c.args.list.now all c.args.first in
     elim c.if-may_meet.branch [
       | then-may_meet+in_ok-push w ↦ rw (w.meetings-is, w.in_ok-push.ensures.items) (
-        more-kept old new (record { first = c.args.first; second = k }) inv.0,
-        done-listed sites c.args.first k
-            new inv.1,
+        more-kept old new pair inv.0,
+        done_more c.args.list.now sites c.args.first k at by (never (new ++ pair ∷ [])) is_at is_by
+            (λ facts are one two. inl (Contains-push new pair))
+            (done_kept c.args.list.now sites c.args.first k new (new ++ pair ∷ []) (push-kept new pair) inv.1),
       )
-      | else-may_meet w ↦ rw w.meetings-is
-          (inv.0, done-never sites c.args.first k at by new is_at is_by (c.may_meet.ensures w.if-may_meet.false) inv.1)
+      | else-may_meet w ↦ rw w.meetings-is (
+        inv.0,
+        done_more c.args.list.now sites c.args.first k at by (never new) is_at is_by
+            (λ facts are one two. inr (c.may_meet.ensures w.if-may_meet.false facts are one two)) inv.1,
+      )
     ]
