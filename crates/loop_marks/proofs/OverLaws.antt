@@ -43,15 +43,15 @@ module _ {A : Type 0} (change : A → ℕ → A) (merge : IsMerge change) where
       grind (arith, before, swap)
 
   -- lanes that do one thing, and then all that do another, are lanes that do either
-  pub over_both : (first second both : ℕ → Bool) → ((lane : ℕ) → both lane ≡ (first lane || second lane))
-      → (lanes : ℕ) (old : A)
+  pub over_both : (first second both : ℕ → Bool) (lanes : ℕ) (old : A)
+      → ((lane : ℕ) → lane < lanes → both lane ≡ (first lane || second lane))
       → over_lanes change second lanes (over_lanes change first lanes old) ≡ over_lanes change both lanes old
-  over_both first second both is zero old = refl
-  over_both first second both is (suc lane) old =
-      let so_far = over_both first second both is lane old in
+  over_both first second both zero old is = refl
+  over_both first second both (suc lane) old is =
+      let so_far = over_both first second both lane old (λ l less. is l (omega (arith, less))) in
       let pushed = over_pushed second lane (over_lanes change first lane old) lane in
       let again = merge.repeats (over_lanes change second lane (over_lanes change first lane old)) lane in
-      let either = is lane in
+      let either = is lane (omega arith) in
       grind (arith, so_far, pushed, again, either)
 
   -- the change of one lane, if it covers those of the others, is all that is left

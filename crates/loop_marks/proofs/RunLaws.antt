@@ -1,12 +1,14 @@
 -- Bits of elements that run on one after another.
 use Rattle.std.proofs.Common.{◌≡◌, ◌≢◌, ℕ, zero, suc, ◌+◌, ◌-◌, ◌*◌, ◌/◌, ◌%◌, ◌^◌, ◌<◌, ◌≤◌, ◌==◌, ◌||◌, eqb, max}
-use Rattle.std.proofs.Common.{Bool, false, List, length, set, get_or, sym, ◌∙◌, ap, inl, inr, arith, get_or-set_same}
+use Rattle.std.proofs.Common.{Bool, true, false, List, length, set, get_or, sym, ◌∙◌, ap, inl, inr, arith}
+use Rattle.std.proofs.Common.{◌⊎◌, get_or-set_same, ne_eqb}
+use Rattle.lane_stamps.specs.Sites.{element_named}
 use Rattle.std.{proofs.Common.{get_or-set_other}, specs.{Prelude.{bit_or}, Int.{bit_at}}}
 use Rattle.std.proofs.{Math.Bool.{or_assoc, or-false}, lemmas.Bool.{cases_eq, cases_lt, Decides.{nat_tests}}}
 use Rattle.std.proofs.lemmas.Nat.Bits.{bit_at_or, bit_at-lt, bit_at_mask_above, bit_at_mask_below, bit_at_mask_inside}
 use Rattle.loop_core_model.specs.Planes.{bit_of}
 use Rattle.shadow_marks.{specs.Runs.{is_between}, proofs.BetweenLaws.{between_above, between_below, between_in}}
-use Rattle.loop_marks.{specs.SiteMarks.{SetsBits, over_lanes, runs_to, set_by_lane}, proofs.UnseenLaws.{or_if}}
+use Rattle.loop_marks.{specs.SiteMarks.{SetsBits, over_lanes, runs_on, runs_to, set_by_lane}, proofs.UnseenLaws.{or_if}}
 
 max_tested : (x y : ℕ) → x < 2 → y < 2 → eqb (max x y) 1 ≡ (eqb x 1 || eqb y 1)
 max_tested x y h k = grind (arith, nat_tests)
@@ -98,3 +100,53 @@ run_all old new start lanes end count is bits = record {
   bits = λ e. bits e ∙ ap (λ (past : ℕ). bit_of old e || is_between start past e) is
       ∙ sym (over_run start lanes e (bit_of old e));
 }
+
+-- places that run on one after another, halves or elements: the first so many get to all elements up to the last's
+abbrev past_last : (halves : Bool) (first n : ℕ) → ℕ
+past_last halves first n = element_named halves (first + n) + 1
+
+one_place : (halves : Bool) (first e : ℕ) → (element_named halves (first + 0) == e)
+    ≡ is_between (element_named halves first) (past_last halves first 0) e
+one_place true first e = grind (arith, nat_tests)
+one_place false first e = grind (arith, nat_tests)
+
+one_place_more : (halves : Bool) (first n e : ℕ)
+    → (is_between (element_named halves first) (past_last halves first n) e
+    || (element_named halves (first + suc n) == e))
+    ≡ is_between (element_named halves first) (past_last halves first (suc n)) e
+one_place_more true first n e = grind (arith, nat_tests)
+one_place_more false first n e = grind (arith, nat_tests)
+
+over_places : (halves : Bool) (first n e : ℕ) (old : Bool) → over_lanes set_by_lane (runs_on halves first e) (suc n) old
+    ≡ (old || is_between (element_named halves first) (past_last halves first n) e)
+over_places halves first zero e old =
+    or_if (element_named halves (first + 0) == e) old ∙ ap (λ (b : Bool). old || b) (one_place halves first e)
+over_places halves first (suc n) e old =
+    or_if (element_named halves (first + suc n) == e) (over_lanes set_by_lane (runs_on halves first e) (suc n) old)
+    ∙ ap (λ (b : Bool). b || (element_named halves (first + suc n) == e)) (over_places halves first n e old)
+    ∙ or_assoc old (is_between (element_named halves first) (past_last halves first n) e)
+    (element_named halves (first + suc n) == e)
+    ∙ ap (λ (b : Bool). old || b) (one_place_more halves first n e)
+
+pub places_set : (halves : Bool) (first n lanes count : ℕ) (old new : List ℕ) → lanes ≡ suc n
+    → element_named halves first + count ≡ past_last halves first n
+    → SetsBits (runs_to (element_named halves first)) count old new → SetsBits (runs_on halves first) lanes old new
+places_set halves first n lanes count old new more is sets = rw more (record {
+  count = sets.count;
+  bits = λ e. sets.bits e ∙ over_run (element_named halves first) count e (bit_of old e)
+      ∙ ap (λ (past : ℕ). bit_of old e || is_between (element_named halves first) past e) is
+      ∙ sym (over_places halves first n e (bit_of old e));
+})
+
+pub element_rises : (halves : Bool) (first more : ℕ) → element_named halves first ≤ element_named halves (first + more)
+element_rises true first more = omega arith
+element_rises false first more = omega arith
+
+-- no lane gets to an element before them or past them
+pub gets_outside : (halves : Bool) (first lanes e : ℕ)
+    → (e < element_named halves first) ⊎ (element_named halves (first + (lanes - 1)) < e) → (lane : ℕ) → lane < lanes
+    → runs_on halves first e lane ≡ false
+gets_outside true first lanes e (inl below) lane less = ne_eqb _ _ (λ same. omega (arith, below, same))
+gets_outside true first lanes e (inr past) lane less = ne_eqb _ _ (λ same. omega (arith, past, same, less))
+gets_outside false first lanes e (inl below) lane less = ne_eqb _ _ (λ same. omega (arith, below, same))
+gets_outside false first lanes e (inr past) lane less = ne_eqb _ _ (λ same. omega (arith, past, same, less))

@@ -1,92 +1,29 @@
 -- Lanes that look nowhere where they stored before: their marks are those of their touches in any order.
 use Rattle.std.proofs.Common.{◌≡◌, ℕ, zero, suc, ◌+◌, ◌<◌, ◌≤◌, ◌==◌, ◌&&◌, ◌||◌, not, if◌then◌else◌, min, max, Bool}
-use Rattle.std.proofs.Common.{true, false, List, [], ◌∷◌, length, drop, slice_index_or, refl, sym, subst, ◌∙◌, ap}
-use Rattle.std.proofs.{Common.{arith, map, ne_eqb, eqb-true, Option, Some, None}, Math.Bool.{or_assoc, or-false}}
-use Rattle.std.proofs.lemmas.List.{drop_more}
+use Rattle.std.proofs.Common.{true, false, List, [], ◌∷◌, length, take, drop, refl, sym, subst, ◌∙◌, ap}
+use Rattle.std.proofs.{Common.{arith, map, Option, Some, None}, Math.Bool.{or_assoc, or-false}}
+use Rattle.std.proofs.lemmas.List.{drop_all, drop_more, Folds.{list_any_more}}
 use Rattle.array_maps.specs.{declared.access.Op.{Op}, Accesses.{Access, actions_at}}
 use Rattle.loop_core_model.specs.declared.access.Access.{Access as AccessKind, TheVariants.{Read, Write, Both, Reduce}}
 use Rattle.loop_core_model.specs.{Flags.{Flags, flags_of, flagged, no_flags}, LeastBreak.{lesser}}
 use Rattle.loop_core_model.specs.Marks.{Marks, Visit, first_number, marks_of, marks_of_one, merged}
-use Rattle.loop_core_model.{proofs.MarkLaws.{marks_merge}, specs.Effects.{EffectLog, effects_of, with_effect}}
-use Rattle.lane_stamps.specs.declared.site.Site.{Site}
+use Rattle.loop_core_model.{proofs.MarkLaws.{marks_merge}, specs.Effects.{Effect, effects_of, with_effect}}
+use Rattle.lane_stamps.specs.declared.{kind.Kind.TheVariants.{Load}, site.Site.{Site}}
 use Rattle.lane_stamps.specs.Sites.{LaneRows, done_by, has, half_named, log_of, place_of, value_of}
 use Rattle.shadow_marks.specs.{declared.planes.{Planes.{Planes}, Tested.{Tested}}, Standing.{StandAt, TestedStandAt}}
 use Rattle.shadow_marks.specs.declared.planes.Tested.TheVariants.{Lrpd as ByLrpd, Flow as ByFlow}
 use Rattle.loop_marks.specs.{Touches.{Touch, flags_after, touch_by}, Visits.{visits_below}}
 use Rattle.loop_marks.specs.LaneMarks.{LanesMarked, LanesTouch, access_kind, lane_touches}
-use Rattle.loop_marks.specs.SiteMarks.{AreUnseen, IsApart, IsUnseen, SitesMarked, TestedMarked, is_touched_by, kept}
+use Rattle.loop_marks.specs.SiteMarks.{AreUnseen, FlowKeeps, IsApart, SitesMarked, gets_at, is_touched_by, kept}
+use Rattle.loop_marks.specs.SiteMarks.{touches_at, touches_in}
 use Rattle.loop_marks.specs.SiteMarks.{kind_is_plain, kind_looks, kind_reduces_by, kind_writes, over_lanes, set_by_lane}
-use Rattle.loop_marks.proofs.LaneLaws.{flags_more, kinds_are}
+use Rattle.loop_marks.proofs.{LaneLaws.{flags_more, kinds_are}, SiteLaws.{touched_is}}
 
--- one site more, of those that were compared
-pub unseen_next : (rows : LaneRows) (lanes : ℕ) (site : Site) (later : List Site) (k : ℕ) (d : Site) → k < length later
-    → (IsUnseen rows lanes site (drop k later) → IsUnseen rows lanes site later)
-    → (kind_looks (access_kind (slice_index_or later k d).kind) ≡ true → (lane : ℕ) → lane < lanes
-    → IsApart rows lane site (slice_index_or later k d))
-    → IsUnseen rows lanes site (drop (k + 1) later) → IsUnseen rows lanes site later
-unseen_next rows lanes site later k d inside before here rest = before (rw (drop_more later k d inside) (here, rest))
-
-pub all_unseen_next : (rows : LaneRows) (lanes : ℕ) (sites : List Site) (k : ℕ) (d : Site) → k < length sites
-    → (AreUnseen rows lanes (drop k sites) → AreUnseen rows lanes sites)
-    → (kind_looks (access_kind (slice_index_or sites k d).kind) ≡ false
-    → IsUnseen rows lanes (slice_index_or sites k d) (drop (k + 1) sites))
-    → AreUnseen rows lanes (drop (k + 1) sites) → AreUnseen rows lanes sites
-all_unseen_next rows lanes sites k d inside before here rest = before (rw (drop_more sites k d inside) (here, rest))
-
--- nothing looks at an element that was written, without a look, before
-abbrev SeesNoWrite : List Touch → Type 0
-SeesNoWrite [] = Unit {0}
-SeesNoWrite (touch ∷ touches) =
-    (kind_looks touch.kind ≡ false → is_touched_by kind_looks touch.element touches ≡ false) × SeesNoWrite touches
-
--- so a lane sees nothing that it stored
-module _ (rows : LaneRows) (lanes lane : ℕ) (below : lane < lanes) where
-  not_looked : (site : Site) → has rows site lane ≡ true → (sites : List Site) → IsUnseen rows lanes site sites
-      → is_touched_by kind_looks (done_by rows site lane).element (lane_touches (log_of sites rows) lane) ≡ false
-  not_looked site there [] unseen = refl
-  not_looked site there (other ∷ others) unseen =
-      go (has rows other lane) refl (not_looked site there others unseen.1)
-    where
-      looked : Bool
-      looked = is_touched_by kind_looks (done_by rows site lane).element (lane_touches (log_of others rows) lane)
-
-      here : (b : Bool) → kind_looks (touch_by (done_by rows other lane)).kind ≡ b → has rows other lane ≡ true
-          → (((done_by rows other lane).element == (done_by rows site lane).element) && b) ≡ false
-      here true looks gets =
-          ap (λ (b : Bool). b && true) (ne_eqb _ _ (λ same. unseen.0
-          (ap kind_looks (kinds_are other.kind (half_named (place_of rows other lane)) (value_of rows other lane))
-          ∙ looks) lane below there gets (sym same)))
-      here false looks gets = none ((done_by rows other lane).element == (done_by rows site lane).element)
-        where
-          none : (b : Bool) → (b && false) ≡ false
-          none true = refl
-          none false = refl
-
-      go : (b : Bool) → has rows other lane ≡ b → looked ≡ false
-          → is_touched_by kind_looks (done_by rows site lane).element (map touch_by (with_effect
-          (if b then Some (done_by rows other lane) else None) (effects_of (log_of others rows) lane))) ≡ false
-      go true gets rest =
-          ap (λ (b : Bool). b || looked) (here (kind_looks (touch_by (done_by rows other lane)).kind) refl gets) ∙ rest
-      go false gets rest = rest
-
-  sees_no_write : (sites : List Site) → AreUnseen rows lanes sites
-      → SeesNoWrite (lane_touches (log_of sites rows) lane)
-  sees_no_write [] unseen = tt
-  sees_no_write (site ∷ sites) unseen =
-      go (has rows site lane) (λ there. not_looked site there sites) (sees_no_write sites unseen.1)
-    where
-      go : (b : Bool) → (b ≡ true → IsUnseen rows lanes site sites
-          → is_touched_by kind_looks (done_by rows site lane).element (lane_touches (log_of sites rows) lane) ≡ false)
-          → SeesNoWrite (lane_touches (log_of sites rows) lane)
-          → SeesNoWrite (map touch_by (with_effect (if b then Some (done_by rows site lane) else None)
-          (effects_of (log_of sites rows) lane)))
-      go true none rest = (
-        (λ writes. none refl (unseen.0
-            (ap kind_looks (kinds_are site.kind (half_named (place_of rows site lane)) (value_of rows site lane))
-            ∙ writes))),
-        rest,
-      )
-      go false none rest = rest
+-- a lane doesn't look at an element at a site that is apart from one where it gets to it
+pub untouched_apart : (rows : LaneRows) (e lane : ℕ) (site other : Site)
+    → (kind_looks (access_kind other.kind) ≡ true → IsApart rows lane site other) → gets_at rows e lane site ≡ true
+    → touches_at rows other kind_looks e lane ≡ false
+untouched_apart rows e lane site other apart there = grind (arith, apart, there)
 
 -- flags that each touch sets by itself
 part_after : (part : Flags → Bool) (holds : AccessKind → Bool)
@@ -130,10 +67,7 @@ by_law op flags Write = sym (or-false (flags.by op))
 by_law op flags Both = sym (or-false (flags.by op))
 by_law op flags (Reduce other) = refl
 
--- a look counts where nothing was written; but after a write that wasn't a look there is none
-abbrev MayLook : Flags → (e : ℕ) → List Touch → Type 0
-MayLook flags e touches = flags.wrote ≡ true → flags.looked ≡ false → is_touched_by kind_looks e touches ≡ false
-
+-- a look counts where nothing was written, or it had looked before
 looks_law : (flags : Flags) (kind : AccessKind) → kind_looks kind ≡ true
     → (flagged flags kind).looked ≡ (flags.looked || not flags.wrote)
 looks_law flags Read looks = refl
@@ -148,37 +82,103 @@ unlooked_law flags Write looks = refl
 unlooked_law flags Both looks = absurd (cc)
 unlooked_law flags (Reduce op) looks = absurd (cc)
 
-looked_after : (flags : Flags) (e : ℕ) (touches : List Touch) → SeesNoWrite touches → MayLook flags e touches
-    → (flags_after flags e touches).looked ≡ (flags.looked || is_touched_by kind_looks e touches)
-looked_after flags e [] sees may = sym (or-false flags.looked)
-looked_after flags e (touch ∷ touches) sees may =
-    go (touch.element == e) refl (kind_looks touch.kind) refl may (λ now. looked_after now e touches sees.1)
-  where
-    rest : Bool
-    rest = is_touched_by kind_looks e touches
+module _ (rows : LaneRows) (lanes e lane : ℕ) (below : lane < lanes) where
+  -- the lane looks at no element that it stored before, and hadn't looked at till more
+  abbrev SeesNoWrite : (seen : Bool) → List Site → Type 0
+  SeesNoWrite seen [] = Unit {0}
+  SeesNoWrite seen (site ∷ sites) =
+      (kind_looks (access_kind site.kind) ≡ false → gets_at rows e lane site ≡ true → seen ≡ false
+      → touches_in rows sites kind_looks e lane ≡ false)
+      × SeesNoWrite (seen || touches_at rows site kind_looks e lane) sites
 
-    -- a look that counts, as no write without one came before
-    counts : (wrote looked : Bool) → (wrote ≡ true → looked ≡ false → true ≡ false) → (looked || not wrote) ≡ true
-    counts true true none = refl
-    counts true false none = sym (none refl refl)
-    counts false true none = refl
-    counts false false none = refl
+  sees_no_write : (sites : List Site) → AreUnseen rows lanes sites → (n k : ℕ) → length sites ≡ k + n
+      → SeesNoWrite (touches_in rows (take k sites) kind_looks e lane) (drop k sites)
+  sees_no_write sites unseen zero k all = rw (drop_all k sites (omega (arith, all))) tt
+  sees_no_write sites unseen (suc n) k all =
+      let d : Site = record { kind = Load; rank = 0; watched = false; mask = 0; places = 0; value = 0 } in
+      let inside : k < length sites = omega (arith, all) in
+      rw (drop_more sites k d inside) (
+        (λ blind gets. unseen k d inside blind e lane below gets),
+        subst (λ (seen : Bool). SeesNoWrite seen (drop (k + 1) sites))
+            (list_any_more (λ site. touches_at rows site kind_looks e lane) sites k d inside)
+            (sees_no_write sites unseen n (k + 1) (omega (arith, all))),
+      )
 
-    go : (b : Bool) → (touch.element == e) ≡ b → (l : Bool) → kind_looks touch.kind ≡ l
-        → (flags.wrote ≡ true → flags.looked ≡ false → ((b && l) || rest) ≡ false)
-        → ((now : Flags) → MayLook now e touches → (flags_after now e touches).looked ≡ (now.looked || rest))
-        → (flags_after (if b then flagged flags touch.kind else flags) e touches).looked
-        ≡ (flags.looked || ((b && l) || rest))
-    go true at true looks none more =
-        let counted : (flagged flags touch.kind).looked ≡ true =
-        looks_law flags touch.kind looks ∙ counts flags.wrote flags.looked none in
-        more (flagged flags touch.kind) (λ wrote unlooked. absurd (cc))
-        ∙ ap (λ (b : Bool). b || rest) counted ∙ sym (or_true flags.looked)
-    go true at false looks none more =
-        more (flagged flags touch.kind) (λ wrote unlooked.
-        subst (λ (n : ℕ). is_touched_by kind_looks n touches ≡ false) (eqb-true touch.element e at) (sees.0 looks))
-        ∙ ap (λ (b : Bool). b || rest) (unlooked_law flags touch.kind looks)
-    go false at l looks none more = more flags none
+  looked_after : (sites : List Site) (flags : Flags) (seen : Bool) → flags.looked ≡ seen → SeesNoWrite seen sites
+      → (flags.wrote ≡ true → seen ≡ false → touches_in rows sites kind_looks e lane ≡ false)
+      → (flags_after flags e (lane_touches (log_of sites rows) lane)).looked
+      ≡ (seen || touches_in rows sites kind_looks e lane)
+  looked_after [] flags seen is sees may = is ∙ sym (or-false seen)
+  looked_after (site ∷ sites) flags seen is sees may =
+      go (has rows site lane) sees.0 may (λ now law none. looked_after sites now _ law sees.1 none)
+    where
+      rest : Bool
+      rest = touches_in rows sites kind_looks e lane
+
+      kind : AccessKind
+      kind = access_kind site.kind
+
+      effect : Effect
+      effect = done_by rows site lane
+
+      after : Flags → Bool
+      after now = (flags_after now e (lane_touches (log_of sites rows) lane)).looked
+
+      -- what is so after the site, where the lane looks at the element there, or doesn't
+      Then : (looks : Bool) → Type 0
+      Then looks = (now : Flags) → now.looked ≡ (seen || looks)
+          → (now.wrote ≡ true → (seen || looks) ≡ false → rest ≡ false) → after now ≡ ((seen || looks) || rest)
+
+      -- a look that counts, as no write without one came before
+      counts : (wrote seen : Bool) → (wrote ≡ true → seen ≡ false → true ≡ false) → (seen || not wrote) ≡ true
+      counts true true none = refl
+      counts true false none = sym (none refl refl)
+      counts false true none = refl
+      counts false false none = refl
+
+      there_by : (looks : Bool) → kind_looks kind ≡ looks → (looks ≡ false → seen ≡ false → rest ≡ false)
+          → (flags.wrote ≡ true → seen ≡ false → (looks || rest) ≡ false) → Then looks
+          → after (flagged flags kind) ≡ (seen || (looks || rest))
+      there_by true looks blind none more =
+          more (flagged flags kind)
+          (looks_law flags kind looks ∙ ap (λ (b : Bool). b || not flags.wrote) is ∙ counts flags.wrote seen none
+          ∙ sym (or_true seen))
+          (λ wrote unseen. absurd (cc (sym (or_true seen) ∙ unseen)))
+          ∙ or_assoc seen true rest
+      there_by false looks blind none more =
+          more (flagged flags kind) (unlooked_law flags kind looks ∙ is ∙ sym (or-false seen))
+          (λ wrote unseen. blind refl (sym (or-false seen) ∙ unseen))
+          ∙ or_assoc seen false rest
+
+      at : (gets : Bool) → (kind_looks kind ≡ false → gets ≡ true → seen ≡ false → rest ≡ false)
+          → (flags.wrote ≡ true → seen ≡ false → ((gets && kind_looks kind) || rest) ≡ false)
+          → Then (gets && kind_looks kind)
+          → after (if gets then flagged flags kind else flags) ≡ (seen || ((gets && kind_looks kind) || rest))
+      at true blind none more = there_by (kind_looks kind) refl (λ looks. blind looks refl) none more
+      at false blind none more =
+          more flags (is ∙ sym (or-false seen)) (λ wrote unseen. none wrote (sym (or-false seen) ∙ unseen))
+          ∙ or_assoc seen false rest
+
+      go : (there : Bool) → (kind_looks kind ≡ false → (there && (effect.element == e)) ≡ true → seen ≡ false
+          → rest ≡ false)
+          → (flags.wrote ≡ true → seen ≡ false
+          → (((there && (effect.element == e)) && kind_looks kind) || rest) ≡ false)
+          → Then ((there && (effect.element == e)) && kind_looks kind)
+          → (flags_after flags e (map touch_by (with_effect (if there then Some effect else None)
+          (effects_of (log_of sites rows) lane)))).looked
+          ≡ (seen || (((there && (effect.element == e)) && kind_looks kind) || rest))
+      go true blind none more =
+          ap (λ (k : AccessKind). after (if effect.element == e then flagged flags k else flags))
+          (sym (kinds_are site.kind (half_named (place_of rows site lane)) (value_of rows site lane)))
+          ∙ at (effect.element == e) blind none more
+      go false blind none more = at false blind none more
+
+  pub looked_by : (sites : List Site) → AreUnseen rows lanes sites
+      → (flags_after no_flags e (lane_touches (log_of sites rows) lane)).looked
+      ≡ touches_in rows sites kind_looks e lane
+  looked_by sites unseen =
+      looked_after sites no_flags false refl (sees_no_write sites unseen (length sites) 0 (omega arith))
+      (λ wrote. absurd (cc))
 
 -- marks after a lane
 pub or_if : (does before : Bool) → (if does then true else before) ≡ (before || does)
@@ -200,16 +200,24 @@ last_more : (looks : Bool) (last index : ℕ)
 last_more true last index = refl
 last_more false last index = let e : last ≡ max last 0 = omega arith in e
 
-module _ (log : EffectLog) (index lanes : ℕ) (made : ℕ → List Access) (touch : LanesTouch log index lanes made)
-    (sees : (lane : ℕ) → lane < lanes → SeesNoWrite (lane_touches log lane)) (e : ℕ) where
+module _ (rows : LaneRows) (sites : List Site) (index lanes : ℕ) (made : ℕ → List Access)
+    (touch : LanesTouch (log_of sites rows) index lanes made) (unseen : AreUnseen rows lanes sites) (e : ℕ) where
   abbrev marks_at : ℕ → Marks
   marks_at n = marks_of (visits_below made (index + n) e)
 
   abbrev flags_by : ℕ → Flags
-  flags_by lane = flags_after no_flags e (lane_touches log lane)
+  flags_by lane = flags_after no_flags e (lane_touches (log_of sites rows) lane)
 
   abbrev does : (AccessKind → Bool) → ℕ → Bool
-  does holds lane = is_touched_by holds e (lane_touches log lane)
+  does holds lane = touches_in rows sites holds e lane
+
+  flag_by : (part : Flags → Bool) (holds : AccessKind → Bool)
+      → ((flags : Flags) (kind : AccessKind) → part (flagged flags kind) ≡ (part flags || holds kind))
+      → part no_flags ≡ false → (lane : ℕ) → part (flags_by lane) ≡ does holds lane
+  flag_by part holds law none lane =
+      part_after part holds law no_flags e (lane_touches (log_of sites rows) lane)
+      ∙ ap (λ (b : Bool). b || is_touched_by holds e (lane_touches (log_of sites rows) lane)) none
+      ∙ touched_is rows holds e lane sites
 
   marks_first : marks_at 0 ≡ marks_of (visits_below made index e)
   marks_first = let same : index + 0 ≡ index = omega arith in
@@ -224,9 +232,6 @@ module _ (log : EffectLog) (index lanes : ℕ) (made : ℕ → List Access) (tou
       ap (λ (m : ℕ). marks_of (visits_below made m e)) next
       ∙ marks_merge.both (visits_below made (index + n) e) (visit ∷ [])
       ∙ ap (merged (marks_at n)) (marks_merge.one visit ∙ ap (marks_of_one (index + n)) (sym same))
-
-  looked_by : (lane : ℕ) → lane < lanes → (flags_by lane).looked ≡ does kind_looks lane
-  looked_by lane less = looked_after no_flags e (lane_touches log lane) (sees lane less) (λ wrote. absurd (cc))
 
   -- bits, and numbers
   bit_after : (part : Marks → Bool) (of_flags : Flags → Bool) (holds : AccessKind → Bool)
@@ -250,7 +255,7 @@ module _ (log : EffectLog) (index lanes : ℕ) (made : ℕ → List Access) (tou
       (first_after small old start n (omega (arith, few)))
       ∙ first_more (does kind_writes n) (marks_at n).first (index + n) (omega (arith, few, small))
       ∙ ap (λ (b : Bool). first_number (lesser (marks_at n).first (if b then Some (index + n) else None)))
-      (sym (part_after (λ f. f.wrote) kind_writes writes_law no_flags e (lane_touches log n)))
+      (sym (flag_by (λ f. f.wrote) kind_writes writes_law refl n))
       ∙ sym (ap (λ (m : Marks). first_number m.first) (marks_next n (omega (arith, few))))
 
   last_after : (old : ℕ) → old ≡ (marks_at 0).last
@@ -261,42 +266,41 @@ module _ (log : EffectLog) (index lanes : ℕ) (made : ℕ → List Access) (tou
       (last_after old start n (omega (arith, few)))
       ∙ last_more (does kind_looks n) (marks_at n).last (index + n)
       ∙ ap (λ (b : Bool). max (marks_at n).last (if b then index + n + 1 else 0))
-      (sym (looked_by n (omega (arith, few))))
+      (sym (looked_by rows lanes e n (omega (arith, few)) sites unseen))
       ∙ sym (ap (λ (m : Marks). m.last) (marks_next n (omega (arith, few))))
 
-  tested_after : index + lanes ≤ 4294967295 → (old new : Tested) → TestedMarked log index lanes old new
+  tested_after : index + lanes ≤ 4294967295 → (old new : Tested) → FlowKeeps (touches_in rows sites) lanes index old new
       → TestedStandAt old e (marks_of (visits_below made index e)) → TestedStandAt new e (marks_at lanes)
   tested_after small (ByFlow old) (ByFlow new) marked stand = record {
-    first = marked.first e ∙ first_after small _ (stand.first ∙ sym (ap (λ (m : Marks). first_number m.first)
+    first = marked.0.numbers e ∙ first_after small _ (stand.first ∙ sym (ap (λ (m : Marks). first_number m.first)
         marks_first)) lanes (omega arith);
-    last = marked.last e ∙ last_after _ (stand.last ∙ sym (ap (λ (m : Marks). m.last) marks_first)) lanes
+    last = marked.1.numbers e ∙ last_after _ (stand.last ∙ sym (ap (λ (m : Marks). m.last) marks_first)) lanes
         (omega arith);
   }
   tested_after small (ByFlow old) (ByLrpd new) marked stand = absurd marked
   tested_after small (ByLrpd old) (ByFlow new) marked stand = absurd marked
   tested_after small (ByLrpd old) (ByLrpd new) marked stand = absurd marked
 
-  stand_after : index + lanes ≤ 4294967295 → (old new : Planes) → SitesMarked log index lanes old new
-      → StandAt old e (marks_of (visits_below made index e)) → StandAt new e (marks_at lanes)
+  stand_after : index + lanes ≤ 4294967295 → (old new : Planes)
+      → SitesMarked (touches_in rows sites) index lanes old new → StandAt old e (marks_of (visits_below made index e)) → StandAt new e (marks_at lanes)
   stand_after small old new marked stand = record {
-    plain = marked.plain e
+    plain = marked.plain.bits e
         ∙ bit_after (λ m. m.plain) (λ f. f.plain) kind_is_plain (λ a i f. refl)
-        (λ lane less. part_after (λ f. f.plain) kind_is_plain plain_law no_flags e (lane_touches log lane)) _
+        (λ lane less. flag_by (λ f. f.plain) kind_is_plain plain_law refl lane) _
         (stand.plain ∙ sym (ap (λ (m : Marks). m.plain) marks_first)) lanes (omega arith);
-    by = λ op. marked.by op e
+    by = λ op. (marked.by op).bits e
         ∙ bit_after (λ m. m.by op) (λ f. f.by op) (kind_reduces_by op) (λ a i f. refl)
-        (λ lane less. part_after (λ f. f.by op) (kind_reduces_by op) (by_law op) no_flags e (lane_touches log lane)) _
+        (λ lane less. flag_by (λ f. f.by op) (kind_reduces_by op) (by_law op) refl lane) _
         (stand.by op ∙ sym (ap (λ (m : Marks). m.by op) marks_first)) lanes (omega arith);
     tested = tested_after small old.tested new.tested marked.tested stand.tested;
   }
 
 -- so planes get the marks of the lanes
 pub lanes_marked : (sites : List Site) (rows : LaneRows) (index lanes : ℕ) (old new : Planes)
-    → index + lanes ≤ 4294967295 → AreUnseen rows lanes sites → SitesMarked (log_of sites rows) index lanes old new
+    → index + lanes ≤ 4294967295 → AreUnseen rows lanes sites → SitesMarked (touches_in rows sites) index lanes old new
     → LanesMarked (log_of sites rows) index lanes old new
 lanes_marked sites rows index lanes old new small unseen marked made touch stand = record {
   whole = marked.shape.whole;
-  marks = λ e inside. stand_after (log_of sites rows) index lanes made touch
-      (λ lane less. sees_no_write rows lanes lane less sites unseen) e small old new marked
+  marks = λ e inside. stand_after rows sites index lanes made touch unseen e small old new marked
       (stand.marks e (let same = marked.shape.elements in omega (arith, inside, same)));
 }

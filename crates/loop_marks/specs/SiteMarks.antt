@@ -1,17 +1,18 @@
 -- Marks of lanes for the flow test, site by site.
-use Rattle.std.specs.Prelude.{◌≡◌, ◌≢◌, ℕ, zero, suc, ◌+◌, ◌<◌, ◌≤◌, ◌==◌, ◌&&◌, Bool, true, false, List, [], ◌∷◌}
-use Rattle.std.specs.{Prelude.{length, slice_index, if◌then◌else◌, min, max}, List.{list_any}}
+use Rattle.std.specs.Prelude.{◌≡◌, ◌≢◌, ℕ, zero, suc, ◌+◌, ◌<◌, ◌≤◌, ◌==◌, ◌&&◌, Bool, true, false, List}
+use Rattle.std.specs.Prelude.{length, slice_index, slice_index_or, if◌then◌else◌, min, max, take, drop}
+use Rattle.std.specs.List.{list_any}
 use Rattle.array_maps.specs.declared.access.Op.{Op}
 use Rattle.loop_core_model.specs.declared.access.Access.{Access as AccessKind, TheVariants.{Read, Write, Both, Reduce}}
-use Rattle.loop_core_model.specs.{Actions.{is_same}, Planes.{bit_of}, Effects.{EffectLog}}
+use Rattle.loop_core_model.specs.{Actions.{is_same}, Planes.{bit_of}}
 use Rattle.lane_rows.specs.{declared.{mask.Mask.{Mask}, places.Places.{Places}}, Rows.{is_in, place_at}}
 use Rattle.lane_stamps.specs.declared.site.Site.{Site}
-use Rattle.lane_stamps.specs.Sites.{LaneRows, LiesBelow, element_named, has, is_of_halves, place_of}
-use Rattle.shadow_marks.specs.declared.planes.{FlowPlanes.{FlowPlanes}, Planes.{Planes}, Tested.{Tested}}
+use Rattle.lane_stamps.specs.Sites.{LaneRows, LiesBelow, element_named, has, is_of_halves, mask_of, place_of, places_of}
+use Rattle.shadow_marks.specs.declared.planes.{Planes.{Planes}, Tested.{Tested}}
 use Rattle.shadow_marks.specs.{declared.planes.Tested.TheVariants.{Lrpd as ByLrpd, Flow as ByFlow}, Ending.{KeepsShape}}
 use Rattle.shadow_marks.specs.Standing.{plane_by}
 use Rattle.loop_marks.specs.declared.by_site.{Elements.{Elements, TheVariants.{One, Run, Any}}, Reached.{Reached}}
-use Rattle.loop_marks.specs.{Touches.{Touch}, LaneMarks.{access_kind, lane_touches}}
+use Rattle.loop_marks.specs.{Touches.{Touch}, LaneMarks.{access_kind}}
 
 -- whether an access of a kind writes; looks; is plain; reduces by an operator
 abbrev pub kind_writes : AccessKind → Bool
@@ -62,7 +63,7 @@ gets_to halves mask places e lane = is_in mask lane && (element_named halves (pl
 
 -- so it does, if something is done
 abbrev pub reaches : (halves : Bool) → Mask → Places → (done : Bool) → (e lane : ℕ) → Bool
-reaches halves mask places done e lane = done && gets_to halves mask places e lane
+reaches halves mask places done e lane = gets_to halves mask places e lane && done
 
 abbrev pub reached_by : Reached → (done : Bool) → (e lane : ℕ) → Bool
 reached_by reached = reaches reached.halves reached.mask.now reached.places.now
@@ -71,14 +72,20 @@ reached_by reached = reaches reached.halves reached.mask.now reached.places.now
 abbrev pub AreBelow : (count lanes : ℕ) (halves : Bool) → Mask → Places → Type 0
 AreBelow count lanes halves mask places = (lane : ℕ) → lane < lanes → LiesBelow count halves mask places lane
 
--- all lanes of a mask get to elements that run on one after another, from a first one on
+-- lanes get to elements that run on one after another, from a first one on
 abbrev pub runs_to : (start e lane : ℕ) → Bool
 runs_to start e lane = start + lane == e
 
-pub record IsRun (count start : ℕ) (halves : Bool) (mask : Mask) (places : Places) (lanes : ℕ) : Type 0 where
-  pub within : start + lanes ≤ count
-  pub small : start + lanes < 4294967296
-  pub each : (e lane : ℕ) → lane < lanes → gets_to halves mask places e lane ≡ runs_to start e lane
+-- or to places, which are halves or elements
+abbrev pub runs_on : (by_halves : Bool) (first e lane : ℕ) → Bool
+runs_on by_halves first e lane = element_named by_halves (first + lane) == e
+
+-- so do all lanes of a mask
+pub record IsRun (count : ℕ) (by_halves : Bool) (first : ℕ) (halves : Bool) (mask : Mask) (places : Places) (lanes : ℕ)
+    : Type 0 where
+  pub within : (lane : ℕ) → lane < lanes → element_named by_halves (first + lane) < count
+  pub small : first + lanes < 4294967296
+  pub each : (e lane : ℕ) → lane < lanes → gets_to halves mask places e lane ≡ runs_on by_halves first e lane
 
 -- or those of a mask all to one element
 abbrev pub is_at : Mask → (at e lane : ℕ) → Bool
@@ -91,22 +98,22 @@ pub record IsOne (count at : ℕ) (halves : Bool) (mask : Mask) (places : Places
 -- elements below a number lie so
 abbrev pub AreElements : (count : ℕ) → Elements → (halves : Bool) → Mask → Places → (lanes : ℕ) → Type 0
 AreElements count (One at) halves mask places lanes = IsOne count at halves mask places lanes
-AreElements count (Run start) halves mask places lanes = IsRun count start halves mask places lanes
+AreElements count (Run by_halves first) halves mask places lanes = IsRun count by_halves first halves mask places lanes
 AreElements count Any halves mask places lanes = Unit {0}
 
--- a lane is the first of those that a mask has, or the last
-pub record IsEnd (mask : Mask) (greatest : Bool) (lanes end : ℕ) : Type 0 where
-  pub there : is_in mask end ≡ true
+-- a lane is the first of those that do something, or the last
+pub record IsEnd (does : ℕ → Bool) (greatest : Bool) (lanes end : ℕ) : Type 0 where
+  pub there : does end ≡ true
   pub within : end < lanes
-  pub first : greatest ≡ false → (lane : ℕ) → lane < lanes → is_in mask lane ≡ true → end ≤ lane
-  pub last : greatest ≡ true → (lane : ℕ) → lane < lanes → is_in mask lane ≡ true → lane ≤ end
+  pub first : greatest ≡ false → (lane : ℕ) → lane < lanes → does lane ≡ true → end ≤ lane
+  pub last : greatest ≡ true → (lane : ℕ) → lane < lanes → does lane ≡ true → lane ≤ end
 
 -- lanes get to elements below a number, which lie as is said of them
 pub record AreReached (count : ℕ) (reached : Reached) : Type 0 where
   pub room : reached.lanes ≤ 512
   pub below : AreBelow count reached.lanes reached.halves reached.mask.now reached.places.now
-  pub first : IsEnd reached.mask.now false reached.lanes reached.first
-  pub last : IsEnd reached.mask.now true reached.lanes reached.last
+  pub first : IsEnd (is_in reached.mask.now) false reached.lanes reached.first
+  pub last : IsEnd (is_in reached.mask.now) true reached.lanes reached.last
   pub elements : AreElements count reached.elements reached.halves reached.mask.now reached.places.now reached.lanes
 
 -- numbers after each lane kept its own in the elements that it gets to
@@ -127,42 +134,38 @@ HaveNumbers reached (ByFlow planes) =
     AreReached (length planes.first.items) reached × AreReached (length planes.last.items) reached
 HaveNumbers reached (ByLrpd planes) = ⊥
 
--- numbers of planes after each lane accessed its element once: where it writes and where it looks
-abbrev pub FlowKeeps : AccessKind → (does : (done : Bool) (e lane : ℕ) → Bool) → (lanes index : ℕ) → (old new : Tested)
-    → Type 0
-FlowKeeps access does lanes index (ByFlow old) (ByFlow new) =
-    KeepsNumbers false (does (kind_writes access)) lanes index old.first.items new.first.items
-    × KeepsNumbers true (does (kind_looks access)) lanes index old.last.items new.last.items
-FlowKeeps access does lanes index (ByFlow old) (ByLrpd new) = ⊥
-FlowKeeps access does lanes index (ByLrpd old) (ByFlow new) = ⊥
-FlowKeeps access does lanes index (ByLrpd old) (ByLrpd new) = ⊥
+-- whether a lane touches an element by an access of which something holds
+abbrev pub Touching : Type 0
+Touching = (holds : AccessKind → Bool) (e lane : ℕ) → Bool
 
--- numbers of planes after the lanes: at each element, the least index that writes it, and one more than the greatest
--- that looks at it
-pub record FlowMarked (log : EffectLog) (index lanes : ℕ) (old new : FlowPlanes) : Type 0 where
-  pub first : (e : ℕ) → slice_index new.first.items e ≡ over_lanes (kept false index)
-      (λ lane. is_touched_by kind_writes e (lane_touches log lane)) lanes (slice_index old.first.items e)
-  pub last : (e : ℕ) → slice_index new.last.items e ≡ over_lanes (kept true index)
-      (λ lane. is_touched_by kind_looks e (lane_touches log lane)) lanes (slice_index old.last.items e)
-
--- so of planes for the flow test
-abbrev pub TestedMarked : (log : EffectLog) (index lanes : ℕ) (old new : Tested) → Type 0
-TestedMarked log index lanes (ByFlow old) (ByFlow new) = FlowMarked log index lanes old new
-TestedMarked log index lanes (ByFlow old) (ByLrpd new) = ⊥
-TestedMarked log index lanes (ByLrpd old) (ByFlow new) = ⊥
-TestedMarked log index lanes (ByLrpd old) (ByLrpd new) = ⊥
-
--- bits of a plane after the lanes: those of the elements that they touch so are set
-abbrev pub BitsMarked : (holds : AccessKind → Bool) (log : EffectLog) (lanes : ℕ) (old new : List ℕ) → Type 0
-BitsMarked holds log lanes old new = (e : ℕ) → bit_of new e
-    ≡ over_lanes set_by_lane (λ lane. is_touched_by holds e (lane_touches log lane)) lanes (bit_of old e)
+-- numbers of planes for the flow test after what lanes touch: at each element, the least index that writes it, and one
+-- more than the greatest that looks at it
+abbrev pub FlowKeeps : Touching → (lanes index : ℕ) → (old new : Tested) → Type 0
+FlowKeeps does lanes index (ByFlow old) (ByFlow new) =
+    KeepsNumbers false (does kind_writes) lanes index old.first.items new.first.items
+    × KeepsNumbers true (does kind_looks) lanes index old.last.items new.last.items
+FlowKeeps does lanes index (ByFlow old) (ByLrpd new) = ⊥
+FlowKeeps does lanes index (ByLrpd old) (ByFlow new) = ⊥
+FlowKeeps does lanes index (ByLrpd old) (ByLrpd new) = ⊥
 
 -- all planes
-pub record SitesMarked (log : EffectLog) (index lanes : ℕ) (old new : Planes) : Type 0 where
+pub record SitesMarked (does : Touching) (index lanes : ℕ) (old new : Planes) : Type 0 where
   pub shape : KeepsShape old new
-  pub plain : BitsMarked kind_is_plain log lanes old.plain.items new.plain.items
-  pub by : (op : Op) → BitsMarked (kind_reduces_by op) log lanes (plane_by old.operators op) (plane_by new.operators op)
-  pub tested : TestedMarked log index lanes old.tested new.tested
+  pub plain : SetsBits (does kind_is_plain) lanes old.plain.items new.plain.items
+  pub by : (op : Op) → SetsBits (does (kind_reduces_by op)) lanes (plane_by old.operators op)
+      (plane_by new.operators op)
+  pub tested : FlowKeeps does lanes index old.tested new.tested
+
+-- what is so of all that marks say of accesses
+pub record EachMark (P : (AccessKind → Bool) → Type 0) : Type 0 where
+  pub writes : P kind_writes
+  pub looks : P kind_looks
+  pub plain : P kind_is_plain
+  pub by : (op : Op) → P (kind_reduces_by op)
+
+-- accesses of a kind leave all marks that those of another do
+abbrev pub Covers : (kind other : AccessKind) → Type 0
+Covers kind other = EachMark (λ holds. holds other ≡ true → holds kind ≡ true)
 
 -- a lane doesn't get to one element at two sites
 abbrev pub IsApart : LaneRows → (lane : ℕ) → (first second : Site) → Type 0
@@ -170,15 +173,41 @@ IsApart rows lane first second = has rows first lane ≡ true → has rows secon
     → element_named (is_of_halves first.kind) (place_of rows first lane)
     ≢ element_named (is_of_halves second.kind) (place_of rows second lane)
 
--- no lane looks, at one of some sites, at an element that it gets to at another
-abbrev pub IsUnseen : LaneRows → (lanes : ℕ) → Site → List Site → Type 0
-IsUnseen rows lanes site [] = Unit {0}
-IsUnseen rows lanes site (other ∷ others) =
-    (kind_looks (access_kind other.kind) ≡ true → (lane : ℕ) → lane < lanes → IsApart rows lane site other)
-    × IsUnseen rows lanes site others
+-- a lane gets to an element at a site
+abbrev pub gets_at : LaneRows → (e lane : ℕ) → Site → Bool
+gets_at rows e lane site = gets_to (is_of_halves site.kind) (mask_of rows site) (places_of rows site) e lane
 
--- no lane looks at an element at a site where it stored at an earlier one
+-- a lane touches an element at a site by an access of which this holds
+abbrev pub touches_at : LaneRows → Site → Touching
+touches_at rows site holds e lane = gets_at rows e lane site && holds (access_kind site.kind)
+
+-- so it does at one of some sites
+abbrev pub touches_in : LaneRows → List Site → Touching
+touches_in rows sites holds e lane = list_any (λ site. touches_at rows site holds e lane) sites
+
+-- accesses of which this holds add nothing, at the elements that lanes get to at a site, to what they touch at others
+abbrev pub AddsNothing : LaneRows → (lanes : ℕ) → AccessKind → Site → (others : List Site) → (AccessKind → Bool)
+    → Type 0
+AddsNothing rows lanes access site others holds = (e lane : ℕ) → lane < lanes → gets_at rows e lane site ≡ true
+    → holds access ≡ true → touches_in rows others holds e lane ≡ true
+
+-- lanes get at another site to whatever element they get to at a site
+abbrev pub GoesWith : LaneRows → (lanes : ℕ) → (site other : Site) → Type 0
+GoesWith rows lanes site other = (e lane : ℕ) → lane < lanes → gets_at rows e lane site ≡ true
+    → gets_at rows e lane other ≡ true
+
+-- they look there at none of some sites
+abbrev pub IsUnseen : LaneRows → (lanes : ℕ) → List Site → Site → Type 0
+IsUnseen rows lanes later site = (e lane : ℕ) → lane < lanes → gets_at rows e lane site ≡ true
+    → touches_in rows later kind_looks e lane ≡ false
+
+-- where a lane stores at a site, and looked at its element at no earlier one, it looks at it at no later one
+abbrev pub IsFree : LaneRows → (lanes : ℕ) → (before : List Site) → Site → (later : List Site) → Type 0
+IsFree rows lanes before site later = kind_looks (access_kind site.kind) ≡ false → (e lane : ℕ) → lane < lanes
+    → gets_at rows e lane site ≡ true → touches_in rows before kind_looks e lane ≡ false
+    → touches_in rows later kind_looks e lane ≡ false
+
+-- so it is at each site
 abbrev pub AreUnseen : LaneRows → (lanes : ℕ) → List Site → Type 0
-AreUnseen rows lanes [] = Unit {0}
-AreUnseen rows lanes (site ∷ sites) =
-    (kind_looks (access_kind site.kind) ≡ false → IsUnseen rows lanes site sites) × AreUnseen rows lanes sites
+AreUnseen rows lanes sites = (at : ℕ) (d : Site) → at < length sites
+    → IsFree rows lanes (take at sites) (slice_index_or sites at d) (drop (at + 1) sites)

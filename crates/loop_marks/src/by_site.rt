@@ -3,26 +3,29 @@
 ghost use Rattle.std.specs.Prelude.{◌≡◌, ℕ, ◌+◌, ◌-◌, ◌*◌, ◌%◌, ◌^◌, ◌<◌, ◌≤◌, ◌∷◌, [], true, false, length};
 ghost use Rattle.std.specs.{Prelude.{slice_index, IfNone, IfSome}, List.{All}};
 ghost use Rattle.array_maps.specs.declared.access.Op.{Op as Operator};
-ghost use Rattle.lane_rows.specs.Lanes.{MaskHas};
-ghost use Rattle.lane_stamps.specs.Sites.{HasRows, IsWithin, effect_at, effect_if, is_of_halves, log_of, shown};
+ghost use Rattle.lane_rows.specs.{Lanes.{MaskHas}, Rows.{is_in}};
+ghost use Rattle.lane_stamps.specs.Sites.{HasRows, IsWithin, element_named, is_of_halves, shown};
 ghost use Rattle.loop_core_model.specs.declared.loop_test.Test.TheVariants.{Flow};
+ghost use Rattle.shadow_marks.specs.declared.planes.Planes.{Planes as MarkedPlanes};
 ghost use Rattle.shadow_marks.specs.{Bits.{ChangesNumber, OrsBit}, Standing.{ArePlanes, EachPlane, plane_by, test_of}};
-ghost use Rattle.loop_marks.specs.LaneMarks.{access_kind};
 ghost use Rattle.loop_marks.specs.SiteMarks.{AreBelow, AreElements, AreReached, FlowKeeps, HaveNumbers, IsEnd};
 ghost use Rattle.loop_marks.specs.SiteMarks.{KeepsNumbers, SetsBits, SitesMarked, gets_to, kept, kind_is_plain};
-ghost use Rattle.loop_marks.specs.SiteMarks.{kind_looks, kind_reduces_by, kind_writes, reached_by, runs_to};
+ghost use Rattle.loop_marks.specs.SiteMarks.{reaches, touches_in};
+ghost use Rattle.loop_marks.specs.SiteMarks.{kind_looks, kind_reduces_by, kind_writes, reached_by, runs_on, runs_to};
 
+use crate::comparing::{access_of, is_covered, is_plain, looks, reduces, writes};
 use array_maps::Op;
 use lane_rows::{Mask, Places};
 use lane_stamps::{Form, Kind, Lanes, Site, element_of, form_of, place_on};
 use loop_core_model::Access;
 use shadow_marks::{OperatorPlanes, Planes, Tested};
 
-/// Marks what the first lanes of a batch did at all sites, in planes for the flow test: they are the iterations from an
-/// index on.
-pub(crate) fn mark_sites(
+/// Marks what the first lanes of a batch did at a site, in planes for the flow test that have the marks of some other
+/// sites: they are the iterations from an index on. Nothing is done where one of those sites covers it.
+pub(crate) fn mark_site(
     planes: &mut Planes,
-    sites: &[Site],
+    site: &Site,
+    others: &[Site],
     of_lanes: Lanes<'_>,
     lanes: u32,
     index: u32,
@@ -31,54 +34,26 @@ pub(crate) fn mark_sites(
     requires test { test_of planes.old.tested ≡ Flow }
     requires room { lanes ≤ 512 }
     requires indexes { index + lanes ≤ 4294967295 }
-    requires rows { All (HasRows (shown of_lanes)) sites.now }
-    requires within { All (IsWithin planes.old.elements lanes (shown of_lanes)) sites.now }
-    ensures { SitesMarked (log_of sites.now (shown of_lanes.entry)) index lanes planes.old planes.new }
-{
-    for site in sites {
-        mark_site(planes, site, of_lanes, lanes, index);
-    }
-}
-
-/// The same at one site.
-fn mark_site(planes: &mut Planes, site: &Site, of_lanes: Lanes<'_>, lanes: u32, index: u32)
-    requires whole { ArePlanes planes.old }
-    requires test { test_of planes.old.tested ≡ Flow }
-    requires room { lanes ≤ 512 }
-    requires indexes { index + lanes ≤ 4294967295 }
-    requires rows { HasRows (shown of_lanes) site.now }
+    requires row { HasRows (shown of_lanes) site.now }
+    requires rows { All (HasRows (shown of_lanes)) others.now }
     requires within { IsWithin planes.old.elements lanes (shown of_lanes) site.now }
-    ensures { SitesMarked (effect_at (shown of_lanes.entry) site.now ∷ []) index lanes planes.old planes.new }
+    ensures { (before : MarkedPlanes)
+        → SitesMarked (touches_in (shown of_lanes.entry) others.now) index lanes before planes.old
+        → SitesMarked (touches_in (shown of_lanes.entry) (site.now ∷ others.now)) index lanes before planes.new }
 {
+    let access = access_of(site.kind);
+    if is_covered(access, site, others, of_lanes, lanes) {
+        return;
+    }
     let mask = &of_lanes.masks[site.mask];
     let places = &of_lanes.places[site.places];
-    mark_accesses(planes, site.kind, mask, places, lanes, index);
-}
-
-/// Marks accesses of a kind by the lanes of a mask.
-fn mark_accesses(
-    planes: &mut Planes,
-    kind: Kind,
-    mask: &Mask,
-    places: &Places,
-    lanes: u32,
-    index: u32,
-)
-    requires whole { ArePlanes planes.old }
-    requires test { test_of planes.old.tested ≡ Flow }
-    requires room { lanes ≤ 512 }
-    requires indexes { index + lanes ≤ 4294967295 }
-    requires within { AreBelow planes.old.elements lanes (is_of_halves kind) mask.now places.now }
-    ensures { (values : ℕ → ℕ)
-        → SitesMarked (effect_if kind mask.now places.now values ∷ []) index lanes planes.old planes.new }
-{
     let Some(first) = end_of(mask, false, lanes) else {
         return;
     };
     let Some(last) = end_of(mask, true, lanes) else {
         return;
     };
-    let halves = kind.is_of_halves();
+    let halves = site.kind.is_of_halves();
     let elements = elements_of(halves, mask, places, lanes, planes.elements);
     let reached = Reached {
         halves,
@@ -89,7 +64,6 @@ fn mark_accesses(
         last,
         elements,
     };
-    let access = access_of(kind);
     set_bits(&mut planes.plain, is_plain(access), reached);
     mark_operators(&mut planes.operators, access, reached);
     mark_numbers(&mut planes.tested, access, reached, index);
@@ -100,8 +74,8 @@ fn mark_accesses(
 pub(crate) enum Elements {
     /// All lanes of the mask get to this one.
     One(usize),
-    /// All lanes get to elements that run on one after another, from this one on.
-    Run(usize),
+    /// All lanes get to places that run on one after another, which are halves or elements, from a first one on.
+    Run { halves: bool, first: u32 },
     /// Anyhow.
     Any,
 }
@@ -130,9 +104,24 @@ fn elements_of(halves: bool, mask: &Mask, places: &Places, lanes: u32, elements:
     requires { lanes ≤ 512 }
     ensures { AreElements elements result halves mask.now places.now lanes }
 {
-    match form_of(places, halves, lanes as usize, elements as usize) {
-        Form::One(place) => Elements::One(element_of(halves, place)),
-        Form::Run(first) if mask.all => Elements::Run(element_of(halves, first)),
+    let form = form_of(places, halves, lanes as usize, elements as usize);
+    match (form, places.line) {
+        (Form::One(place), _) => Elements::One(element_of(halves, place)),
+        (Form::Run(first), _) if mask.all => Elements::Run {
+            halves: false,
+            first: element_of(halves, first) as u32,
+        },
+        (Form::Any, Some(line))
+            if mask.all
+                && halves
+                && line.step == 1
+                && line.first <= u32::MAX - 1024
+                && line.first as usize + lanes as usize <= 2 * elements as usize => {
+            Elements::Run {
+                halves: true,
+                first: line.first,
+            }
+        }
         _ => Elements::Any,
     }
 }
@@ -154,7 +143,8 @@ fn mark_operators(planes: &mut OperatorPlanes, access: Access, reached: Reached<
 fn mark_numbers(tested: &mut Tested, access: Access, reached: Reached<'_>, index: u32)
     requires reached { HaveNumbers reached tested.old }
     requires indexes { index + reached.lanes ≤ 4294967295 }
-    ensures { FlowKeeps access (reached_by reached.entry) reached.entry.lanes index tested.old tested.new }
+    ensures { FlowKeeps (λ holds. reached_by reached.entry (holds access)) reached.entry.lanes index tested.old
+        tested.new }
 {
     if let Tested::Flow(planes) = tested {
         keep_numbers(&mut planes.first, writes(access), false, reached, index);
@@ -170,29 +160,32 @@ fn set_bits(words: &mut [u64], done: bool, reached: Reached<'_>)
     if done {
         match reached.elements {
             Elements::One(at) => set_bit(words, at),
-            Elements::Run(start) => set_run(words, start, reached.lanes),
-            Elements::Any => set_each(
-                words,
-                reached.halves,
-                reached.mask,
-                reached.places,
-                reached.lanes,
-            ),
+            Elements::Run { halves, first } => {
+                let start = element_of(halves, first);
+                let end = element_of(halves, first + (reached.lanes - 1)) + 1;
+                set_run(words, start, (end - start) as u32);
+            }
+            Elements::Any => set_each(words, reached),
         }
     }
 }
 
 /// The same, one element at a time.
-fn set_each(words: &mut [u64], halves: bool, mask: &Mask, places: &Places, lanes: u32)
-    requires room { lanes ≤ 512 }
-    requires within { AreBelow (64 * length words.old) lanes halves mask.now places.now }
-    ensures { SetsBits (gets_to halves mask.now places.now) lanes words.old words.new }
+fn set_each(words: &mut [u64], reached: Reached<'_>)
+    requires room { reached.lanes ≤ 512 }
+    requires within { AreBelow (64 * length words.old) reached.lanes reached.halves reached.mask.now
+        reached.places.now }
+    ensures { SetsBits (gets_to reached.entry.halves reached.entry.mask.now reached.entry.places.now)
+        reached.entry.lanes words.old words.new }
 {
-    let all = mask.all;
-    let line = places.line;
-    for lane in 0..lanes as usize {
-        if all || mask.lanes[lane] {
-            set_bit(words, element_of(halves, place_on(line, places, lane)));
+    let all = reached.mask.all;
+    let line = reached.places.line;
+    for lane in 0..reached.lanes as usize {
+        if all || reached.mask.lanes[lane] {
+            set_bit(
+                words,
+                element_of(reached.halves, place_on(line, reached.places, lane)),
+            );
         }
     }
 }
@@ -241,60 +234,76 @@ fn keep_numbers(numbers: &mut [u32], done: bool, greatest: bool, reached: Reache
                 };
                 keep(numbers, at, greatest, index, lane);
             }
-            Elements::Run(start) => keep_run(numbers, greatest, start, reached.lanes, index),
-            Elements::Any => keep_each(
-                numbers,
-                greatest,
-                reached.halves,
-                reached.mask,
-                reached.places,
-                reached.lanes,
-                index,
-            ),
+            Elements::Run { halves, first } => {
+                keep_run(numbers, greatest, halves, first, reached.lanes, index);
+            }
+            Elements::Any => keep_each(numbers, greatest, reached, index),
         }
     }
 }
 
 /// The same at any elements.
-fn keep_each(
-    numbers: &mut [u32],
-    greatest: bool,
-    halves: bool,
-    mask: &Mask,
-    places: &Places,
-    lanes: u32,
-    index: u32,
-)
-    requires room { lanes ≤ 512 }
-    requires indexes { index + lanes ≤ 4294967295 }
-    requires within { AreBelow (length numbers.old) lanes halves mask.now places.now }
-    ensures { KeepsNumbers greatest (gets_to halves mask.now places.now) lanes index numbers.old numbers.new }
+fn keep_each(numbers: &mut [u32], greatest: bool, reached: Reached<'_>, index: u32)
+    requires room { reached.lanes ≤ 512 }
+    requires indexes { index + reached.lanes ≤ 4294967295 }
+    requires within { AreBelow (length numbers.old) reached.lanes reached.halves reached.mask.now reached.places.now }
+    ensures { KeepsNumbers greatest (gets_to reached.entry.halves reached.entry.mask.now reached.entry.places.now)
+        reached.entry.lanes index numbers.old numbers.new }
 {
-    let all = mask.all;
-    let line = places.line;
-    for lane in 0..lanes {
-        if all || mask.lanes[lane as usize] {
-            let e = element_of(halves, place_on(line, places, lane as usize));
-            keep(numbers, e, greatest, index, lane);
+    let all = reached.mask.all;
+    let line = reached.places.line;
+    for lane in 0..reached.lanes {
+        if all || reached.mask.lanes[lane as usize] {
+            let place = place_on(line, reached.places, lane as usize);
+            keep(
+                numbers,
+                element_of(reached.halves, place),
+                greatest,
+                index,
+                lane,
+            );
         }
     }
 }
 
-/// The same at elements that run on one after another.
-fn keep_run(numbers: &mut [u32], greatest: bool, start: usize, lanes: u32, index: u32)
-    requires within { start + lanes ≤ length numbers.old }
+/// The same at places that run on one after another: each element is changed once, by the lane that counts.
+fn keep_run(numbers: &mut [u32], greatest: bool, halves: bool, first: u32, lanes: u32, index: u32)
+    requires some { 0 < lanes }
+    requires within { (lane : ℕ) → lane < lanes → element_named halves (first + lane) < length numbers.old }
+    requires small { first + lanes < 4294967296 }
     requires indexes { index + lanes ≤ 4294967295 }
-    ensures { KeepsNumbers greatest (runs_to start) lanes index numbers.old numbers.new }
+    ensures { KeepsNumbers greatest (runs_on halves first) lanes index numbers.old numbers.new }
 {
-    for lane in 0..lanes {
-        keep(numbers, start + lane as usize, greatest, index, lane);
+    let start = element_of(halves, first);
+    let end = element_of(halves, first + (lanes - 1)) + 1;
+    for e in start..end {
+        let lane = end_at(halves, greatest, first, lanes, e);
+        keep(numbers, e, greatest, index, lane);
+    }
+}
+
+/// The first lane of a run that gets to an element, or the last.
+#[inline(always)]
+fn end_at(halves: bool, greatest: bool, first: u32, lanes: u32, e: usize) -> u32
+    requires some { 0 < lanes }
+    requires small { first + lanes < 4294967296 }
+    requires above { element_named halves first ≤ e }
+    requires below { e ≤ element_named halves (first + (lanes - 1)) }
+    ensures { IsEnd (runs_on halves first e) greatest lanes result }
+{
+    if !halves {
+        (e - first as usize) as u32
+    } else if greatest {
+        (2 * e + 1 - first as usize).min(lanes as usize - 1) as u32
+    } else {
+        (2 * e).saturating_sub(first as usize) as u32
     }
 }
 
 /// The first lane of a mask, or the last, if it has any.
 fn end_of(mask: &Mask, greatest: bool, lanes: u32) -> Option<u32>
     requires { lanes ≤ 512 }
-    ensures end { IfSome result (IsEnd mask.now greatest lanes) }
+    ensures end { IfSome result (IsEnd (is_in mask.now) greatest lanes) }
     ensures none { IfNone result (MaskHas lanes (λ _. false) mask.now) }
 {
     for step in 0..lanes {
@@ -327,62 +336,5 @@ fn set_bit(words: &mut [u64], e: usize)
     requires { e < 64 * length words.old }
     ensures { OrsBit words.old words.new e true }
 {
-    words[e / 64] |= bit(e);
-}
-
-/// An element's bit in its word.
-#[inline(always)]
-fn bit(e: usize) -> u64
-    ensures { result ≡ 2 ^ (e % 64) }
-{
-    1 << (e % 64)
-}
-
-/// Whether an access writes.
-#[inline(always)]
-fn writes(access: Access) -> bool
-    ensures { result ≡ kind_writes access }
-{
-    !matches!(access, Access::Read)
-}
-
-/// Whether it looks at its element.
-#[inline(always)]
-pub(crate) fn looks(access: Access) -> bool
-    ensures { result ≡ kind_looks access }
-{
-    !matches!(access, Access::Write)
-}
-
-/// Whether it is no reduce.
-#[inline(always)]
-fn is_plain(access: Access) -> bool
-    ensures { result ≡ kind_is_plain access }
-{
-    !matches!(access, Access::Reduce(_))
-}
-
-/// Whether it reduces by an operator.
-#[inline(always)]
-fn reduces(access: Access, op: Op) -> bool
-    ensures { result ≡ kind_reduces_by op access }
-{
-    match access {
-        Access::Reduce(other) => op == other,
-        _ => false,
-    }
-}
-
-/// What an access of a kind is, as far as marks go.
-#[inline(always)]
-pub(crate) fn access_of(kind: Kind) -> Access
-    ensures { result ≡ access_kind kind }
-{
-    match kind {
-        Kind::Load | Kind::LoadHalf => Access::Read,
-        Kind::Store => Access::Write,
-        Kind::Fetch | Kind::Replace | Kind::FetchHalf => Access::Both,
-        Kind::AddHalf => Access::Reduce(Op::AddH),
-        Kind::Apply(op) => Access::Reduce(op),
-    }
+    words[e / 64] |= 1 << (e % 64);
 }

@@ -2,8 +2,8 @@
 #![tactic(auto)]
 
 mod by_site;
+mod comparing;
 mod marks;
-mod unseen;
 
 pub use by_site::set_run;
 pub use marks::LoopMarks;

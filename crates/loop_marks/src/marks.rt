@@ -4,8 +4,8 @@ ghost use Rattle.std.specs.{Prelude.{◌≡◌, ◌+◌, ◌≤◌, true, false,
 ghost use Rattle.lane_stamps.specs.Sites.{HasRows, IsWithin, log_of, shown};
 ghost use Rattle.shadow_marks.specs.{Ending.{KeepsShape}, Standing.{ArePlanes, StandFor, no_visits, test_of}};
 
-use crate::by_site::mark_sites;
-use crate::unseen::go_by_site;
+use crate::by_site::mark_site;
+use crate::comparing::are_unseen;
 use lane_planes::conflict_plane;
 use lane_stamps::{Lanes, Site};
 use loop_core_model::Test;
@@ -46,9 +46,9 @@ impl LoopMarks {
         conflict_plane(alloc, &self.planes)
     }
 
-    /// Marks what the first lanes of a batch did: they are the iterations from an index on, up to which marks were made.
-    /// `false` if they can't be marked site by site: the test isn't Flow, or a lane looks where it stored before. Then
-    /// the marks are as before.
+    /// Marks what the first lanes of a batch did: they are the iterations from an index on, up to which marks were
+    /// made. `false` if they can't be marked site by site: the test isn't Flow, or a lane looks where it stored before
+    /// it ever looked. Then the marks are as before.
     pub fn mark_lanes(
         &mut self,
         sites: &[Site],
@@ -66,10 +66,16 @@ impl LoopMarks {
             self.old.planes self.new.planes }
         ensures kept { result ≡ false → self.new ≡ self.old }
     {
-        if !go_by_site(&self.planes, sites, of_lanes, lanes) {
+        if matches!(self.planes.test(), Test::Lrpd) || !are_unseen(sites, of_lanes, lanes) {
             return false;
         }
-        mark_sites(&mut self.planes, sites, of_lanes, lanes, index);
+        // The last site goes first: what is left there most often covers what was loaded before.
+        let mut at = sites.len();
+        while at > 0 {
+            at -= 1;
+            let (site, others) = (&sites[at], &sites[at + 1..]);
+            mark_site(&mut self.planes, site, others, of_lanes, lanes, index);
+        }
         true
     }
 }

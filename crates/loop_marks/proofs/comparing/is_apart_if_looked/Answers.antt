@@ -1,7 +1,7 @@
 use Rattle.std.proofs.Common.{ℕ, below_more}
 use Rattle.lane_stamps.specs.Sites.{shown}
 use Rattle.loop_marks.specs.SiteMarks.{IsApart}
-use Rattle.loop_marks.proofs.unseen.is_apart_if_looked.Goals as goal
+use Rattle.loop_marks.proofs.comparing.is_apart_if_looked.Goals as goal
 
 pub loop-lane-preserved : goal.loop-lane-preserved
 loop-lane-preserved c =
