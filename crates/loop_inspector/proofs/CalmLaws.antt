@@ -1,32 +1,32 @@
--- Lists whose lanes load nothing that they left themselves, and elements where they never conflict.
-use Rattle.std.proofs.Common.{◌≡◌, ℕ, zero, suc, ◌+◌, ◌/◌, ◌^◌, ◌<◌, ◌≤◌, inl, inr, true, ◌⊎◌}
-use Rattle.std.proofs.Common.{List, [], ◌∷◌, length, slice_index_or, sym, ap, subst, ◌∙◌, arith}
+-- The accesses of lists, and elements where their lanes never conflict.
+use Rattle.std.proofs.Common.{◌≡◌, ℕ, zero, suc, ◌/◌, ◌^◌, ◌<◌, ◌≤◌, inl, inr, true, ◌⊎◌}
+use Rattle.std.proofs.Common.{List, [], ◌∷◌, length, take, sym, ap, subst, ◌∙◌, arith}
 use Rattle.std.{specs.{Prelude.{slice_get, Some}, List.{AllZip}}, proofs.lemmas.Option.{slice_get_within}}
-use Rattle.array_maps.specs.MapList.{AreWords}
 use Rattle.lane_stamps.specs.declared.site.Site.{Site as Ranked}
-use Rattle.row_list.specs.{declared.row_op.{Place.{Place}, RowOp.{RowOp}}, Rows.{AreValues, byte_at, effects_by, is_in}}
-use Rattle.row_list.specs.Agreement.{SeesBefore}
-use Rattle.row_facts.specs.declared.{fact.Fact.{Fact}, meeting.Meeting.{Meeting}, site.Site.{Site}}
+use Rattle.row_list.specs.{declared.row_op.{Place.{Place}, RowOp.{RowOp}}, Rows.{AreValuesOn, byte_at, is_in}}
+use Rattle.row_facts.specs.declared.{fact.Fact.{Fact}, site.Site.{Site}}
 use Rattle.row_facts.specs.{Facts.{AreFacts, IsSure}, Sites.{IsSite, sites_of}, SiteKinds.{HasSite, IsKindOf}}
-use Rattle.row_facts.specs.Meetings.{ReduceAlike, Touches as TouchesHalf, leaves, loads}
+use Rattle.row_facts.specs.Meetings.{ReduceAlike, leaves}
 use Rattle.row_facts.specs.Elements.{Touches, reads}
 use Rattle.row_facts.proofs.SiteLaws.{known, some-same}
-use Rattle.loop_inspector.specs.{Reach.{AreAlone, Misses}, Open.{IsApartAt, IsInSome, NoneLoadsOwn}}
+use Rattle.loop_inspector.specs.{Reach.{AreAlone, Misses}, Open.{IsApartAt, IsInSome}}
 use Rattle.loop_inspector.specs.Inspections.{IsSurvey}
 use Rattle.loop_inspector.specs.declared.survey.Survey.{Survey}
-use Rattle.loop_inspector.proofs.OwnLaws.{sees_first}
+use Rattle.loop_inspector.proofs.{ActLaws.{KindIfAccess}, CutLaws.{site-at}}
 
 -- no iteration touches an element at the first site that an earlier one touches at the second
 abbrev pub NeverBoth : List RowOp → (at by : RowOp) → (n e : ℕ) → Type 0
-NeverBoth list at by n e = (earlier later : ℕ) → earlier < later → later < n → (caller words values others : List ℕ)
-    → AreValues list later caller words values → AreValues list earlier caller words others → Touches at values e
+NeverBoth list at by n e = (earlier later : ℕ) → earlier < later → later < n → (caller : List ℕ)
+    → (words before : ℕ → List ℕ) → (values others : List ℕ) → AreValuesOn list later caller words values
+    → AreValuesOn list earlier caller before others → Touches at values e
     → Touches by others e → ⊥
 
 -- each site reduces by the operator of one, or iterations never touch an element at both
 abbrev pub IsAlone : List RowOp → (by : RowOp) → (n : ℕ) → Type 0
 IsAlone list by n = (k : ℕ) (at : RowOp) → slice_get (sites_of list) k ≡ Some at → ReduceAlike by at
-    ⊎ ((index other : ℕ) → index < n → other < n → (caller words values others : List ℕ)
-    → AreValues list index caller words values → AreValues list other caller words others → (e : ℕ)
+    ⊎ ((index other : ℕ) → index < n → other < n → (caller : List ℕ)
+    → (words before : ℕ → List ℕ) → (values others : List ℕ) → AreValuesOn list index caller words values
+    → AreValuesOn list other caller before others → (e : ℕ)
     → Touches at values e → Touches by others e → ⊥)
 
 -- at an element no iteration reads what an earlier one leaves, but where all that touch it reduce by one operator
@@ -36,11 +36,6 @@ Pair list n e at by = NeverBoth list at by n e ⊎ (ReduceAlike by at × IsAlone
 pub record IsCalm (list : List RowOp) (n e : ℕ) : Type 0 where
   pub pairs : (first second : ℕ) (at by : RowOp) → slice_get (sites_of list) first ≡ Some at →
       slice_get (sites_of list) second ≡ Some by → reads at ≡ true → leaves by ≡ true → Pair list n e at by
-
--- no iteration loads what it left itself
-pub record LoadsNoneOfOwn (list : List RowOp) (n : ℕ) : Type 0 where
-  pub each : (index : ℕ) (caller words values : List ℕ) → index < n → AreWords words →
-      AreValues list index caller words values → SeesBefore words words (effects_by list values words)
 
 -- all sites of a list are of kinds that batches have
 pub have_sites : (list : List RowOp) (accesses : List RowOp) (sites : List Ranked) → AllZip IsKindOf accesses sites
@@ -56,46 +51,9 @@ pub each_site : (list : List RowOp) (accesses : List RowOp) (sites : List Ranked
 each_site list accesses sites all zip k op there =
     have_sites list accesses sites zip k op (ap (λ (ops : List RowOp). slice_get ops k) all ∙ there)
 
--- so it is of a list that is surveyed
-pub none_own : (list : List RowOp) (n : ℕ) (survey : Survey) → n ≤ 2 ^ 23 → IsSurvey list n survey
-    → NoneLoadsOwn list survey.sites.items
-    → ((k : ℕ) (op : RowOp) → slice_get (sites_of list) k ≡ Some op → HasSite op) → LoadsNoneOfOwn list n
-none_own list n survey few is own has = record {
-  each = λ index caller words values below fit valued. sees_first values words list fit has (pairs index caller words
-      values below valued);
-}
-  where
-    there_is : (meetings : List Meeting) (k : ℕ) (meeting : Meeting) → k < length meetings
-        → slice_index_or meetings k meeting ≡ meeting → slice_get meetings k ≡ Some meeting
-    there_is [] k meeting below is = absurd (omega (arith, below))
-    there_is (first ∷ meetings) zero meeting below is = ap Some is
-    there_is (first ∷ meetings) (suc k) meeting below is = there_is meetings k meeting (omega (arith, below)) is
-
-    pairs : (index : ℕ) (caller words values : List ℕ) → index < n → AreValues list index caller words values
-        → (first second : ℕ) (at by : RowOp) (half : ℕ) → second < first → slice_get (sites_of list) first ≡ Some at
-        → slice_get (sites_of list) second ≡ Some by → loads at ≡ true → leaves by ≡ true → TouchesHalf at values half
-        → TouchesHalf by values half → ⊥
-    pairs index caller words values below valued first second at by half before here there loaded left touch touched =
-        elim (own.are.others first second at by here there) [
-          | inl listed ↦
-              let one = known list is.facts survey.sites.items first at is.are_sites here in
-              let two = known list is.facts survey.sites.items second by is.are_sites there in
-              let meeting : Meeting = record { first = first; second = second } in
-              own.none listed.0 meeting
-              (there_is own.meetings listed.0 meeting listed.1 listed.2) (record {
-                at = one.site;
-                by = two.site;
-                before = before;
-                first = one.there;
-                second = two.there;
-                loaded = ap loads one.same ∙ loaded;
-                left = ap leaves two.same ∙ left;
-              })
-          | inr never ↦
-              let same : index + 0 ≡ index = omega arith in
-              (never.own left loaded before).none index caller words values values (omega (arith, below, few))
-              (subst (λ (i : ℕ). AreValues list i caller words values) (sym same) valued) valued half touch touched
-        ]
+pub each_access : (list : List RowOp) → ((k : ℕ) (op : RowOp) → slice_get (sites_of list) k ≡ Some op → HasSite op)
+    → (k : ℕ) (op : RowOp) → slice_get list k ≡ Some op → KindIfAccess op
+each_access list has k op there is = has (length (sites_of (take k list))) op (site-at list k op there is)
 
 -- the byte that a lane names at a site where it touches an element
 record IsNamed (site : Site) (index e : ℕ) : Type 0 where
@@ -104,7 +62,8 @@ record IsNamed (site : Site) (index e : ℕ) : Type 0 where
   inside : byte / 8 ≡ e
 
 named : (list : List RowOp) (facts : List Fact) (site : Site) → AreFacts list facts → IsSite list facts site
-    → (index : ℕ) (caller words values : List ℕ) → index ≤ 2 ^ 23 → AreValues list index caller words values → (e : ℕ)
+    → (index : ℕ) (caller : List ℕ) (words : ℕ → List ℕ) (values : List ℕ) → index ≤ 2 ^ 23
+    → AreValuesOn list index caller words values → (e : ℕ)
     → Touches site.op values e → IsNamed site index e
 named list facts site are is index caller words values few valued e touch =
     let same : touch.place ≡ site.place = some-same touch.place site.place (sym touch.is ∙ is.there) in
@@ -117,7 +76,8 @@ named list facts site are is index caller words values few valued e touch =
 
 -- a lane touches no element of which it names no byte
 pub missed : (list : List RowOp) (facts : List Fact) (site : Site) → AreFacts list facts → IsSite list facts site
-    → (index : ℕ) (caller words values : List ℕ) → index ≤ 2 ^ 23 → AreValues list index caller words values → (e : ℕ)
+    → (index : ℕ) (caller : List ℕ) (words : ℕ → List ℕ) (values : List ℕ) → index ≤ 2 ^ 23
+    → AreValuesOn list index caller words values → (e : ℕ)
     → Misses site e → Touches site.op values e → ⊥
 missed list facts site are is index caller words values few valued e misses touch =
     let one = named list facts site are is index caller words values few valued e touch in
@@ -143,8 +103,9 @@ closed_calm list n survey few is e closed = record {
     sites : List Site
     sites = survey.sites.items
 
-    at_byte : (site : Site) → IsSite list facts site → (index : ℕ) → index < n → (caller words values : List ℕ)
-        → AreValues list index caller words values → (e : ℕ) → Touches site.op values e → IsNamed site index e
+    at_byte : (site : Site) → IsSite list facts site → (index : ℕ) → index < n → (caller : List ℕ)
+        → (words : ℕ → List ℕ) → (values : List ℕ) → AreValuesOn list index caller words values → (e : ℕ)
+        → Touches site.op values e → IsNamed site index e
     at_byte site site_is index below caller words values =
         named list facts site is.are_facts site_is index caller words values (omega (arith, below, few))
 
@@ -153,10 +114,11 @@ closed_calm list n survey few is e closed = record {
         let three = known list facts sites k at is.are_sites here in
         elim (alone k three.site three.there) [
           | inl alike ↦ inl (subst (ReduceAlike by.op) three.same alike)
-          | inr apart ↦ inr (λ index other below under caller words values others one_are two_are element touch touched.
+          | inr apart ↦ inr (λ index other below under caller words before values others one_are two_are element touch
+              touched.
               let a = at_byte three.site three.is index below caller words values one_are element
               (subst (λ (o : RowOp). Touches o values element) (sym three.same) touch) in
-              let b = at_byte by by_is other under caller words others two_are element touched in
+              let b = at_byte by by_is other under caller before others two_are element touched in
               apart.never index other a.byte b.byte below under a.sure b.sure (a.inside ∙ sym b.inside))
         ]
 
@@ -164,8 +126,8 @@ closed_calm list n survey few is e closed = record {
         → IsInSome survey.spans.items e ⊎ IsApartAt sites at by n e → Pair list n e at.op by.op
     pair at by at_is by_is (inl open_there) = absurd (closed open_there)
     pair at by at_is by_is (inr (inl misses)) =
-        inl (λ earlier later order below caller words values others are_later are_earlier touch touched.
+        inl (λ earlier later order below caller words before values others are_later are_earlier touch touched.
         let a = at_byte at at_is later below caller words values are_later e touch in
-        let b = at_byte by by_is earlier (omega (arith, order, below)) caller words others are_earlier e touched in
+        let b = at_byte by by_is earlier (omega (arith, order, below)) caller before others are_earlier e touched in
         misses.never earlier later a.byte b.byte order below a.sure b.sure a.inside b.inside)
     pair at by at_is by_is (inr (inr alone)) = inr (alone.0, alone_in by by_is alone.1)

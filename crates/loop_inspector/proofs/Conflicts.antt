@@ -10,7 +10,7 @@ use Rattle.loop_core_model.specs.Actions.{writes, exposed, is_same, reduces_by, 
 use Rattle.loop_core_model.specs.Conflict.{fails_flow, fails_lrpd, fails, conflicts, at_element, FailingPair}
 use Rattle.loop_core_model.proofs.OneElement.{and_true_left, and_true_right, same_op}
 use Rattle.loop_core_model.specs.Effects.{action_on, accesses_on}
-use Rattle.row_list.specs.{declared.row_op.RowOp.{RowOp}, Rows.{AreValues, RowAccess, deed_of, effects_by, row_access}}
+use Rattle.row_list.specs.{declared.row_op.RowOp.{RowOp}, Rows.{AreValuesOn, RowAccess, deed_of, effects_by, row_access}}
 use Rattle.row_facts.specs.{Sites.{sites_of}, Meetings.{leaves}, Elements.{reads, Touches}}
 use Rattle.loop_inspector.proofs.CalmLaws.{IsAlone, IsCalm}
 use Rattle.loop_inspector.proofs.Deeds.{HasSite, writer, reader, all_pass, alike_acts, operator_of, by_sites}
@@ -92,7 +92,7 @@ module _ (made : ℕ → List Access) (e : ℕ) where
       ∙ length-map (range_with_len 0 count) made ∙ length-range_with_len 0 count
 
 module _ (list : List RowOp) (n : ℕ) (caller words : List ℕ) (values : ℕ → List ℕ)
-    (are : (i : ℕ) → i < n → AreValues list i caller words (values i)) where
+    (found : ℕ → ℕ → List ℕ) (are : (i : ℕ) → i < n → AreValuesOn list i caller (found i) (values i)) where
   -- what the lane of an index accesses
   abbrev pub lane_accesses : ℕ → List Access
   lane_accesses i = accesses_on words (effects_by list (values i) words)
@@ -112,7 +112,8 @@ module _ (list : List RowOp) (n : ℕ) (caller words : List ℕ) (values : ℕ �
       → HasSite (sites_of list) (λ (op : RowOp). (reads op ≡ true) × Touches op (values later) e) → OnlyReduced e
   pair_reduces e earlier later calm order below wrote read =
       elim (calm.pairs read.k wrote.k read.op wrote.op read.there wrote.there read.holds.0 wrote.holds.0) [
-        | inl apart ↦ absurd (apart earlier later order below caller words (values later) (values earlier) (are later below)
+        | inl apart ↦ absurd (apart earlier later order below caller (found later) (found earlier) (values later)
+            (values earlier) (are later below)
             (are earlier (omega (arith, order, below))) read.holds.1 wrote.holds.1)
         | inr alone ↦ record {
           op = operator_of wrote.op;
@@ -128,8 +129,8 @@ module _ (list : List RowOp) (n : ℕ) (caller words : List ℕ) (values : ℕ �
           → reduces_by (operator_of wrote.op) (action_on (deed_of access.request word) on) ≡ true
       only i inside alone k at there touch access is word on = elim (alone k at there) [
         | inl alike ↦ alike_acts wrote.op at (values i) access alike is word on
-        | inr apart ↦ absurd (apart i earlier inside (omega (arith, order, below)) caller words (values i)
-            (values earlier) (are i inside) (are earlier (omega (arith, order, below))) e touch wrote.holds.1)
+        | inr apart ↦ absurd (apart i earlier inside (omega (arith, order, below)) caller (found i) (found earlier)
+            (values i) (values earlier) (are i inside) (are earlier (omega (arith, order, below))) e touch wrote.holds.1)
       ]
 
   none_at : (count e : ℕ) → count ≤ n → IsCalm list n e → (fails : Bool)

@@ -1,5 +1,5 @@
 -- Lists whose operations are cut one after another.
-use Rattle.std.proofs.Common.{◌≡◌, ◌∙◌, ℕ, zero, suc, ◌+◌, ◌⊎◌, Bool, true, false, List, [], ◌∷◌, ◌++◌}
+use Rattle.std.proofs.Common.{◌≡◌, ◌∙◌, ℕ, zero, suc, ◌+◌, ◌<◌, ◌⊎◌, Bool, true, false, List, [], ◌∷◌, ◌++◌}
 use Rattle.std.proofs.Common.{length, map, take, sym, ap, subst, inl, inr, arith}
 use Rattle.std.specs.Prelude.{slice_get, Some}
 use Rattle.std.proofs.lemmas.{Grind.{common_steps}, List.{length_push}, Option.{slice_get-map, slice_get_within}}
@@ -17,6 +17,16 @@ site-at [] k op there is = absurd (cc)
 site-at (x ∷ ops) zero op there is = grind (arith, common_steps)
 site-at (x ∷ ops) (suc k) op there is =
     let before = site-at ops k op there is in
+    grind (arith, common_steps, before)
+
+-- of two accesses the earlier one has the lesser number
+pub site-before : (ops : List RowOp) (j k : ℕ) (by : RowOp) → j < k → slice_get ops j ≡ Some by → is_access by ≡ true
+    → length (sites_of (take j ops)) < length (sites_of (take k ops))
+site-before [] j k by less there is = absurd (cc)
+site-before ops j zero by less there is = absurd (omega (arith, less))
+site-before (x ∷ ops) zero (suc k) by less there is = grind (arith, common_steps)
+site-before (x ∷ ops) (suc j) (suc k) by less there is =
+    let before = site-before ops j k by (omega (arith, less)) there is in
     grind (arith, common_steps, before)
 
 -- one operation more

@@ -3,21 +3,21 @@ use Rattle.std.proofs.Common.{◌≡◌, ℕ, suc, ◌+◌, ◌/◌, ◌^◌, �
 use Rattle.std.proofs.Common.{if◌then◌else◌, ◌⊎◌, inl, inr, List, [], ◌∷◌, ◌++◌, slice_index, refl, sym, ap, ◌∙◌, subst}
 use Rattle.std.specs.{Prelude.{not, slice_get, Option, Some, None, ◌%◌}, List.{list_all, AllByRecursion}}
 use Rattle.std.proofs.lemmas.{Bool.{or_cases, eqb-true}, Nat.{mod_below}}
-use Rattle.array_maps.specs.declared.access.{Op.{Op, TheVariants.{Add}}, Half.TheVariants.{Low, High}, Part.{Part}}
-use Rattle.array_maps.specs.{declared.access.Part.TheVariants.{Whole, Half as Of}}
+use Rattle.array_maps.specs.declared.access.{Op.{Op, TheVariants.{Add}}, Half.TheVariants.{Low, High}}
+use Rattle.array_maps.specs.{declared.access.Part.TheVariants.{Half as Of}}
 use Rattle.array_maps.specs.Accesses.{Action, actions_at}
 use Rattle.bpf_insn_types.specs.declared.insn.{SimpleOp.{SimpleOp}, Width.{Width, TheVariants.{W32, W64}}}
 use Rattle.bpf_insn_types.specs.Words.{word_of}
 use Rattle.bpf_step_model.specs.Step.{store_of, update_of, map_operator, half_operator}
 use Rattle.bpf_step_model.specs.AreaWords.{part_named}
 use Rattle.loop_core_model.specs.Actions.{is_write, writes, is_plain_write, exposed, reduces_by}
-use Rattle.loop_core_model.{specs.{Kinds.{kind_leaves}, Effects.{accesses_on}}, proofs.OneElement.{is_same-refl}}
-use Rattle.loop_core_model.specs.Effects.{words_after_effect, Effect, deed_loads, kind_of_deed, action_on}
+use Rattle.loop_core_model.{specs.Effects.{accesses_on}, proofs.OneElement.{is_same-refl}}
+use Rattle.loop_core_model.specs.Effects.{words_after_effect, Effect, action_on}
 use Rattle.row_list.specs.{declared.row_op.RowOp.{RowOp, TheVariants.{Load, Store, Reduce, Fetch}}, Rows.{row_effects}}
 use Rattle.row_list.specs.Rows.{effects_by, RowAccess, is_in, row_access, deed_of, effects_if, access_effects}
 use Rattle.row_list.specs.{declared.row_op.Place.{Place}, Places.{place_in, is_access}, Rows.{byte_at}}
 use Rattle.row_facts.specs.Sites.{bytes_in, sites_of}
-use Rattle.row_facts.specs.{Meetings.{loads, leaves, ReducesBy, ReduceAlike}, Elements.{Touches, is_half, reads}}
+use Rattle.row_facts.specs.{Meetings.{leaves, ReducesBy, ReduceAlike}, Elements.{Touches, is_half, reads}}
 
 -- an access as an effect
 abbrev pub effect_of : RowAccess → (words : List ℕ) → Effect
@@ -56,36 +56,25 @@ effect_or_none op values words = go (row_access op values) refl
     go None is = inl (ap (λ (o : Option RowAccess). access_effects o values words) is)
     go (Some access) is = by_mask access (is_in values access.mask) is refl
 
--- a store and a reduce load nothing
-store_loads_none : (part : Part) (n word : ℕ) → deed_loads (deed_of (store_of part n) word) ≡ false
-store_loads_none Whole n word = refl
-store_loads_none (Of half) n word = refl
-
 -- a store of a whole word doesn't read its element
 store_reads : (width : Width) (byte n word now : ℕ)
     → is_plain_write (action_on (deed_of (store_of (part_named width byte) n) word) now) ≡ false → is_half width ≡ true
 store_reads W64 byte n word now h = absurd (cc)
 store_reads W32 byte n word now h = refl
 
-update_loads_none : (part : Part) (op : SimpleOp) (n word : ℕ) → deed_loads (deed_of (update_of part op n) word) ≡ false
-update_loads_none Whole op n word = refl
-update_loads_none (Of half) op n word = refl
-
 -- an access is made at its operation's place, and does what its kind says
-pub record IsAccess (op : RowOp) (values : List ℕ) (access : RowAccess) : Type 0 where
-  pub place : Place
-  pub is : place_in op ≡ Some place
-  pub mask : place.mask ≡ access.mask
-  pub byte : byte_at values place ≡ access.byte
-  pub reading : (word now : ℕ) → is_plain_write (action_on (deed_of access.request word) now) ≡ false → reads op ≡ true
-  pub leaving : (word now : ℕ) → is_write (action_on (deed_of access.request word) now) ≡ true → leaves op ≡ true
-  pub kept : (word : ℕ) → kind_leaves (kind_of_deed (deed_of access.request word)) ≡ true → leaves op ≡ true
-  pub loading : (word : ℕ) → deed_loads (deed_of access.request word) ≡ true → loads op ≡ true
+record IsAccess (op : RowOp) (values : List ℕ) (access : RowAccess) : Type 0 where
+  place : Place
+  is : place_in op ≡ Some place
+  mask : place.mask ≡ access.mask
+  byte : byte_at values place ≡ access.byte
+  reading : (word now : ℕ) → is_plain_write (action_on (deed_of access.request word) now) ≡ false → reads op ≡ true
+  leaving : (word now : ℕ) → is_write (action_on (deed_of access.request word) now) ≡ true → leaves op ≡ true
 
-pub same_access : (x y : RowAccess) → Some x ≡ Some y → x ≡ y
+same_access : (x y : RowAccess) → Some x ≡ Some y → x ≡ y
 same_access x y e = cc
 
-pub is_access_of : (op : RowOp) (values : List ℕ) (access : RowAccess) → row_access op values ≡ Some access
+is_access_of : (op : RowOp) (values : List ℕ) (access : RowAccess) → row_access op values ≡ Some access
     → IsAccess op values access
 is_access_of (Load place extension) values access e =
     subst (IsAccess (Load place extension) values) (same_access _ access e) (record {
@@ -95,8 +84,6 @@ is_access_of (Load place extension) values access e =
       byte = refl;
       reading = λ word now h. refl;
       leaving = λ word now h. absurd (cc);
-      kept = λ word h. absurd (cc);
-      loading = λ word h. refl;
     })
 is_access_of (Store place value) values access e =
     subst (IsAccess (Store place value) values) (same_access _ access e) (record {
@@ -106,9 +93,6 @@ is_access_of (Store place value) values access e =
       byte = refl;
       reading = λ word now h. store_reads place.width (byte_at values place) (slice_index values value) word now h;
       leaving = λ word now h. refl;
-      kept = λ word h. refl;
-      loading = λ word h. absurd (let never = sym h
-          ∙ store_loads_none (part_named place.width (byte_at values place)) (slice_index values value) word in cc);
     })
 is_access_of (Reduce place op value) values access e =
     subst (IsAccess (Reduce place op value) values) (same_access _ access e) (record {
@@ -118,9 +102,6 @@ is_access_of (Reduce place op value) values access e =
       byte = refl;
       reading = λ word now h. refl;
       leaving = λ word now h. refl;
-      kept = λ word h. refl;
-      loading = λ word h. absurd (let never = sym h
-          ∙ update_loads_none (part_named place.width (byte_at values place)) op (slice_index values value) word in cc);
     })
 is_access_of (Fetch place op value compare) values access e =
     subst (IsAccess (Fetch place op value compare) values) (same_access _ access e) (record {
@@ -130,8 +111,6 @@ is_access_of (Fetch place op value compare) values access e =
       byte = refl;
       reading = λ word now h. refl;
       leaving = λ word now h. refl;
-      kept = λ word h. refl;
-      loading = λ word h. refl;
     })
 is_access_of _ values access e = absurd (cc)
 

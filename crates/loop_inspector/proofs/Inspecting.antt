@@ -15,7 +15,7 @@ use Rattle.bpf_step_model.specs.Run.{Ended}
 use Rattle.loop_core_model.specs.declared.{loop_test.Test.TheVariants.{Flow}, verdict.Verdict.{Verdict}}
 use Rattle.loop_core_model.specs.{Marks.{Visit}, Planes.{bit_of, elements_in_plane}, Report.{verdict}}
 use Rattle.loop_core_model.specs.Effects.{Effect, EffectLog, effects_of}
-use Rattle.row_list.specs.{declared.row_op.RowOp.{RowOp}, Agreement.{AgreesWithValues}}
+use Rattle.row_list.specs.{declared.row_op.RowOp.{RowOp}, Lanes.{AgreesWithRuns, run_words}}
 use Rattle.row_list.specs.Rows.{AreValues, IsReturned, RowAccess, access_effects, effects_by, effects_if, is_in, returned}
 use Rattle.row_list.specs.Rows.{deed_of, row_access, row_effects, row_value}
 use Rattle.row_facts.specs.{declared.{site.Site.{Site}}, Sites.{IsSite}}
@@ -27,9 +27,9 @@ use Rattle.loop_marks.specs.Visits.{visits_below}
 use Rattle.loop_inspector.specs.{Inspections.{AreInspected, IsInspected, IsInspection, IsVerdictAt}}
 use Rattle.loop_inspector.specs.declared.inspection.Inspection.{Inspection}
 use Rattle.loop_inspector.proofs.{Bits.{elements_below}, Settling.{IsSettled, is_verdict}}
-use Rattle.loop_inspector.proofs.CalmLaws.{LoadsNoneOfOwn, closed_calm, missed}
+use Rattle.loop_inspector.proofs.CalmLaws.{closed_calm, missed}
 use Rattle.loop_inspector.proofs.{FrameNumbers.{AreBytes, filled_fit}, SliceLanes.{extended, survivors}}
-use Rattle.loop_inspector.proofs.Passing.{enough_zeros, makes, many, own_of, runs_of, words_both, zeros, zeros_fit}
+use Rattle.loop_inspector.proofs.Passing.{enough_zeros, have_kinds, makes, many, runs_of, words_both, zeros, zeros_fit}
 
 -- with zeros after them words are the same
 same_word : (words : List ℕ) (x : ℕ) → slice_index (words ++ zeros) x ≡ slice_index words x
@@ -147,9 +147,6 @@ module _ (fits : ResultsFit) (its : EachIterationSimulates) (program : Program) 
   bytes_fit : AreBytes bytes
   bytes_fit = filled_fit bytes (subst (AllByRecursion SoundByte) (sym same) known.sound.frame.bytes)
 
-  own : LoadsNoneOfOwn list call.n
-  own = own_of program call known rows are is.survey is.known is.own
-
   lane_is : (index : ℕ) → index < call.n → (effects : List Effect) → RanAs cuts inspection.slice.list.result index bytes words
       effects → (made : List Access) × IsLane program call words inspection.plane.items index effects made
   lane_is index below effects ran =
@@ -157,16 +154,18 @@ module _ (fits : ResultsFit) (its : EachIterationSimulates) (program : Program) 
       let lane : AreValues cuts index bytes (words ++ zeros) ran.values = values_same cuts index bytes words ran.values
       ran.are in
       let whole = extended fits is.survey.sites.items is.survey.spans.items slice.needed rows.list.result list cuts
-      is.known.ordered slice.cuts index bytes (words ++ zeros) bytes_fit (words_both words zeros fit.fit (zeros_fit many))
+      is.known.ordered slice.cuts (have_kinds program call.callback rows are) is.known.facts is.known.are_facts
+      is.known.are_sites slice.own index bytes (words ++ zeros) bytes_fit (words_both words zeros fit.fit (zeros_fit many))
       (omega (arith, below, few)) ran.values lane in
       let one = makes fits its program sound each call known are.ops are.translated list rows.list.result
-      (subst (λ (start : ℕ). AgreesWithValues are.ops start list rows.list.result) are.here are.are.agrees)
-      is.known.ordered own bytes (sym (length-map bytes Some) ∙ ap length same ∙ known.sound.frame.count) same words fit
+      (subst (λ (start : ℕ). AgreesWithRuns are.ops start list rows.list.result) are.here are.are.runs)
+      is.known.ordered (have_kinds program call.callback rows are) bytes
+      (sym (length-map bytes Some) ∙ ap length same ∙ known.sound.frame.count) same words fit
       zeros enough_zeros (zeros_fit many) index below whole.values whole.are in
       let left = survivors is.survey.sites.items is.survey.spans.items slice.needed rows.list.result list cuts
       slice.cuts (words ++ zeros) whole.values ran.values whole.same
       (λ k site there e misses touch. missed list is.known.facts site is.known.are_facts (site_is k site there) index
-      bytes (words ++ zeros) whole.values (omega (arith, below, few)) whole.are e misses touch) in (
+      bytes (run_words list whole.values (words ++ zeros)) whole.values (omega (arith, below, few)) whole.are e misses touch) in (
         left.made,
         record {
           inspected = record {
@@ -235,7 +234,7 @@ module _ (fits : ResultsFit) (its : EachIterationSimulates) (program : Program) 
       → verdict Flow program 4096 call words ≡ Ended found
   inspected_verdict index within planes inspected test elements found is_at done =
       is_verdict program call list words inspection.plane.items
-      (runs_of fits its program sound each call known rows are is.known.ordered own bytes same words fit)
+      (runs_of fits its program sound each call known rows are is.known.ordered bytes same words fit)
       (λ e below bit. closed_calm list call.n is.survey few is.known e
       (λ there. not_open inspection.plane.items e (is.plane.set e below there) bit))
       index within planes inspected test elements found is_at (elim done [

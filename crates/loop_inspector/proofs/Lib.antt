@@ -1,5 +1,6 @@
 pub mod FrameNumbers
 pub mod Deeds
+pub mod ActLaws
 pub mod OwnLaws
 pub mod CalmLaws
 pub mod Values

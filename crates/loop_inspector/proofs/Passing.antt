@@ -15,18 +15,18 @@ use Rattle.bpf_step_ir.specs.PlainRun.{PlainStopReason, PlainExit, PlainLoop, Pl
 use Rattle.bpf_step.specs.{Laws.{EachIterationSimulates, plain_exited_by, plain_exited}, Iterations.{EachIterationEnds}}
 use Rattle.bpf_step.proofs.{Callbacks.{begins}, Limits.{few_slots}}
 use Rattle.loop_core_model.specs.declared.{loop_test.Test.TheVariants.{Flow}, verdict.Verdict.TheVariants.{Parallel}}
-use Rattle.loop_core_model.specs.{Conflict.{at_element, conflicting, conflicts}, Effects.{accesses_on}}
+use Rattle.loop_core_model.specs.{Conflict.{at_element, conflicting, conflicts}, Effects.{Effect, accesses_on}}
 use Rattle.loop_core_model.specs.LeastBreak.{accesses_of_each, counted_runs, in_front_of}
 use Rattle.loop_core_model.specs.{Report.{judged, verdict}, Scan.{up_to_break, scan}}
 use Rattle.loop_core_model.proofs.{PlaneLaws.{filter-none}, ScanLaws.{counted_are_scanned}}
-use Rattle.row_list.specs.{declared.row_op.RowOp.{RowOp}, Rows.{AreValues, effects_by}}
-use Rattle.row_list.specs.Agreement.{AgreesWithValues, EndsWith}
+use Rattle.row_list.specs.{declared.row_op.RowOp.{RowOp}, Agreement.{EndsWith}, Rows.{AreValuesOn, effects_by}}
+use Rattle.row_list.{specs.Lanes.{AgreesWithRuns, run_accesses as made_on, run_words}, proofs.EffectLaws.{inside_all}}
 use Rattle.row_facts.specs.Ordered.{IsOrdered}
-use Rattle.loop_inspector.specs.{Independent.{AlwaysPasses}, Inspections.{IsSurvey}, Open.{NoneLoadsOwn}}
+use Rattle.loop_inspector.specs.{Independent.{AlwaysPasses}, Inspections.{IsSurvey}}
 use Rattle.loop_inspector.specs.declared.{reach.Span.{Span}, survey.Survey.{Survey}}
-use Rattle.loop_inspector.proofs.{Deeds.{all_inside}, FrameNumbers.{filled_fit}}
-use Rattle.loop_inspector.proofs.{Values.{values_of, are_values}, Longer.{IsLonger, longer_run}}
-use Rattle.loop_inspector.proofs.CalmLaws.{IsCalm, LoadsNoneOfOwn, closed_calm, each_site, none_own}
+use Rattle.loop_inspector.proofs.{ActLaws.{KindIfAccess, run_acts}, Deeds.{all_inside}, FrameNumbers.{filled_fit}}
+use Rattle.loop_inspector.proofs.{Values.{lane_values, are_lane_values}, Longer.{IsLonger, longer_run}}
+use Rattle.loop_inspector.proofs.CalmLaws.{IsCalm, closed_calm, each_access, each_site}
 use Rattle.loop_inspector.proofs.Conflicts.{calm_at, lane_accesses}
 
 -- an iteration that ended
@@ -113,8 +113,8 @@ module _ (fits : ResultsFit) (its : EachIterationSimulates) (program : Program) 
     (each : EachIterationEnds program) (call : LoopCall) (known : OverApproximatesCall program call) (ops : List
     IrOp)
     (are : AreOps program ops) (list : List RowOp) (result : ℕ)
-    (agrees : AgreesWithValues ops call.callback list result) (ordered : IsOrdered list)
-    (own : LoadsNoneOfOwn list call.n) (bytes : List ℕ) (long : length bytes ≡ 512) (same : map Some bytes ≡ call.frame)
+    (agrees : AgreesWithRuns ops call.callback list result) (ordered : IsOrdered list)
+    (has : (k : ℕ) (op : RowOp) → slice_get list k ≡ Some op → KindIfAccess op) (bytes : List ℕ) (long : length bytes ≡ 512) (same : map Some bytes ≡ call.frame)
     (words : List ℕ) (fit : AreMapWords program words) (extra : List ℕ) (room : 2 ^ 29 ≤ length extra)
     (more : AreWords extra) where
   abbrev all_words : List ℕ
@@ -124,16 +124,18 @@ module _ (fits : ResultsFit) (its : EachIterationSimulates) (program : Program) 
   all_fit = words_both words extra fit.fit more
 
   abbrev values : ℕ → List ℕ
-  values index = values_of fits index bytes all_words list
+  values index = lane_values fits index bytes [] list all_words
 
   small : (index : ℕ) → index < call.n → index < 2 ^ 32
   small index below = omega (arith, below, known.sound.iterations)
 
-  valued : (index : ℕ) → index < call.n → AreValues list index bytes all_words (values index)
+  abbrev found : List ℕ → (k : ℕ) → List ℕ
+  found vals = run_words list vals all_words
+
+  valued : (index : ℕ) → index < call.n → AreValuesOn list index bytes (found (values index)) (values index)
   valued index below =
-      are_values fits index bytes all_words
-      (filled_fit bytes (subst (AllByRecursion SoundByte) (sym same) known.sound.frame.bytes)) all_fit
-      (omega (arith, small index below)) list ordered
+      are_lane_values fits index bytes [] (filled_fit bytes (subst (AllByRecursion SoundByte) (sym same)
+      known.sound.frame.bytes)) (omega (arith, small index below)) (λ k. omega arith) list all_words all_fit ordered
 
   abbrev at_index : ℕ → BoundedResult Iterated
   at_index index = iteration program 4096 call index words
@@ -145,7 +147,8 @@ module _ (fits : ResultsFit) (its : EachIterationSimulates) (program : Program) 
     pub accesses : it.accesses ≡ accesses_on all_words (effects_by list vals all_words)
     pub ret : it.ret ≡ slice_index vals result
 
-  pub makes : (index : ℕ) → index < call.n → (vals : List ℕ) → AreValues list index bytes all_words vals → Made index vals
+  pub makes : (index : ℕ) → index < call.n → (vals : List ℕ)
+      → AreValuesOn list index bytes (found vals) vals → Made index vals
   unfolding run_accesses run_exit exit_of
   makes index below vals lane =
       let p : Plain = machine_at call.callback index bytes in
@@ -155,12 +158,16 @@ module _ (fits : ResultsFit) (its : EachIterationSimulates) (program : Program) 
       (sym (its program sound ops are 4096 call known index below p
       (begins call index call.callback (0 ∷ index ∷ 0 ∷ 0 ∷ 0 ∷ 0 ∷ 0 ∷ 0 ∷ 0 ∷ 0 ∷ 0 ∷ []) bytes bytes refl
       (record { count = refl; given = refl; ctx = refl }) long same) words fit) ∙ here.1) in
-      let ends : EndsWith ops p all_words (slice_index vals result) (accesses_on all_words (effects_by list vals all_words)) =
-      agrees.each index all_words vals all_words p lane (small index below) refl refl refl long
-      (own.each index bytes all_words vals below all_fit lane)
-      (all_inside list vals all_words (length all_words)
+      let effects : List Effect = effects_by list vals all_words in
+      let same_run : made_on list vals all_words ≡ accesses_on all_words effects =
+      run_acts list has vals all_words all_words in
+      let ends : EndsWith ops p all_words (slice_index vals result) (accesses_on all_words effects) =
+      subst (EndsWith ops p all_words (slice_index vals result)) same_run
+      (agrees.each index all_words vals p lane (small index below) refl refl refl long
+      (subst (AllByRecursion (λ access. access.element < length all_words)) (sym same_run)
+      (inside_all effects all_words (length all_words) (all_inside list vals all_words (length all_words)
       (let both : length all_words ≡ length words + length extra = length-append words extra in
-      omega (arith, both, room))) in
+      omega (arith, both, room)))))) in
       let few = ends.few in
       let slots = few_slots program sound.accepted in
       let count = are.count in
@@ -176,7 +183,7 @@ module _ (fits : ResultsFit) (its : EachIterationSimulates) (program : Program) 
       }
 
   abbrev accesses : ℕ → List Access
-  accesses index = lane_accesses list call.n bytes all_words values valued index
+  accesses index = lane_accesses list call.n bytes all_words values (λ i. found (values i)) valued index
 
   -- iterations that were scanned
   record Scanned (left index : ℕ) : Type 0 where
@@ -254,7 +261,7 @@ module _ (fits : ResultsFit) (its : EachIterationSimulates) (program : Program) 
                 let here : 0 + broke.0 ≡ broke.0 = omega arith in broke.2 it (ap at_index here ∙ ended),
           )
         ];
-        calm = λ e upto few calm. calm_at list call.n bytes all_words values valued upto e few calm;
+        calm = λ e upto few calm. calm_at list call.n bytes all_words values (λ i. found (values i)) valued upto e few calm;
       }
 
 -- a loop whose elements are all calm passes
@@ -286,36 +293,34 @@ enough_zeros =
     let long : length zeros ≡ many = length-replicate many 0 in
     subst (λ (n : ℕ). 2 ^ 29 ≤ n) (sym long) many_are
 
--- the runs of a loop of a list that loads nothing of its own
+-- all accesses of a callback's list have kinds
+pub have_kinds : (program : Program) (start : ℕ) (rows : CallbackRows) → AreRowsAt program start rows → (k : ℕ)
+    (op : RowOp) → slice_get rows.list.list.items k ≡ Some op → KindIfAccess op
+have_kinds program start rows are =
+    each_access rows.list.list.items (each_site rows.list.list.items rows.sites.accesses.items rows.sites.sites.items
+    are.are.leaves.listed.listed.all are.are.leaves.listed.listed.kinds)
+
+-- the runs of a loop of a list
 pub runs_of : ResultsFit → EachIterationSimulates → (program : Program) → IsSoundProgram program → EachIterationEnds program
     → (call : LoopCall) → OverApproximatesCall program call → (rows : CallbackRows) → AreRowsAt program call.callback rows
-    → IsOrdered rows.list.list.items → LoadsNoneOfOwn rows.list.list.items call.n → (bytes : List ℕ)
+    → IsOrdered rows.list.list.items → (bytes : List ℕ)
     → map Some bytes ≡ call.frame → (words : List ℕ) → AreMapWords program words
     → Ran program call rows.list.list.items words
-runs_of fits its program sound each call known rows are ordered own bytes same words fit =
+runs_of fits its program sound each call known rows are ordered bytes same words fit =
     ran fits its program sound each call known are.ops are.translated rows.list.list.items rows.list.result
-    (subst (λ (start : ℕ). AgreesWithValues are.ops start rows.list.list.items rows.list.result) are.here are.are.agrees)
-    ordered own bytes (sym (length-map bytes Some) ∙ ap length same ∙ known.sound.frame.count) same words fit zeros
+    (subst (λ (start : ℕ). AgreesWithRuns are.ops start rows.list.list.items rows.list.result) are.here are.are.runs)
+    ordered (have_kinds program call.callback rows are) bytes
+    (sym (length-map bytes Some) ∙ ap length same ∙ known.sound.frame.count) same words fit zeros
     enough_zeros (zeros_fit many)
-
--- so it loads nothing of its own, where a survey says so
-pub own_of : (program : Program) (call : LoopCall) → OverApproximatesCall program call → (rows : CallbackRows)
-    → AreRowsAt program call.callback rows → (survey : Survey) → IsSurvey rows.list.list.items call.n survey
-    → NoneLoadsOwn rows.list.list.items survey.sites.items → LoadsNoneOfOwn rows.list.list.items call.n
-own_of program call known rows are survey is own =
-    none_own rows.list.list.items call.n survey (omega (arith, known.sound.iterations)) is own
-    (each_site rows.list.list.items rows.sites.accesses.items rows.sites.sites.items are.are.leaves.listed.listed.all
-    are.are.leaves.listed.listed.kinds)
 
 -- a loop of which no element is open passes
 pub none_open_pass : ResultsFit → EachIterationSimulates → (program : Program) → IsSoundProgram program
     → EachIterationEnds program → (call : LoopCall) → OverApproximatesCall program call → (rows : CallbackRows)
     → AreRowsAt program call.callback rows → (survey : Survey) → IsSurvey rows.list.list.items call.n survey
-    → NoneLoadsOwn rows.list.list.items survey.sites.items → survey.spans.items ≡ [] → (bytes : List ℕ) → map Some bytes ≡ call.frame → AlwaysPasses program call
-none_open_pass fits its program sound each call known rows are survey is own none bytes same words fit =
+    → survey.spans.items ≡ [] → (bytes : List ℕ) → map Some bytes ≡ call.frame → AlwaysPasses program call
+none_open_pass fits its program sound each call known rows are survey is none bytes same words fit =
     all_pass_flow program call rows.list.list.items words
-    (runs_of fits its program sound each call known rows are is.ordered (own_of program call known rows are survey is
-    own) bytes same words fit)
+    (runs_of fits its program sound each call known rows are is.ordered bytes same words fit)
     (λ e. closed_calm rows.list.list.items call.n survey (omega (arith, known.sound.iterations)) is e (λ inside.
     absurd (let there = subst (λ (spans : List Span). slice_get spans inside.k ≡ Some inside.span) none inside.there in
     cc)))

@@ -1,43 +1,38 @@
 -- The lanes of a slice are those of its list.
 use Rattle.std.proofs.Common.{◌≡◌, ℕ, suc, ◌/◌, ◌^◌, ◌<◌, Bool, true, false, ◌==◌, ◌⊎◌, inl, inr, List, [], ◌∷◌, ◌++◌}
-use Rattle.std.proofs.Common.{arith, length, map, get_or, slice_index, refl, sym, ap, ap₂, ◌∙◌, subst}
-use Rattle.std.specs.Prelude.{slice_get, Option, Some, None}
+use Rattle.std.proofs.Common.{zero, ◌≤◌, take, arith, length, map, get_or, slice_index, refl, sym, ap, ap₂, ◌∙◌, subst}
+use Rattle.std.{specs.{Prelude.{slice_get, Some}, List.{AllByRecursion}}, proofs.lemmas.Bool.{cases_lt}}
 use Rattle.std.proofs.lemmas.{Option.{slice_get_within, slice_get-get_or}, List.{map-append}}
 use Rattle.array_maps.specs.{MapList.{AreWords}, Accesses.{Access, Action, actions_at, words_after_all}}
 use Rattle.array_maps.specs.declared.access.Part.{Part, TheVariants.{Whole, Half as Of}}
 use Rattle.bpf_insn_types.specs.{declared.insn.SimpleOp.{SimpleOp}, WordBounds.{ResultsFit}}
-use Rattle.bpf_step_model.specs.Step.{Request, store_of, update_of}
+use Rattle.bpf_step_model.specs.Step.{Request, Load as Loads, store_of, update_of}
 use Rattle.bpf_step_model.specs.AreaWords.{byte_named, part_named}
 use Rattle.loop_core_model.specs.{declared.access.Access.{Access as Kind}, Effects.{Effect, accesses_on, kind_of_deed}}
 use Rattle.loop_core_model.proofs.Turns.{actions_at-append}
-use Rattle.row_list.specs.declared.row_op.{Place.{Place}, RowOp.{RowOp, TheVariants.{Number, Store, Reduce}}}
-use Rattle.row_list.specs.Rows.{AreValues, IsRowValue, byte_at, row_effects, effects_by, effects_if, deed_of, is_in}
+use Rattle.row_list.specs.declared.row_op.{Place.{Place}, RowOp.{RowOp, TheVariants.{Number, Load, Store, Reduce, Fetch}}}
+use Rattle.row_list.specs.Lanes.{run_words}
+use Rattle.row_list.specs.Rows.{AreValues, AreValuesOn, IsRowValue, byte_at, row_effects, effects_by, effects_if, deed_of, is_in}
 use Rattle.row_list.proofs.EffectLaws.{accesses_both}
 use Rattle.row_list.specs.Places.{is_access, taken_by}
-use Rattle.row_facts.specs.{declared.site.Site.{Site}, Elements.{Touches}, Ordered.{IsOrdered}}
+use Rattle.row_facts.specs.{declared.{fact.Fact.{Fact}, site.Site.{Site}}, Elements.{Touches}, Ordered.{IsOrdered}}
+use Rattle.row_facts.specs.{Facts.{AreFacts}, Meetings.{leaves}, Sites.{AreSites, sites_of}}
 use Rattle.loop_marks.{specs.Touches.{Touch, touch_by, touch_of, touches_of}, proofs.VisitLaws.{touches_on}}
 use Rattle.loop_inspector.specs.{declared.reach.Span.{Span}, Reach.{Misses}, Open.{IsInSome}}
-use Rattle.loop_inspector.specs.Slices.{with_number, IsNeeded, IsChangeAt, IsClosed, IsCut, AreCuts}
+use Rattle.loop_inspector.specs.Slices.{with_number, IsNeeded, IsChangeAt, IsClosed, IsCut, AreCuts, NeedsNoOwn}
 use Rattle.row_list.proofs.SameLanes.{all_by, same_value, same_effects}
+use Rattle.loop_inspector.proofs.{CutLaws.{site-at, site-before}, OwnLaws.{IsApart, finds_same}}
 use Rattle.loop_inspector.proofs.FrameNumbers.{AreBytes}
-use Rattle.loop_inspector.proofs.Values.{values_with, are_values_with, same_given}
+use Rattle.loop_inspector.proofs.Values.{are_lane_values, lane_made, lane_past, lane_values, made_of_own, takes_below}
 use Rattle.loop_inspector.proofs.Deeds.{HasEffect, effect_of, effect_or_none, touches_here, no_effects, with_first}
-use Rattle.loop_inspector.proofs.Deeds.{action_of_first}
+use Rattle.loop_inspector.proofs.{ActLaws.{KindIfAccess}, Deeds.{action_of_first}}
 
--- the values of a list in a lane of which a slice has some
+-- the values of a list in a lane that alone changes the words, of which a slice has some
 pub record Extended (list : List RowOp) (needed : List Bool) (index : ℕ) (caller words cut_values : List ℕ)
     : Type 0 where
   pub values : List ℕ
-  pub are : AreValues list index caller words values
+  pub are : AreValuesOn list index caller (run_words list values words) values
   pub same : (k : ℕ) → IsNeeded needed k → slice_index values k ≡ slice_index cut_values k
-
-abbrev flag : Option Bool → Bool
-flag None = false
-flag (Some b) = b
-
-is_flag : (o : Option Bool) → flag o ≡ true → o ≡ Some true
-is_flag None is = absurd (cc is)
-is_flag (Some b) is = ap (λ (x : Bool). Some x) is
 
 -- a slice has something for each operation
 cut_at : (list cuts : List RowOp) → length cuts ≡ length list → (k : ℕ) (op : RowOp) → slice_get list k ≡ Some op
@@ -48,41 +43,95 @@ cut_at list cuts count k op there = (
       (subst (λ (n : ℕ). k < n) (sym count) (slice_get_within list k op there)),
 )
 
-abbrev is_given : List Bool → ℕ → Bool
-is_given needed k = flag (slice_get needed k)
+-- what leaves something is an access
+leaving_access : (op : RowOp) → leaves op ≡ true → is_access op ≡ true
+leaving_access (Store place value) left = refl
+leaving_access (Reduce place op value) left = refl
+leaving_access (Fetch place op value compare) left = refl
+leaving_access _ left = absurd (cc)
 
-pub extended : ResultsFit → (sites : List Site) (spans : List Span) (needed : List Bool) (number : ℕ)
-    (list cuts : List RowOp) → IsOrdered list → AreCuts sites spans needed number list cuts
-    → (index : ℕ) (caller words : List ℕ) → AreBytes caller → AreWords words → index < 2 ^ 64 → (cut_values : List ℕ)
-    → AreValues cuts index caller words cut_values → Extended list needed index caller words cut_values
-extended fits sites spans needed number list cuts ordered cut index caller words bytes fit low cut_values are = record {
-  values = all;
-  are = are_values_with fits index caller words (is_given needed) cut_values bytes fit low are.fit list ordered right;
-  same = λ k is. same k (ap flag is);
-}
-  where
-    all : List ℕ
-    all = values_with fits index caller words (is_given needed) cut_values list
+-- the value of any other operation hangs on no words
+no_words : (op : RowOp) (index : ℕ) (caller values words now : List ℕ) (n : ℕ) → is_access op ≡ false
+    → IsRowValue op index caller values words n → IsRowValue op index caller values now n
+no_words (Load place extension) index caller values words now n none is = absurd (cc)
+no_words (Store place value) index caller values words now n none is = absurd (cc)
+no_words (Reduce place op value) index caller values words now n none is = absurd (cc)
+no_words (Fetch place op value compare) index caller values words now n none is = absurd (cc)
+no_words _ index caller values words now n none is = is
 
-    same : (k : ℕ) → is_given needed k ≡ true → slice_index all k ≡ slice_index cut_values k
-    same k is = same_given fits index caller words (is_given needed) cut_values list k is
+all_with : {P Q R : ℕ → Type 0} (ks : List ℕ) → ((k : ℕ) → P k → Q k → R k) → AllByRecursion P ks
+    → AllByRecursion Q ks → AllByRecursion R ks
+all_with [] f one two = tt
+all_with (k ∷ ks) f one two = (f k one.0 two.0, all_with ks f one.1 two.1)
 
-    by_cut : (k : ℕ) (op made : RowOp) → IsNeeded needed k → IsCut sites spans needed k number op made
-        → IsRowValue made index caller cut_values words (slice_index cut_values k)
-        → IsRowValue op index caller all words (slice_index cut_values k)
-    by_cut k op made need (inl whole) is =
-        same_value op index caller words cut_values all (slice_index cut_values k)
-        (all_by (taken_by op) (λ j has. sym (same j (ap flag has))) whole.takes)
-        (subst (λ (o : RowOp). IsRowValue o index caller cut_values words (slice_index cut_values k)) whole.same is)
-    by_cut k op made need (inr (inl change)) is = absurd (change.unneeded need)
-    by_cut k op made need (inr (inr nothing)) is = absurd (nothing.unneeded need)
+-- so the lane that alone changes the words has those values, and at accesses that it doesn't make the slice's
+module _ (fits : ResultsFit) (sites : List Site) (spans : List Span) (needed : List Bool) (number : ℕ)
+    (list cuts : List RowOp) (ordered : IsOrdered list) (cut : AreCuts sites spans needed number list cuts)
+    (has : (k : ℕ) (op : RowOp) → slice_get list k ≡ Some op → KindIfAccess op) (facts : List Fact)
+    (are_facts : AreFacts list facts) (are_sites : AreSites list facts list sites)
+    (own : NeedsNoOwn sites list needed) (index : ℕ) (caller words : List ℕ) (bytes : AreBytes caller)
+    (fit : AreWords words) (low : index ≤ 2 ^ 23) (cut_values : List ℕ)
+    (are : AreValues cuts index caller words cut_values) where
+  abbrev all : List ℕ
+  all = lane_values fits index caller cut_values list words
 
-    right : (k : ℕ) (op : RowOp) → slice_get list k ≡ Some op → is_given needed k ≡ true
-        → IsRowValue op index caller all words (slice_index cut_values k)
-    right k op there is =
+  abbrev found : ℕ → List ℕ
+  found = run_words list all words
+
+  run : AreValuesOn list index caller found all
+  run = are_lane_values fits index caller cut_values bytes (omega (arith, low)) are.fit list words fit ordered
+
+  free : (k : ℕ) (op : RowOp) → slice_get list k ≡ Some op → is_access op ≡ true → IsNeeded needed k → (j : ℕ)
+      (by : RowOp) → j < k → slice_get list j ≡ Some by → KindIfAccess by × IsApart all words op by
+  free k op there is need j by less here = (
+    has j by here,
+    λ left loaded half touch touched.
+        let access = leaving_access by left in
+        ((own facts are_facts are_sites k op there is need).each (length (sites_of (take j list))) op by
+        (site-at list k op there is) (site-at list j by here access) left loaded
+        (site-before list j k by less here access)).none index caller found all low run half touch touched,
+  )
+
+  on_run : (k : ℕ) (op : RowOp) → slice_get list k ≡ Some op → IsNeeded needed k → (b : Bool) → is_access op ≡ b
+      → IsRowValue op index caller all words (slice_index cut_values k)
+      → IsRowValue op index caller all (found k) (slice_index cut_values k)
+  on_run k op there need false is value =
+      no_words op index caller all words (found k) (slice_index cut_values k) is value
+  on_run k op there need true is value =
+      finds_same all words fit index caller list k op (has k op there is) (free k op there is need)
+      (slice_index cut_values k) value
+
+  same_at : (k : ℕ) (op : RowOp) → slice_get list k ≡ Some op → IsNeeded needed k
+      → ((j : ℕ) → j < k → IsNeeded needed j → slice_index all j ≡ slice_index cut_values j)
+      → (made : RowOp) → slice_get cuts k ≡ Some made → IsCut sites spans needed k number op made
+      → slice_index all k ≡ slice_index cut_values k
+  same_at k op there need before made made_there (inl whole) =
+      let value : IsRowValue op index caller all words (slice_index cut_values k) =
+      same_value op index caller words cut_values all (slice_index cut_values k)
+      (all_with (taken_by op) (λ j less need. sym (before j less need)) (takes_below k op (ordered.each k op there))
+      whole.takes)
+      (subst (λ (o : RowOp). IsRowValue o index caller cut_values words (slice_index cut_values k)) whole.same
+      (are.each k made made_there)) in
+      lane_made fits index caller cut_values list words ordered k op there
+      ∙ made_of_own fits index caller op all (found k) (slice_index cut_values k)
+      (on_run k op there need (is_access op) refl value)
+  same_at k op there need before made made_there (inr (inl change)) = absurd (change.unneeded need)
+  same_at k op there need before made made_there (inr (inr nothing)) = absurd (nothing.unneeded need)
+
+  upto : (n k : ℕ) → k < n → IsNeeded needed k → slice_index all k ≡ slice_index cut_values k
+  upto zero k less need = absurd (omega (arith, less))
+  upto (suc n) k less need = elim (cases_lt k (length list)) [
+    | inr past ↦ lane_past fits index caller cut_values list words k past
+    | inl inside ↦
+        let op = get_or list k RowOp.All in
+        let there = slice_get-get_or list k RowOp.All inside in
         let made = cut_at list cuts cut.count k op there in
-        by_cut k op made.0 (is_flag (slice_get needed k) is) (cut.each k op made.0 there made.1)
-        (are.each k made.0 made.1)
+        same_at k op there need (λ j before. upto n j (omega (arith, before, less))) made.0 made.1
+        (cut.each k op made.0 there made.1)
+  ]
+
+  pub extended : Extended list needed index caller words cut_values
+  extended = record { values = all; are = run; same = λ k. upto (suc k) k (omega arith) }
 
 -- accesses of a lane without those that a slice leaves out: they touch what the slice's lane touches, and at open
 -- elements they are all
@@ -138,6 +187,8 @@ module _ (needed : List Bool) (words values cut_values : List ℕ)
 
   change_touches : (op : RowOp) (number : ℕ) → IsChangeAt needed op
       → touches_at (with_number op number) cut_values words ≡ touches_at op values words
+  change_touches (Load place extension) number needs =
+      change_at place number number (λ part n. Loads part extension 0) needs (λ part n m word. refl)
   change_touches (Store place value) number needs = change_at place number value store_of needs stores_alike
   change_touches (Reduce place op value) number needs =
       change_at place number value (λ part n. update_of part op n) needs (λ part n m. updates_alike part op n m)

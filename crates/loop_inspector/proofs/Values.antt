@@ -1,10 +1,11 @@
 -- The values of a lane, one after another.
 use Rattle.std.proofs.Common.{◌≡◌, ℕ, zero, suc, ◌+◌, ◌-◌, ◌*◌, ◌%◌, ◌^◌, ◌<◌, ◌≤◌, Bool, true, false, ◌&&◌, ◌||◌}
-use Rattle.std.proofs.Common.{if◌then◌else◌, inl, inr, List, [], ◌∷◌, ◌++◌, length, slice_index, refl, sym, ap}
+use Rattle.std.proofs.Common.{if◌then◌else◌, inl, inr, List, [], ◌∷◌, ◌++◌, length, slice_index, refl, sym, ap, ap₂, ◌==◌}
 use Rattle.std.{proofs.Common.{subst, ◌∙◌, arith}, specs.Prelude.{◌/◌, not, nat_lt, slice_get, Option, Some, None}}
 use Rattle.std.{specs.{Prelude.{drop}, List.{AllByRecursion}}, proofs.Math.Seq.{get_or-append_seam}}
 use Rattle.std.proofs.lemmas.Bool.{cases_lt, Decides.{nat_tests}}
 use Rattle.std.proofs.lemmas.List.{get_or_append_left, get_or-append_right, get_or-drop, length-append}
+use Rattle.array_maps.specs.Accesses.{Access, words_after_all}
 use Rattle.array_maps.specs.{MapList.{AreWords}, declared.access.{Half.TheVariants.{Low, High}, Part.{Part}}}
 use Rattle.array_maps.specs.{declared.access.Part.TheVariants.{Whole, Half as Of}, Halves.{half_of, part_of}}
 use Rattle.bpf_insn_types.specs.declared.insn.AtomicOp.{AtomicOp, TheVariants.{Simple}}
@@ -17,11 +18,11 @@ use Rattle.loop_core_model.proofs.Sparing.{word_fits}
 use Rattle.row_list.specs.{declared.row_op.RowOp.{RowOp}, Places.{taken_by}}
 use Rattle.row_list.specs.declared.row_op.RowOp.TheVariants.{All, Number, Caller, Index, Alu, Neg, Movsx, Endian, Found}
 use Rattle.row_list.specs.declared.row_op.RowOp.TheVariants.{Holds, Without, Either, Choice, Load, Store, Reduce, Fetch}
-use Rattle.row_list.specs.Rows.{RowAccess, bit, is_in, returned, row_value, row_access, IsReturned, IsRowValue}
-use Rattle.row_list.specs.Rows.{AreValues, byte_at}
+use Rattle.row_list.specs.Rows.{RowAccess, bit, is_in, returned, row_value, row_access, AreValuesOn, IsRowValue}
+use Rattle.row_list.specs.{Rows.{byte_at}, Lanes.{row_accesses, run_words}}
 use Rattle.row_facts.specs.Ordered.{TakesBelow, IsOrdered}
 use Rattle.loop_inspector.proofs.FrameNumbers.{AreBytes, frame_number}
-use Rattle.row_list.proofs.SameLanes.{Lane, same_lane, all_by}
+use Rattle.row_list.proofs.{SameLanes.{Lane, same_accesses, same_lane, all_by}, ValueLaws.{fit_after_access}}
 
 -- all that an operation takes comes before a position
 pub takes_below : (k : ℕ) (op : RowOp) → TakesBelow k op → AllByRecursion (λ j. j < k) (taken_by op)
@@ -48,11 +49,10 @@ returned_or : Option RowAccess → (words : List ℕ) → (value : ℕ) → ℕ
 returned_or None words value = value
 returned_or (Some access) words value = returned access.request (slice_index words (access.byte / 8))
 
-is_returned : (o : Option RowAccess) (values words : List ℕ) (value n : ℕ) → n ≡ returned_or o words value
-    → IsReturned o values words value n
-unfolding returned_or
-is_returned None values words value n is = is
-is_returned (Some access) values words value n is = λ there. is
+-- a number is that, or any where it isn't made
+own : (there : Bool) (found n : ℕ) → (there ≡ true → n ≡ found) → (if not there then n else found) ≡ n
+own true found n is = sym (is refl)
+own false found n is = refl
 
 -- results are words
 bit_small : (b : Bool) → bit b < 2 ^ 64
@@ -123,71 +123,127 @@ both_small one two x y k = elim (cases_lt k (length one)) [
       (y (k - length one))
 ]
 
-module _ (fits : ResultsFit) (index : ℕ) (caller words : List ℕ) where
-  -- what an operation makes, by the values before it
-  made : RowOp → List ℕ → ℕ
-  made op values = returned_or (row_access op values) words (row_value op index caller values)
+-- an operation is an access that the lane doesn't make
+abbrev is_elsewhere : RowOp → (values : List ℕ) → Bool
+is_elsewhere (Load place extension) values = not (is_in values place.mask)
+is_elsewhere (Store place value) values = not (is_in values place.mask)
+is_elsewhere (Reduce place op value) values = not (is_in values place.mask)
+is_elsewhere (Fetch place op value compare) values = not (is_in values place.mask)
+is_elsewhere _ values = false
+
+same_elsewhere : (k : ℕ) (op : RowOp) (values others : List ℕ) → TakesBelow k op
+    → ((j : ℕ) → j < k → slice_index values j ≡ slice_index others j) → is_elsewhere op values ≡ is_elsewhere op others
+same_elsewhere k (Load place extension) values others below same =
+    ap (λ (m : ℕ). not (m == 1)) (same place.mask below.0)
+same_elsewhere k (Store place value) values others below same = ap (λ (m : ℕ). not (m == 1)) (same place.mask below.0)
+same_elsewhere k (Reduce place op value) values others below same =
+    ap (λ (m : ℕ). not (m == 1)) (same place.mask below.0)
+same_elsewhere k (Fetch place op value compare) values others below same =
+    ap (λ (m : ℕ). not (m == 1)) (same place.mask below.0)
+same_elsewhere k _ values others below same = refl
+
+module _ (fits : ResultsFit) (index : ℕ) (caller : List ℕ) where
+  -- what an operation makes, by the values before it, on the words that it finds
+  found : RowOp → (values words : List ℕ) → ℕ
+  found op values words = returned_or (row_access op values) words (row_value op index caller values)
+
+  -- or another number, where it is an access that the lane doesn't make
+  pub made : RowOp → (values words : List ℕ) → (other : ℕ) → ℕ
+  made op values words other = if is_elsewhere op values then other else found op values words
 
   -- it is the same where they are
-  same_made : (k : ℕ) (op : RowOp) (values others : List ℕ) → TakesBelow k op
-      → ((j : ℕ) → j < k → slice_index values j ≡ slice_index others j) → made op values ≡ made op others
-  unfolding made
-  same_made k op values others below same =
-      ap (λ (lane : Lane). returned_or lane.access words lane.value)
+  same_made : (k : ℕ) (op : RowOp) (values others words : List ℕ) (other : ℕ) → TakesBelow k op
+      → ((j : ℕ) → j < k → slice_index values j ≡ slice_index others j)
+      → made op values words other ≡ made op others words other
+  unfolding made found
+  same_made k op values others words other below same =
+      ap₂ (λ (b : Bool) (lane : Lane). if b then other else returned_or lane.access words lane.value)
+      (same_elsewhere k op values others below same)
       (same_lane index caller op values others (all_by (taken_by op) same (takes_below k op below)))
 
+  -- it is the operation's value
+  is_made : (op : RowOp) (values words : List ℕ) (other n : ℕ) → n ≡ made op values words other
+      → IsRowValue op index caller values words n
+  unfolding made found returned_or
+  is_made (Load place extension) values words other n is = λ there.
+      is ∙ ap (λ (b : Bool). if not b then other else found (Load place extension) values words) there
+  is_made (Store place value) values words other n is = λ there.
+      is ∙ ap (λ (b : Bool). if not b then other else found (Store place value) values words) there
+  is_made (Reduce place op value) values words other n is = λ there.
+      is ∙ ap (λ (b : Bool). if not b then other else found (Reduce place op value) values words) there
+  is_made (Fetch place op value compare) values words other n is = λ there.
+      is ∙ ap (λ (b : Bool). if not b then other else found (Fetch place op value compare) values words) there
+  is_made _ values words other n is = is
+
+  -- and any that is
+  pub made_of_own : (op : RowOp) (values words : List ℕ) (n : ℕ) → IsRowValue op index caller values words n
+      → made op values words n ≡ n
+  unfolding made found returned_or
+  made_of_own (Load place extension) values words n is =
+      own (is_in values place.mask) (found (Load place extension) values words) n is
+  made_of_own (Store place value) values words n is =
+      own (is_in values place.mask) (found (Store place value) values words) n is
+  made_of_own (Reduce place op value) values words n is =
+      own (is_in values place.mask) (found (Reduce place op value) values words) n is
+  made_of_own (Fetch place op value compare) values words n is =
+      own (is_in values place.mask) (found (Fetch place op value compare) values words) n is
+  made_of_own _ values words n is = sym is
+
   -- and it is a word
-  made_small : AreBytes caller → AreWords words → index < 2 ^ 64 → (k : ℕ) (op : RowOp) (values : List ℕ) → TakesBelow k
-      op
-      → ((j : ℕ) → slice_index values j < 2 ^ 64) → made op values < 2 ^ 64
-  unfolding returned_or made
-  made_small bytes fit low k All values below small = omega arith
-  made_small bytes fit low k (Number n) values below small = below
-  made_small bytes fit low k (Caller size extension position) values below small =
+  found_fits : (words : List ℕ) → AreBytes caller → AreWords words → index < 2 ^ 64 → (k : ℕ) (op : RowOp) (values : List ℕ)
+      → TakesBelow k op → ((j : ℕ) → slice_index values j < 2 ^ 64) → found op values words < 2 ^ 64
+  unfolding returned_or found
+  found_fits words bytes fit low k All values below small = omega arith
+  found_fits words bytes fit low k (Number n) values below small = below
+  found_fits words bytes fit low k (Caller size extension position) values below small =
       frame_number caller bytes size extension position
-  made_small bytes fit low k Index values below small = low
-  made_small bytes fit low k (Alu width op first second) values below small =
+  found_fits words bytes fit low k Index values below small = low
+  found_fits words bytes fit low k (Alu width op first second) values below small =
       omega (arith, fits.alu_fits width op (slice_index values first) (slice_index values second), modulus-most width)
-  made_small bytes fit low k (Neg width value) values below small =
+  found_fits words bytes fit low k (Neg width value) values below small =
       omega (arith, fits.negated_fits width (slice_index values value), modulus-most width)
-  made_small bytes fit low k (Movsx width bits value) values below small =
+  found_fits words bytes fit low k (Movsx width bits value) values below small =
       omega (arith, fits.moved_signed_fits width bits (slice_index values value), modulus-most width)
-  made_small bytes fit low k (Endian order bits value) values below small =
+  found_fits words bytes fit low k (Endian order bits value) values below small =
       fits.in_order_is_word order bits (slice_index values value)
-  made_small bytes fit low k (Found first count key) values below small =
+  found_fits words bytes fit low k (Found first count key) values below small =
       found_small first count (slice_index values key % 2 ^ 32) below.0 below.1
-  made_small bytes fit low k (Holds mask width compare first second) values below small =
+  found_fits words bytes fit low k (Holds mask width compare first second) values below small =
       bit_small (is_in values mask && holds width compare (slice_index values first) (slice_index values second))
-  made_small bytes fit low k (Without mask other) values below small =
+  found_fits words bytes fit low k (Without mask other) values below small =
       bit_small (is_in values mask && not (is_in values other))
-  made_small bytes fit low k (Either first second) values below small = bit_small (is_in values first || is_in values
+  found_fits words bytes fit low k (Either first second) values below small = bit_small (is_in values first || is_in values
       second)
-  made_small bytes fit low k (Choice mask first second) values below small =
+  found_fits words bytes fit low k (Choice mask first second) values below small =
       chosen_small (is_in values mask) (slice_index values first) (slice_index values second) (small first) (small
       second)
-  made_small bytes fit low k (Load place extension) values below small =
+  found_fits words bytes fit low k (Load place extension) values below small =
       let byte = byte_at values place in
       loaded_small (part_named place.width byte) extension (slice_index words (byte / 8))
       (word_fits words (byte / 8) fit)
-  made_small bytes fit low k (Store place value) values below small =
+  found_fits words bytes fit low k (Store place value) values below small =
       let byte = byte_at values place in
       stored_small (part_named place.width byte) (slice_index values value) (slice_index words (byte / 8))
-  made_small bytes fit low k (Reduce place op value) values below small =
+  found_fits words bytes fit low k (Reduce place op value) values below small =
       let byte = byte_at values place in
       updated_small (part_named place.width byte) op (slice_index values value) (slice_index words (byte / 8))
-  made_small bytes fit low k (Fetch place op value compare) values below small =
+  found_fits words bytes fit low k (Fetch place op value compare) values below small =
       let byte = byte_at values place in
       fetched_small (part_named place.width byte) op (slice_index values value) (slice_index values compare)
       (slice_index words (byte / 8)) (word_fits words (byte / 8) fit)
 
-  -- values of a list, after others, where some are given
-  module _ (given : ℕ → Bool) (others : List ℕ) where
-    abbrev next : RowOp → (before : List ℕ) → ℕ
-    next op before = if given (length before) then slice_index others (length before) else made op before
+  -- the values of a list, after others, in a lane that alone changes the words; of accesses that it doesn't make others
+  module _ (others : List ℕ) where
+    abbrev next : RowOp → (before now : List ℕ) → ℕ
+    next op before now = made op before now (slice_index others (length before))
 
-    values_after : (before : List ℕ) → List RowOp → List ℕ
-    values_after before [] = before ++ drop (length before) others
-    values_after before (op ∷ list) = values_after (before ++ next op before ∷ []) list
+    abbrev then_words : RowOp → (before now : List ℕ) → List ℕ
+    then_words op before now = words_after_all (row_accesses op before now) now
+
+    values_after : (before : List ℕ) → List RowOp → (now : List ℕ) → List ℕ
+    values_after before [] now = before ++ drop (length before) others
+    values_after before (op ∷ list) now =
+        values_after (before ++ next op before now ∷ []) list (then_words op before now)
 
     -- all that each takes comes before it
     abbrev TakeBelow : (count : ℕ) → List RowOp → Type 0
@@ -205,130 +261,112 @@ module _ (fits : ResultsFit) (index : ℕ) (caller words : List ℕ) where
         let n : length before + suc j ≡ length (before ++ more ∷ []) + j = omega (arith, pushed before more) in
         subst (λ (k : ℕ). TakesBelow k o) n (below (suc j) o there)
 
-    kept : (before : List ℕ) (list : List RowOp) (k : ℕ) → k < length before
-        → slice_index (values_after before list) k ≡ slice_index before k
+    kept : (before : List ℕ) (list : List RowOp) (now : List ℕ) (k : ℕ) → k < length before
+        → slice_index (values_after before list now) k ≡ slice_index before k
     unfolding values_after
-    kept before [] k h = get_or_append_left before (drop (length before) others) 0 k h
-    kept before (op ∷ list) k h =
-        let m = next op before in
-        kept (before ++ m ∷ []) list k (omega (arith, pushed before m, h)) ∙ get_or_append_left before (m ∷ []) 0 k h
+    kept before [] now k h = get_or_append_left before (drop (length before) others) 0 k h
+    kept before (op ∷ list) now k h =
+        let m = next op before now in
+        kept (before ++ m ∷ []) list (then_words op before now) k (omega (arith, pushed before m, h))
+        ∙ get_or_append_left before (m ∷ []) 0 k h
 
     same_op : (x y : RowOp) → Some x ≡ Some y → x ≡ y
     same_op x y e = cc
 
-    -- each value that isn't given is what its operation makes of all
-    each_made : (before : List ℕ) (list : List RowOp) → TakeBelow (length before) list → (j : ℕ) (op : RowOp)
-        → slice_get list j ≡ Some op → given (length before + j) ≡ false
-        → slice_index (values_after before list) (length before + j) ≡ made op (values_after before list)
+    -- each value is what its operation makes of all
+    each_made : (before : List ℕ) (list : List RowOp) (now : List ℕ) → TakeBelow (length before) list → (j : ℕ)
+        (op : RowOp) → slice_get list j ≡ Some op
+        → slice_index (values_after before list now) (length before + j)
+        ≡ made op (values_after before list now) (run_words list (values_after before list now) now j)
+        (slice_index others (length before + j))
     unfolding values_after
-    each_made before [] below j op there free = cc there
-    each_made before (o ∷ list) below zero op there free =
-        let m = next o before in
-        let all = values_after (before ++ m ∷ []) list in
+    each_made before [] now below j op there = cc there
+    each_made before (o ∷ list) now below zero op there =
+        let m = next o before now in
+        let all = values_after (before ++ m ∷ []) list (then_words o before now) in
         let here : length before + 0 ≡ length before = omega arith in
         ap (slice_index all) here
-        ∙ kept (before ++ m ∷ []) list (length before) (omega (arith, pushed before m))
+        ∙ kept (before ++ m ∷ []) list (then_words o before now) (length before) (omega (arith, pushed before m))
         ∙ get_or-append_seam before m [] 0
-        ∙ ap (λ (b : Bool). if b then slice_index others (length before) else made o before)
-        (sym (ap given here) ∙ free)
-        ∙ same_made (length before) o before all (first_takes before o list below)
-        (λ j h. sym (kept before (o ∷ list) j h))
-        ∙ ap (λ (x : RowOp). made x all) (same_op o op there)
-    each_made before (o ∷ list) below (suc j) op there free =
-        let m = next o before in
+        ∙ same_made (length before) o before all now (slice_index others (length before)) (first_takes before o list below)
+        (λ j h. sym (kept before (o ∷ list) now j h))
+        ∙ ap₂ (λ (x : RowOp) (k : ℕ). made x all now (slice_index others k)) (same_op o op there) (sym here)
+    each_made before (o ∷ list) now below (suc j) op there =
+        let m = next o before now in
+        let all = values_after (before ++ m ∷ []) list (then_words o before now) in
         let n : length before + suc j ≡ length (before ++ m ∷ []) + j = omega (arith, pushed before m) in
-        ap (slice_index (values_after (before ++ m ∷ []) list)) n
-        ∙ each_made (before ++ m ∷ []) list (take_on before m o list below) j op there (sym (ap given n) ∙ free)
+        let same : row_accesses o before now ≡ row_accesses o all now =
+        same_accesses o now before all (all_by (taken_by o) (λ i h. sym (kept before (o ∷ list) now i h))
+        (takes_below (length before) o (first_takes before o list below))) in
+        ap (slice_index all) n
+        ∙ each_made (before ++ m ∷ []) list (then_words o before now) (take_on before m o list below) j op there
+        ∙ ap₂ (λ (accesses : List Access) (k : ℕ). made op all (run_words list all (words_after_all accesses now) j)
+        (slice_index others k)) same (sym n)
 
-    -- the others are
-    abbrev AreGiven : List ℕ → Type 0
-    AreGiven before = (k : ℕ) → k < length before → given k ≡ true → slice_index before k ≡ slice_index others k
-
-    given_on : (op : RowOp) (before : List ℕ) → AreGiven before → AreGiven (before ++ next op before ∷ [])
-    given_on op before are k h is = elim (cases_lt k (length before)) [
-      | inl l ↦ get_or_append_left before (next op before ∷ []) 0 k l ∙ are k l is
-      | inr l ↦
-          let here : k ≡ length before = omega (arith, h, l, pushed before (next op before)) in
-          ap (slice_index (before ++ next op before ∷ [])) here
-          ∙ get_or-append_seam before (next op before) [] 0
-          ∙ ap (λ (b : Bool). if b then slice_index others (length before) else made op before)
-          (sym (ap given here) ∙ is)
-          ∙ ap (slice_index others) (sym here)
-    ]
-
-    all_given : (before : List ℕ) (list : List RowOp) → AreGiven before → (k : ℕ) → given k ≡ true
-        → slice_index (values_after before list) k ≡ slice_index others k
+    -- past the list they are the others
+    past : (before : List ℕ) (list : List RowOp) (now : List ℕ) (k : ℕ) → length before + length list ≤ k
+        → slice_index (values_after before list now) k ≡ slice_index others k
     unfolding values_after
-    all_given before [] are k is = elim (cases_lt k (length before)) [
-      | inl l ↦ get_or_append_left before (drop (length before) others) 0 k l ∙ are k l is
-      | inr l ↦
-          let same : length before + (k - length before) ≡ k = omega (arith, l) in
-          get_or-append_right before (drop (length before) others) (length before) k 0 refl l
-          ∙ get_or-drop (length before) others (k - length before) 0
-          ∙ ap (slice_index others) same
-    ]
-    all_given before (op ∷ list) are k is =
-        all_given (before ++ next op before ∷ []) list (given_on op before are) k is
+    past before [] now k h =
+        let same : length before + (k - length before) ≡ k = omega (arith, h) in
+        get_or-append_right before (drop (length before) others) (length before) k 0 refl (omega (arith, h))
+        ∙ get_or-drop (length before) others (k - length before) 0
+        ∙ ap (slice_index others) same
+    past before (op ∷ list) now k h =
+        let m = next op before now in
+        past (before ++ m ∷ []) list (then_words op before now) k (omega (arith, pushed before m, h))
 
-    pub values_with : List RowOp → List ℕ
-    values_with list = values_after [] list
+    pub lane_values : List RowOp → (words : List ℕ) → List ℕ
+    lane_values list words = values_after [] list words
 
-    pub same_given : (list : List RowOp) (k : ℕ) → given k ≡ true
-        → slice_index (values_with list) k ≡ slice_index others k
-    unfolding values_with
-    same_given list k is = all_given [] list (λ j h. absurd (omega (arith, h))) k is
+    pub lane_made : (list : List RowOp) (words : List ℕ) → IsOrdered list → (k : ℕ) (op : RowOp)
+        → slice_get list k ≡ Some op → slice_index (lane_values list words) k
+        ≡ made op (lane_values list words) (run_words list (lane_values list words) words k) (slice_index others k)
+    unfolding lane_values
+    lane_made list words ordered k op there =
+        let all = values_after [] list words in
+        subst (λ (j : ℕ). slice_index all j ≡ made op all (run_words list all words k) (slice_index others j)) (start k)
+        (each_made [] list words (below list ordered) k op there)
+      where
+        start : (j : ℕ) → 0 + j ≡ j
+        start j = omega arith
 
-    module _ (bytes : AreBytes caller) (fit : AreWords words) (low : index < 2 ^ 64) (small : AreSmall others) where
-      all_small : (before : List ℕ) (list : List RowOp) → TakeBelow (length before) list → AreSmall before
-          → AreSmall (values_after before list)
-      unfolding values_after
-      all_small before [] below few =
+        below : (list : List RowOp) → IsOrdered list → TakeBelow 0 list
+        below list ordered j op there = subst (λ (i : ℕ). TakesBelow i op) (sym (start j)) (ordered.each j op there)
+
+    pub lane_past : (list : List RowOp) (words : List ℕ) (k : ℕ) → length list ≤ k
+        → slice_index (lane_values list words) k ≡ slice_index others k
+    unfolding lane_values
+    lane_past list words k h = past [] list words k (omega (arith, h))
+
+    module _ (bytes : AreBytes caller) (low : index < 2 ^ 64) (small : AreSmall others) where
+      all_small : (before : List ℕ) (list : List RowOp) (now : List ℕ) → AreWords now → TakeBelow (length before) list
+          → AreSmall before → AreSmall (values_after before list now)
+      unfolding values_after made
+      all_small before [] now fit below few =
           let n = length before in
           both_small before (drop n others) few
           (λ k. subst (λ (m : ℕ). m < 2 ^ 64) (sym (get_or-drop n others k 0)) (small (n + k)))
-      all_small before (op ∷ list) below few =
+      all_small before (op ∷ list) now fit below few =
           let n = length before in
-          let made_fits = made_small bytes fit low n op before (first_takes before op list below) few in
-          let fits_here = chosen_small (given n) (slice_index others n) (made op before) (small n) made_fits in
-          all_small (before ++ next op before ∷ []) list (take_on before (next op before) op list below)
-          (both_small before (next op before ∷ []) few (one_small (next op before) fits_here))
+          let m = next op before now in
+          let found_is = found_fits now bytes fit low n op before (first_takes before op list below) few in
+          let fits_here = chosen_small (is_elsewhere op before) (slice_index others n) (found op before now) (small n)
+          found_is in
+          all_small (before ++ m ∷ []) list (then_words op before now) (fit_after_access fits op before now few fit)
+          (take_on before m op list below) (both_small before (m ∷ []) few (one_small m fits_here))
 
-      -- they are a lane's, where those that are given are
-      pub are_values_with : (list : List RowOp) → IsOrdered list
-          → ((k : ℕ) (op : RowOp) → slice_get list k ≡ Some op → given k ≡ true →
-          IsRowValue op index caller (values_with list) words (slice_index others k))
-          → AreValues list index caller words (values_with list)
-      unfolding values_with made
-      are_values_with list ordered right = record {
-        each = λ k op there. by_given k op there (given k) refl;
-        fit = all_small [] list below (λ k. omega arith);
+      -- they are a lane's
+      pub are_lane_values : (list : List RowOp) (words : List ℕ) → AreWords words → IsOrdered list
+          → AreValuesOn list index caller (run_words list (lane_values list words) words) (lane_values list words)
+      unfolding lane_values
+      are_lane_values list words fit ordered = record {
+        each = λ k op there. is_made op (lane_values list words) (run_words list (lane_values list words) words k)
+            (slice_index others k) (slice_index (lane_values list words) k) (lane_made list words ordered k op there);
+        fit = all_small [] list words fit below (λ k. omega arith);
       }
         where
-          all : List ℕ
-          all = values_after [] list
-
-          start : (k : ℕ) → 0 + k ≡ k
-          start k = omega arith
-
           below : TakeBelow 0 list
-          below j op there = subst (λ (k : ℕ). TakesBelow k op) (sym (start j)) (ordered.each j op there)
-
-          by_given : (k : ℕ) (op : RowOp) → slice_get list k ≡ Some op → (b : Bool) → given k ≡ b
-              → IsRowValue op index caller all words (slice_index all k)
-          by_given k op there true is =
-              subst (λ (n : ℕ). IsRowValue op index caller all words n)
-              (sym (all_given [] list (λ j h. absurd (omega (arith, h))) k is)) (right k op there is)
-          by_given k op there false is =
-              is_returned (row_access op all) all words (row_value op index caller all) (slice_index all k)
-              (subst (λ (j : ℕ). slice_index all j ≡ made op all) (start k)
-              (each_made [] list below k op there (ap given (start k) ∙ is)))
-
-  pub values_of : List RowOp → List ℕ
-  values_of list = values_with (λ k. false) [] list
-
-  -- they are a lane's
-  pub are_values : AreBytes caller → AreWords words → index < 2 ^ 64 → (list : List RowOp) → IsOrdered list
-      → AreValues list index caller words (values_of list)
-  unfolding values_of
-  are_values bytes fit low list ordered =
-      are_values_with (λ k. false) [] bytes fit low (λ k. omega arith) list ordered (λ k op there is. absurd (cc is))
+          below j op there =
+              let start : 0 + j ≡ j = omega arith in
+              subst (λ (i : ℕ). TakesBelow i op) (sym start) (ordered.each j op there)

@@ -13,7 +13,7 @@ use Rattle.row_facts.specs.{Sites.{AreSites}, Ordered.{IsOrdered}}
 use Rattle.shadow_marks.specs.{declared.planes.Planes.{Planes}, Standing.{StandFor, test_of}}
 use Rattle.loop_marks.specs.Visits.{visits_below}
 use Rattle.loop_inspector.specs.declared.{survey.Survey.{Survey}, inspection.Inspection.{Inspection}}
-use Rattle.loop_inspector.specs.{Open.{IsPlaneOf, NoneLoadsOwn, OpenUpto}, Slices.{IsSlice}}
+use Rattle.loop_inspector.specs.{Open.{IsPlaneOf, OpenUpto}, Slices.{IsSlice}}
 
 -- what is known of the iterations of a list, of indexes below n: the elements at which they may conflict
 pub record IsSurvey (list : List RowOp) (n : ℕ) (survey : Survey) : Type 0 where
@@ -23,12 +23,10 @@ pub record IsSurvey (list : List RowOp) (n : ℕ) (survey : Survey) : Type 0 whe
   pub are_sites : AreSites list facts list survey.sites.items
   pub all : OpenUpto survey.sites.items n (length survey.sites.items) survey.spans.items
 
--- what is known of a loop of a callback over so many elements: its slice is for the elements that are open, and no
--- iteration loads what it left itself
+-- what is known of a loop of a callback over so many elements: its slice is for the elements that are open
 pub record IsInspection (rows : CallbackRows) (n elements : ℕ) (inspection : Inspection) : Type 0 where
   pub survey : Survey
   pub known : IsSurvey rows.list.list.items n survey
-  pub own : NoneLoadsOwn rows.list.list.items survey.sites.items
   pub plane : IsPlaneOf survey.spans.items elements inspection.plane.items
   pub slice : IsSlice survey.sites.items survey.spans.items rows.list.list.items rows.list.result inspection.slice
 

@@ -1,9 +1,8 @@
 -- Elements that are open: iterations may conflict there.
 use Rattle.std.specs.Prelude.{◌≡◌, ℕ, ◌/◌, ◌<◌, ◌≤◌, ◌⊎◌, true, List, Some, length, slice_get}
 use Rattle.loop_core_model.specs.Planes.{bit_of}
-use Rattle.row_list.specs.declared.row_op.RowOp.{RowOp}
-use Rattle.row_facts.specs.{declared.{site.Site.{Site}, meeting.Meeting.{Meeting}}, Facts.{IsSure}, Elements.{reads}}
-use Rattle.row_facts.specs.Meetings.{AreMeetings, leaves, loads, ReduceAlike}
+use Rattle.row_facts.specs.{declared.site.Site.{Site}, Facts.{IsSure}, Elements.{reads}}
+use Rattle.row_facts.specs.Meetings.{leaves, ReduceAlike}
 use Rattle.loop_inspector.specs.{declared.reach.Span.{Span}, Reach.{IsIn, AreAlone}}
 
 -- an element is in one of some spans
@@ -49,23 +48,3 @@ pub record SetsSpan (span : Span) (elements : ℕ) (old new : List ℕ) : Type 0
   pub bits : (e : ℕ) → bit_of new e ≡ true → bit_of old e ≡ true ⊎ (IsIn span e × (e < elements))
   pub kept : (e : ℕ) → bit_of old e ≡ true → bit_of new e ≡ true
   pub set : (e : ℕ) → e < elements → IsIn span e → bit_of new e ≡ true
-
--- a meeting is of a lane that loads at a site what it left itself at an earlier one
-pub record IsOwn (sites : List Site) (meeting : Meeting) : Type 0 where
-  pub at : Site
-  pub by : Site
-  pub before : meeting.second < meeting.first
-  pub first : slice_get sites meeting.first ≡ Some at
-  pub second : slice_get sites meeting.second ≡ Some by
-  pub loaded : loads at.op ≡ true
-  pub left : leaves by.op ≡ true
-
--- none of these is
-abbrev pub NoneOfOwn : List Site → List Meeting → Type 0
-NoneOfOwn sites meetings = (k : ℕ) (meeting : Meeting) → slice_get meetings k ≡ Some meeting → IsOwn sites meeting → ⊥
-
--- none of a list is
-pub record NoneLoadsOwn (list : List RowOp) (sites : List Site) : Type 0 where
-  pub meetings : List Meeting
-  pub are : AreMeetings list meetings
-  pub none : NoneOfOwn sites meetings

@@ -13,7 +13,7 @@ ghost use Rattle.loop_inspector.specs.Inspections.{AreInspected, IsInspection, I
 
 use crate::open::plane_of;
 use crate::slice::{Slice, slice_of};
-use crate::survey::{none_loads_own, survey_of};
+use crate::survey::survey_of;
 use array_maps::{Maps, are_words};
 use bpf_insn_types::results_fit;
 use bpf_step::{LoopCall, law_of_plain_iterations};
@@ -54,9 +54,6 @@ fn inspection_of(
     let Some(survey) = survey_of(alloc, ops, n)? else {
         return Ok(None);
     };
-    if !none_loads_own(alloc, ops, survey.sites.as_slice())? {
-        return Ok(None);
-    }
     let plane = plane_of(alloc, survey.spans.as_slice(), elements)?;
     match slice_of(
         alloc,
@@ -260,8 +257,8 @@ impl Inspection {
 }
 
 /// The verdict by the flow test on a loop call that main of this program made, from these maps, which are of the
-/// program's sizes. `None` where it isn't known: the callback has no list, or an iteration returns 1, or may load what it
-/// left itself. It fails where memory runs out.
+/// program's sizes. `None` where it isn't known: the callback has no list, or an iteration returns 1, or goes on with
+/// what it may have left itself. It fails where memory runs out.
 pub fn inspect(
     alloc: Global,
     program: &Verified,

@@ -1,11 +1,10 @@
-use Rattle.std.proofs.Common.{◌≡◌, ◌∙◌, ℕ, Bool, Option, Result, Ok, Err, List, [], ◌∷◌, length, true, refl, sym, subst}
-use Rattle.std.{proofs.{Common.{arith}, lemmas.Bool.{eqb-true}}, specs.Prelude.{IfOk, IfSome}}
+use Rattle.std.proofs.Common.{◌≡◌, ◌∙◌, ℕ, Option, List, [], ◌∷◌, length, refl, sym, subst}
+use Rattle.std.{proofs.{Common.{arith}, lemmas.Bool.{eqb-true}}, specs.Prelude.{IfSome}}
 use Rattle.bpf_verify.specs.Rows.{AreRowsAt}
 use Rattle.bpf_verify_sound.specs.Soundness.{IsSoundProgram}
 use Rattle.bpf_step.proofs.Limits.{iterations_end}
 use Rattle.row_list.specs.declared.row_op.RowOp.{RowOp}
-use Rattle.row_facts.specs.declared.site.Site.{Site}
-use Rattle.loop_inspector.specs.{Independent.{AlwaysPasses}, Inspections.{IsSurvey}, Open.{NoneLoadsOwn}}
+use Rattle.loop_inspector.specs.{Inspections.{IsSurvey}}
 use Rattle.loop_inspector.specs.declared.{reach.Span.{Span}, survey.Survey.{Survey}}
 use Rattle.loop_inspector.proofs.Passing.{none_open_pass}
 use Rattle.loop_inspector.proofs.independent.is_independent.Goals as goal
@@ -14,12 +13,6 @@ use Rattle.loop_inspector.proofs.independent.is_independent.Goals as goal
 none_left : (spans : List Span) → length spans ≡ 0 → spans ≡ []
 none_left [] none = refl
 none_left (span ∷ spans) none = absurd (omega (arith, none))
-
--- what follows from what is found
-if_found : {E : Type 0} → (found : Result Bool E) (P Q : Type 0) → (P → Q) → IfOk found (λ b. b ≡ true → P)
-    → IfOk found (λ b. b ≡ true → Q)
-if_found (Ok b) P Q so is = λ true_there. so (is true_there)
-if_found (Err e) P Q so is = tt
 
 pub returns : goal.returns
 returns c =
@@ -30,19 +23,15 @@ returns c =
     let survey : Survey = c.in-Some-2.survey in
     let sound : IsSoundProgram program =
     record { accepted = c.unit-unit.ensures.accepted; fits = c.unit-unit.ensures.fit } in
-    if_found c.none_loads_own.result (NoneLoadsOwn c.as_slice-ops.result.now c.as_slice.result.now)
-    (AlwaysPasses program call)
-    (λ own. none_open_pass c.results_fit.ensures c.law_of_plain_iterations.ensures program sound
-    (iterations_end c.law_of_accepted_programs.ensures c.law_of_accepted_runs.ensures.counts program sound)
-    call c.requires rows
-    (subst (λ (start : ℕ). AreRowsAt program start rows) c.callback.ensures c.in-Some.ensures) survey
-    (subst (λ (n : ℕ). IsSurvey list n survey) c.n.ensures
+    let known : IsSurvey list call.n survey =
+    subst (λ (n : ℕ). IsSurvey list n survey) c.n.ensures
     (subst (λ (ops : List RowOp). IsSurvey ops c.n.result survey) c.as_slice-ops.ensures.value
     (subst (λ (found : Option Survey). IfSome found (IsSurvey c.as_slice-ops.result.now c.n.result)) c.in-Some-2.is
-    c.in_ok-survey.ensures)))
-    (subst (λ (all : List Site). NoneLoadsOwn list all) c.as_slice.ensures.value
-    (subst (λ (ops : List RowOp). NoneLoadsOwn ops c.as_slice.result.now) c.as_slice-ops.ensures.value own))
+    c.in_ok-survey.ensures)) in
+    λ is. none_open_pass c.results_fit.ensures c.law_of_plain_iterations.ensures program sound
+    (iterations_end c.law_of_accepted_programs.ensures c.law_of_accepted_runs.ensures.counts program sound)
+    call c.requires rows
+    (subst (λ (start : ℕ). AreRowsAt program start rows) c.callback.ensures c.in-Some.ensures) survey known
     (none_left survey.spans.items (sym survey.spans.ok.0
-    ∙ eqb-true survey.spans.len 0 (sym c.is_empty.ensures ∙ c.if-not-is_empty.false)))
-    c.frame-frame.result.now c.frame-frame.ensures)
-    c.none_loads_own.ensures
+    ∙ eqb-true survey.spans.len 0 (sym c.is_empty.ensures ∙ is)))
+    c.frame-frame.result.now c.frame-frame.ensures

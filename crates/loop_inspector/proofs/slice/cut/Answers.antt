@@ -1,4 +1,7 @@
-use Rattle.std.proofs.Common.{refl, inl, inr}
+use Rattle.std.proofs.Common.{◌∙◌, refl, sym, ap, inl, inr, subst}
+use Rattle.row_list.specs.{declared.row_op.Place.{Place}, Places.{place_in}}
+use Rattle.row_facts.proofs.SiteLaws.{some-same}
+use Rattle.loop_inspector.specs.Slices.{IsNeeded}
 use Rattle.loop_inspector.proofs.slice.cut.Goals as goal
 
 pub returns-then-not-opens : goal.returns-then-not-opens
@@ -8,16 +11,32 @@ returns-then-not-opens c sites spans closed = inr (inr (record {
   closed = closed c.if-not-opens.true;
 }))
 
-pub returns-else-not-is_made : goal.returns-else-not-is_made
-returns-else-not-is_made c sites spans closed = rw c.in-Store.is (inr (inl (record {
-  same = refl;
-  change = c.is_made.ensures c.if-not-is_made.false;
-  unneeded = λ needed. absurd (cc (c.is_set_at.ensures.only needed, c.if-is_set_at.false));
-})))
+pub returns-in-Load : goal.returns-in-Load
+returns-in-Load c sites spans closed =
+    let same = some-same c.in-Some.place c.in-Load.place (sym c.in-Some.is ∙ c.place.ensures ∙ ap place_in c.in-Load.is) in
+    rw (c.in-Load.is) (inr (inl (record {
+      same = refl;
+      change = subst (λ (p : Place). IsNeeded c.args.needed.now p.mask × IsNeeded c.args.needed.now p.address) same
+          (c.is_made.ensures c.if-not-is_made.false);
+      unneeded = λ needed. absurd (cc (c.is_set_at.ensures.only needed, c.if-is_set_at.false));
+    })))
 
-pub returns-else-not-is_made-2 : goal.returns-else-not-is_made-2
-returns-else-not-is_made-2 c sites spans closed = rw c.in-Reduce.is (inr (inl (record {
-  same = refl;
-  change = c.is_made-in-Reduce.ensures c.if-not-is_made-2.false;
-  unneeded = λ needed. absurd (cc (c.is_set_at.ensures.only needed, c.if-is_set_at.false));
-})))
+pub returns-in-Store : goal.returns-in-Store
+returns-in-Store c sites spans closed =
+    let same = some-same c.in-Some.place c.in-Store.place (sym c.in-Some.is ∙ c.place.ensures ∙ ap place_in c.in-Store.is) in
+    rw (c.in-Store.is, same) (inr (inl (record {
+      same = refl;
+      change = subst (λ (p : Place). IsNeeded c.args.needed.now p.mask × IsNeeded c.args.needed.now p.address) same
+          (c.is_made.ensures c.if-not-is_made.false);
+      unneeded = λ needed. absurd (cc (c.is_set_at.ensures.only needed, c.if-is_set_at.false));
+    })))
+
+pub returns-in-Reduce : goal.returns-in-Reduce
+returns-in-Reduce c sites spans closed =
+    let same = some-same c.in-Some.place c.in-Reduce.place (sym c.in-Some.is ∙ c.place.ensures ∙ ap place_in c.in-Reduce.is) in
+    rw (c.in-Reduce.is, same) (inr (inl (record {
+      same = refl;
+      change = subst (λ (p : Place). IsNeeded c.args.needed.now p.mask × IsNeeded c.args.needed.now p.address) same
+          (c.is_made.ensures c.if-not-is_made.false);
+      unneeded = λ needed. absurd (cc (c.is_set_at.ensures.only needed, c.if-is_set_at.false));
+    })))

@@ -8,12 +8,12 @@ returns c =
     let list = c.args.ops.now in
     let sites = c.in_ok-sites.sites.items in
     let spans = c.in_ok-spans.spans.items in
+    let facts = c.in_ok-facts.facts.items in
     record {
       ordered = c.if-not-is_ordered.ensures refl;
-      facts = c.in_ok-facts.facts.items;
+      facts = facts;
       are_facts = c.in_ok-facts.ensures;
-      are_sites = subst (λ (facts : List Fact). AreSites list facts list sites) c.deref.ensures.value
-          c.in_ok-sites.ensures;
+      are_sites = subst (λ (all : List Fact). AreSites list all list sites) c.deref.ensures.value c.in_ok-sites.ensures;
       all = subst (λ (all : List Site). OpenUpto all c.args.n (length all) spans) c.as_slice.ensures.value
           c.in_ok-spans.ensures;
     }
