@@ -65,7 +65,7 @@ impl Batches {
         law_of_plain_iterations();
         law_of_accepted_runs();
         law_of_accepted_programs();
-        // These tell the proof that the program is accepted, and how many words the maps have.
+        // For the proof: the program is accepted, and the maps have as many words as their sizes add up to.
         let _unit = run.program.unit();
         let _sizes = maps.sizes();
         let _words = maps.words();

@@ -16,8 +16,8 @@ pub(crate) fn one_by_one(run: &mut LoopRun<'_>, from: u32, to: u32, maps: &mut M
     ensures same { run.new ≡ run.old }
     ensures ran { RanTo run.old.program.now run.old.call.now from to maps.old maps.new result }
 {
-    // These tell the proof that the program is accepted, how many iterations the call has, and how many
-    // words the maps have.
+    // For the proof: the program is accepted, the call has n iterations, and the maps have as many words as their sizes
+    // add up to.
     let _unit = run.program.unit();
     let _n = run.call.n();
     let _sizes = maps.sizes();

@@ -89,7 +89,7 @@ impl Batches {
         law_of_plain_iterations();
         law_of_accepted_runs();
         law_of_accepted_programs();
-        // These tell the proof that the program is accepted, and how many words the maps have.
+        // For the proof: the program is accepted, and the maps have as many words as their sizes add up to.
         let _unit = run.program.unit();
         let _sizes = maps.sizes();
         let _words = maps.words();
@@ -155,8 +155,8 @@ fn one_watched(run: &mut LoopRun<'_>, index: u32, log: &mut UndoLog, maps: &mut 
         → WatchedTo run.old.program.now run.old.call.now (index + 1) start maps.new log.new result }
 {
     law_of_watching();
-    // These tell the proof that the program is accepted, how many iterations the call has, and how many words the maps
-    // have.
+    // For the proof: the program is accepted, the call has n iterations, and the maps have as many words as their sizes
+    // add up to.
     let _unit = run.program.unit();
     let _n = run.call.n();
     let _sizes = maps.sizes();

@@ -86,7 +86,7 @@ pub(crate) fn run_independent(job: &LoopJob, maps: &mut Maps) -> LoopAnswer
         maps.new }
     ensures strategy { (otherwise : BlockPlan) → IsWatchedStrategy job.now maps.old.words otherwise result.strategy }
 {
-    // These tell the proof how many words the maps have, and that they are below 2^64.
+    // For the proof: the maps have as many words as their sizes add up to, each below 2^64.
     let _sizes = maps.sizes();
     let _words = maps.words();
     let answer = in_order(job.program, job.call, maps);
