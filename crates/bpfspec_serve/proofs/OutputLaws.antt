@@ -1,66 +1,45 @@
 -- What inputs can be read.
 use Rattle.std.proofs.Common.{◌≡◌, ℕ, ◌≤◌, ◌<◌, Bool, false, true, List, length, if◌then◌else◌, Result, Ok, Err, refl}
-use Rattle.std.proofs.Common.{take, Option, Some, None, IfSome, sym, ap, ap₂, ◌∙◌, subst, nat_eq, arith}
+use Rattle.std.proofs.Common.{take, Option, Some, None, IfSome, sym, ap, ◌∙◌, subst, nat_eq, arith}
 use Rattle.std.{specs.Prelude.{◌++◌, IfOk, codes, nat_lt, nat_le}, proofs.lemmas.Fmt.{decimal_digit}}
 use Rattle.std.specs.{declared.alloc.AllocError.{AllocError}, Cmp.Lexicographic.{pointwise, same_text}}
-use Rattle.std.{specs.{List.{concat, flat_map}, Str.{IsUtf8, is_utf8}}, proofs.lemmas.Bool.Decides.{nat_tests}}
+use Rattle.std.{specs.{List.{concat}, Str.{IsUtf8, is_utf8}}, proofs.lemmas.Bool.Decides.{nat_tests}}
 use Rattle.std.proofs.lemmas.{Str.{IsUtf8-from_is_utf8, is_utf8-from_IsUtf8}, List.{take_all, length-take}}
 use Rattle.array_maps.specs.MapList.{lengths}
 use Rattle.bpf_insn_types.specs.{Limits.{AreSizes, sizes_fit}, Program.{Program}}
-use Rattle.bpf_step_model.specs.Run.{BoundedResult, Ended}
-use Rattle.bpf_verify_model.specs.{Accepted.{first_fault}, declared.rule.Rule.{Rule}}
-use Rattle.loop_core_model.specs.{Report.{Reported}, declared.{event.Event.{Event}, loop_test.Test.{Test}}}
-use Rattle.bpfspec_output.specs.{ReportText.{replay_text, report_text}, Streams.{ReadsToEnd}}
+use Rattle.loop_core_model.specs.{declared.{event.Event.{Event}, loop_test.Test.{Test}}}
+use Rattle.bpfspec_output.specs.{Streams.{ReadsToEnd}}
 use Rattle.bpfspec_output.specs.declared.refusal.Section.TheVariants as sections
 use Rattle.bpfspec_output.specs.declared.refusal.Refusal.TheVariants as refusals
-use Rattle.spec_run_replay.specs.{declared.replaying.Replayed.{Replayed}, ProgramReplay.{LoopReplay}}
+use Rattle.spec_run_replay.specs.{ProgramReplay.{LoopReplay}}
 use Rattle.bpf_text_lex.specs.declared.text_error.TextFault.TheVariants as text_faults
-use Rattle.bpfspec_serve.specs.HowServed.{AnswersReader, HowWritten, HowServed, Answered, Out_of_memory, Read_failed}
+use Rattle.bpfspec_serve.specs.HowServed.{AnswersReader, HowServed, Answered, Out_of_memory, Read_failed}
 use Rattle.bpfspec_serve.specs.declared.{answer_error.AnswerError.{AnswerError}, serving.Served.{Served}}
-use Rattle.bpfspec_serve.specs.{declared.serving.Answer.{Answer as AnswerGiven}, Facts.{AreFacts, verify_served}}
+use Rattle.bpfspec_serve.specs.{declared.serving.Answer.{Answer as AnswerGiven}, Facts.{AreFacts}}
 use Rattle.bpfspec_serve.specs.Answering.{Answers, AreLines, Gives, IsText, answer_of}
 use Rattle.bpfspec_serve.specs.Output.{refused, readable, fitting, ByPlan, InMode, OfReadable, OfInput, Answer}
-use Rattle.bpfspec_serve.specs.Output.{IsReplayed, ReplaysTo, judged, loop_replay, unless_rule_broken, IsPrinted}
+use Rattle.bpfspec_serve.specs.Output.{IsReplayed, ReplaysTo}
 use Rattle.bpfspec_serve.specs.Output.{SatisfiesUnlessMemory, AnswerGives, TextOutcome}
 use Rattle.bpfspec_serve.specs.declared.answer_error.AnswerError.TheVariants as errors
 use Rattle.bpfspec_command_line.specs.declared.job.{Ask.{Ask}, Job.{Job, TheVariants.{Facts, Run, Serve}}}
-use Rattle.bpfspec_records.specs.{declared.records.Record.{Record}, Printed.{printed}}
+use Rattle.bpfspec_records.specs.{Printed.{printed}}
 use Rattle.bpfspec_records.specs.Fields.{key, number, object, object_end, object_start}
 use Rattle.bpfspec_records.specs.declared.records.Record.TheVariants as records
 
 -- an input that isn't too long
-short : (input : List ℕ) → length input ≤ 3145728 → readable input
-    ≡ (if is_utf8 input then Ok input else refused (refusals.Text text_faults.Form sections.Unit 0))
-short input few =
-    let within : nat_lt 3145728 (length input) ≡ false = grind (arith, nat_tests) in
-    ap (λ (b : Bool). if b then refused (refusals.Text text_faults.TooLong sections.Unit 0)
-    else (if is_utf8 input then Ok input else refused (refusals.Text text_faults.Form sections.Unit 0))) within
+short : (input : List ℕ) → length input ≤ 3145728 → nat_lt 3145728 (length input) ≡ false
+short input few = grind (arith, nat_tests)
 
 pub reads_text : (input : List ℕ) → length input ≤ 3145728 → IsUtf8 input → Ok input ≡ readable input
-reads_text input few utf8 =
-    sym (short input few ∙ ap (λ (b : Bool). if b then Ok input
-    else refused (refusals.Text text_faults.Form sections.Unit 0)) (is_utf8-from_IsUtf8 input utf8))
+reads_text input few utf8 = rw (short input few, is_utf8-from_IsUtf8 input utf8)
 
-pub not_utf8 : (input : List ℕ) (b : Bool) → is_utf8 input ≡ b → ¬ IsUtf8 input → b ≡ false
+not_utf8 : (input : List ℕ) (b : Bool) → is_utf8 input ≡ b → ¬ IsUtf8 input → b ≡ false
 not_utf8 input false same other = refl
 not_utf8 input true same other = absurd (other (IsUtf8-from_is_utf8 input same))
 
 pub refuses_bytes : (input : List ℕ) → length input ≤ 3145728 → ¬ IsUtf8 input
     → refused (refusals.Text text_faults.Form sections.Unit 0) ≡ readable input
-refuses_bytes input few other =
-    sym (short input few ∙ ap (λ (b : Bool). if b then Ok input
-    else refused (refusals.Text text_faults.Form sections.Unit 0)) (not_utf8 input (is_utf8 input) refl other))
-
--- a unit that breaks no rule is its program, and another is refused by its first fault
-pub judges_fine : (unit program : Program) → program ≡ unit → first_fault unit ≡ None → Ok program ≡ judged unit
-unfolding judged
-judges_fine unit program same fine = ap Ok same ∙ sym (ap (unless_rule_broken unit) fine)
-
-pub judges_fault : (unit : Program) (rule : Rule) (slot : ℕ)
-    → first_fault unit ≡ Some (record { rule = rule; slot = slot })
-    → refused (refusals.Rule rule slot) ≡ judged unit
-unfolding judged
-judges_fault unit rule slot fault = sym (ap (unless_rule_broken unit) fault)
+refuses_bytes input few other = rw (short input few, not_utf8 input (is_utf8 input) refl other)
 
 -- values that no maps may have aren't those of a program
 pub other_sizes : (values : List (List ℕ)) (sizes : List ℕ) → sizes_fit (lengths values) ≡ false → AreSizes sizes
@@ -72,19 +51,7 @@ other_sizes values sizes none are = go (pointwise nat_eq (lengths values) sizes)
     go false same = refl
     go true same = absurd cc (sym (subst AreSizes (sym (same_text (lengths values) sizes (sym same))) are) ∙ none)
 
--- what comes of a replay is printed, or its refusal
-pub replay_printed : (test : Test) (program : Program) (argument : ℕ) (words : List ℕ)
-    (schedule : List ℕ × List Event) (replayed : Replayed) (text : List ℕ)
-    → IsReplayed test program argument words schedule (Ok (loop_replay replayed))
-    → replayed.maps.sizes ≡ program.sizes
-    → text ≡ replay_text replayed.maps.sizes replayed.number replayed.report replayed.maps.words
-    → ReplaysTo program argument test (Ok words) (Ok schedule) (Ok text)
-replay_printed test program argument words schedule replayed text is fits same = (
-  Ok (loop_replay replayed),
-  is,
-  ap Ok (same ∙ ap (λ (sizes : List ℕ). replay_text sizes replayed.number replayed.report replayed.maps.words) fits),
-)
-
+-- a replay that is refused
 pub replay_refused : {X Y : Type 0} (view : X → LoopReplay) (text : Y → List ℕ) (test : Test) (program : Program)
     (argument : ℕ) (words : List ℕ) (schedule : List ℕ × List Event) (error : AnswerError)
     → SatisfiesUnlessMemory view (IsReplayed test program argument words schedule) (Err error)
@@ -101,8 +68,7 @@ too_long : (input : List ℕ) → 3145728 < length input
     → readable input ≡ refused (refusals.Text text_faults.TooLong sections.Unit 0)
 too_long input long =
     let past : nat_lt 3145728 (length input) ≡ true = grind (arith, nat_tests) in
-    ap (λ (b : Bool). if b then refused (refusals.Text text_faults.TooLong sections.Unit 0)
-    else (if is_utf8 input then Ok input else refused (refusals.Text text_faults.Form sections.Unit 0))) past
+    rw past
 
 enough : (n : ℕ) (input : List ℕ) → 3145728 < n → (b : Bool) → nat_le (length input) n ≡ b → readable (take n input)
     ≡ readable input
@@ -114,13 +80,6 @@ enough n input behind false long =
 -- one byte past the limit says as much of an input as all of them
 reads_enough : (n : ℕ) (input : List ℕ) → 3145728 < n → readable (take n input) ≡ readable input
 reads_enough n input behind = enough n input behind (nat_le (length input) n) refl
-
--- what is reported of a program, on maps of its sizes, is printed
-pub report_printed : (program : Program) (reported : BoundedResult Reported) (report : Reported) (sizes text : List ℕ)
-    → reported ≡ Ended report → sizes ≡ program.sizes
-    → text ≡ report_text sizes report → IsPrinted program reported (Ok text)
-report_printed program reported report sizes text same fits is =
-    (report, same, ap Ok (is ∙ ap (λ (s : List ℕ). report_text s report) fits))
 
 -- what comes of bytes comes of others that are read alike
 text_alike : (Comes : List ℕ → TextOutcome → Type 0) (read input : List ℕ) (answer : Answer)
@@ -136,10 +95,7 @@ lines_alike : (ask : Ask) (read input : List ℕ) (answer : Answer) → readable
 lines_alike ask read input answer same lines = record {
   facts = lines.facts;
   are = subst (λ (r : TextOutcome). AreFacts ask r lines.facts) same lines.are;
-  answer_is = lines.answer_is ∙ ap (λ (r : TextOutcome). record {
-    served = verify_served ask.form r;
-    text = flat_map printed lines.facts;
-  }) same;
+  answer_is = rw (← same) lines.answer_is;
 }
 
 answers_alike : (job : Job) (read input : List ℕ) (answer : Answer) → readable read ≡ readable input
@@ -179,16 +135,6 @@ text_answers view Comes input (Err (errors.Refused refusal)) answer comes given 
     record { outcome = refused refusal; comes = comes; answer_is = given }
 text_answers view Comes input (Err errors.Memory) answer comes given = absurd given
 
--- the lines of facts answer the input whose facts they are
-pub lines_answer : (ask : Ask) (input : List ℕ) (facts : List Record) (served : Served) (text : List ℕ)
-    → AreFacts ask (readable input) facts → served ≡ verify_served ask.form (readable input)
-    → text ≡ flat_map printed facts → AreLines ask input (record { served = served; text = text })
-lines_answer ask input facts served text are as_verify lines = record {
-  facts = facts;
-  are = are;
-  answer_is = ap₂ (λ (s : Served) (t : List ℕ). record { served = s; text = t }) as_verify lines;
-}
-
 -- the record where memory ran out
 pub memory_record : codes "{\"record\":\"end\",\"status\":4}\n" ≡ printed (records.End 4)
 unfolding number object_start object_end printed
@@ -196,32 +142,12 @@ memory_record =
     sym (ap (λ (digits : List ℕ). object (codes "end") (key (codes "status") ++ digits))
     (decimal_digit 4 (omega arith)))
 
--- an answer that was made is given
-pub gives_made : (given : Result AnswerGiven AllocError) (made : AnswerGiven) → given ≡ Ok made
-    → Gives given (answer_of made)
-gives_made given made is = subst (λ (g : Result AnswerGiven AllocError). Gives g (answer_of made)) (sym is) refl
-
--- an answer to a job is one to the same job under another name
-pub answers_job : {E : Type 0} (job other : Job) (input : List ℕ) (given : Result AnswerGiven E) → other ≡ job
-    → IfOk given (λ answer. Answers job input (answer_of answer))
-    → IfOk given (λ answer. Answers other input (answer_of answer))
-answers_job job other input given is answers =
-    subst (λ (j : Job). IfOk given (λ answer. Answers j input (answer_of answer))) (sym is) answers
-
 -- an answer that was made is an answer
 pub given_answers : (job : Job) (read input : List ℕ) (given : Result AnswerGiven AllocError) (answer : Answer)
     → read ≡ input → IfOk given (λ made. Answers job read (answer_of made)) → Gives given answer
     → Answers job input answer
-given_answers job read input (Ok made) answer same answers is =
-    subst (λ (bytes : List ℕ). Answers job bytes answer) same (subst (Answers job read) (sym is) answers)
+given_answers job read input (Ok made) answer same answers is = rw (is, ← same) answers
 given_answers job read input (Err error) answer same answers is = absurd is
-
--- the same text by another name
-pub written_as : {wanted result : Served} {failed : ℕ → Type 0} {before after : Option (List ℕ)} (text other : List ℕ)
-    → text ≡ other
-    → HowWritten text wanted result failed before after → HowWritten other wanted result failed before after
-written_as {wanted} {result} {failed} {before} {after} text other same written =
-    subst (λ t. HowWritten t wanted result failed before after) same written
 
 -- what is served once an input was read is served
 pub served_as : {A B : Answer → Type 0} {result : Served} {reads_failed writes_failed : ℕ → Type 0}
@@ -232,5 +158,5 @@ pub served_as : {A B : Answer → Type 0} {result : Served} {reads_failed writes
 served_as memory other same weaker none (Answered answer is zero written) =
     Answered answer (weaker answer is) none written
 served_as memory other same weaker none (Out_of_memory zero written) =
-    Out_of_memory none (written_as memory other same written)
+    Out_of_memory none (rw (← same) written)
 served_as memory other same weaker none (Read_failed device one zero nothing) = absurd (omega (arith, one))

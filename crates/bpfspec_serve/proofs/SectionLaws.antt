@@ -1,12 +1,12 @@
 -- What the first line of a text is.
 use Rattle.std.proofs.Common.{◌≡◌, ℕ, suc, ◌+◌, ◌-◌, ◌<◌, ◌≤◌, Bool, true, false, cond, if◌then◌else◌, not, ◌==◌, List}
 use Rattle.std.proofs.Common.{[], ◌∷◌, ◌++◌, length, take, drop, Some, None, refl, sym, ap, ◌∙◌, subst, append_assoc}
-use Rattle.std.{proofs.Common.{append-nil, get_or, eqb-true, arith}, specs.Str.{IsUtf8, IsCharBoundary}}
+use Rattle.std.{proofs.Common.{get_or, eqb-true, arith}, specs.Str.{IsUtf8, IsCharBoundary}}
 use Rattle.std.proofs.lemmas.List.{length-drop, drop-drop, get_or-drop, Quantifiers.{position-Some}}
 use Rattle.std.proofs.{lemmas.Str.{IsCharBoundary-after_ascii}, Math.ListN.{drop_of_length-le}}
 use Rattle.std.{proofs.Math.Seq.{take-add, take-length}, specs.{Prelude.{position}, List.{concat, position_or_len}}}
 use Rattle.bpf_text_lex.{specs.Lines.{with_front}, proofs.LineLaws.{position_found, position_missing}}
-use Rattle.bpfspec_serve.specs.Sections.{whole_lines, is_mark, before_mark, behind_mark}
+use Rattle.bpfspec_serve.specs.Sections.{whole_lines, is_mark, before_mark}
 
 next_of : (k : ℕ) → 1 + k ≡ suc k
 next_of k = omega arith
@@ -75,76 +75,23 @@ concat-whole_lines (b ∷ bs) = concat-byte (b == 10) b bs (concat-whole_lines b
 pub text_of_lines : (text : List ℕ) (lines : List (List ℕ)) → whole_lines text ≡ lines → text ≡ concat lines
 text_of_lines text lines same = sym (concat-whole_lines text) ∙ ap concat same
 
-unmarked : (line : List ℕ) (lines : List (List ℕ)) → is_mark line ≡ false
-    → (before_mark (line ∷ lines) ≡ line ++ before_mark lines) × (behind_mark (line ∷ lines) ≡ behind_mark lines)
-unmarked line lines other = (
-  ap (λ (b : Bool). if b then [] else line ++ before_mark lines) other,
-  ap (λ (b : Bool). if b then lines else behind_mark lines) other,
-)
-
-marked : (line : List ℕ) (lines : List (List ℕ)) → is_mark line ≡ true → (before_mark (line ∷ lines) ≡ [])
-    × (behind_mark (line ∷ lines) ≡ lines)
-marked line lines mark = (
-  ap (λ (b : Bool). if b then [] else line ++ before_mark lines) mark,
-  ap (λ (b : Bool). if b then lines else behind_mark lines) mark,
-)
-
 -- what is left after a place in a text
-pub left_behind : (text : List ℕ) (at : ℕ) → take (length text - at) (drop at text) ≡ drop at text
-left_behind text at = rw (← (length-drop at text)) (take-length (drop at text))
+pub left_behind : (text bytes : List ℕ) (at : ℕ) → bytes ≡ text → take (length bytes - at) (drop at bytes)
+    ≡ drop at text
+left_behind text bytes at same = rw (← (length-drop at bytes), take-length (drop at bytes), same)
+
+-- its lines, where this is the first of them
+pub lines_behind : (text rest : List ℕ) (at n : ℕ) → rest ≡ drop at text → whole_lines rest ≡ take n rest
+    ∷ whole_lines (drop n rest) → whole_lines (drop at text) ≡ take n rest ∷ whole_lines (drop (at + n) text)
+lines_behind text rest at n is_rest line = rw (← (drop-drop n at text), ← is_rest) line
 
 -- the section goes on over a line that is no mark
 pub section_goes_on : (text rest : List ℕ) (at n : ℕ) → rest ≡ drop at text → whole_lines rest ≡ take n rest
-    ∷ whole_lines (drop n rest) → is_mark (take n rest) ≡ false
+    ∷ whole_lines (drop n rest) → false ≡ is_mark (take n rest)
     → before_mark (whole_lines text) ≡ take at text ++ before_mark (whole_lines (drop at text))
     → before_mark (whole_lines text) ≡ take (at + n) text ++ before_mark (whole_lines (drop (at + n) text))
 section_goes_on text rest at n is_rest line other so_far =
-    so_far
-    ∙ ap (λ (r : List ℕ). take at text ++ before_mark (whole_lines r)) (sym is_rest)
-    ∙ ap (λ (ls : List (List ℕ)). take at text ++ before_mark ls) line
-    ∙ ap (λ (l : List ℕ). take at text ++ l) (unmarked (take n rest) (whole_lines (drop n rest)) other).0
-    ∙ sym (append_assoc (take at text) (take n rest) (before_mark (whole_lines (drop n rest))))
-    ∙ ap (λ (r : List ℕ). (take at text ++ take n r) ++ before_mark (whole_lines (drop n r))) is_rest
-    ∙ ap (λ (l : List ℕ). l ++ before_mark (whole_lines (drop n (drop at text)))) (sym (take-add at n text))
-    ∙ ap (λ (r : List ℕ). take (at + n) text ++ before_mark (whole_lines r)) (drop-drop n at text)
-
--- and so does what comes after it
-pub rest_goes_on : (text rest : List ℕ) (at n : ℕ) → rest ≡ drop at text → whole_lines rest ≡ take n rest
-    ∷ whole_lines (drop n rest) → is_mark (take n rest) ≡ false
-    → behind_mark (whole_lines text) ≡ behind_mark (whole_lines (drop at text))
-    → behind_mark (whole_lines text) ≡ behind_mark (whole_lines (drop (at + n) text))
-rest_goes_on text rest at n is_rest line other so_far =
-    so_far
-    ∙ ap (λ (r : List ℕ). behind_mark (whole_lines r)) (sym is_rest)
-    ∙ ap behind_mark line
-    ∙ (unmarked (take n rest) (whole_lines (drop n rest)) other).1
-    ∙ ap (λ (r : List ℕ). behind_mark (whole_lines (drop n r))) is_rest
-    ∙ ap (λ (r : List ℕ). behind_mark (whole_lines r)) (drop-drop n at text)
-
--- the section ends before a mark
-pub section_ends : (text rest : List ℕ) (at n : ℕ) → rest ≡ drop at text → whole_lines rest ≡ take n rest
-    ∷ whole_lines (drop n rest) → is_mark (take n rest) ≡ true
-    → before_mark (whole_lines text) ≡ take at text ++ before_mark (whole_lines (drop at text))
-    → before_mark (whole_lines text) ≡ take at text
-section_ends text rest at n is_rest line mark so_far =
-    so_far
-    ∙ ap (λ (r : List ℕ). take at text ++ before_mark (whole_lines r)) (sym is_rest)
-    ∙ ap (λ (ls : List (List ℕ)). take at text ++ before_mark ls) line
-    ∙ ap (λ (l : List ℕ). take at text ++ l) (marked (take n rest) (whole_lines (drop n rest)) mark).0
-    ∙ append-nil (take at text)
-
--- and what comes after it is the rest
-pub rest_begins : (text rest : List ℕ) (at n : ℕ) → rest ≡ drop at text → whole_lines rest ≡ take n rest
-    ∷ whole_lines (drop n rest) → is_mark (take n rest) ≡ true
-    → behind_mark (whole_lines text) ≡ behind_mark (whole_lines (drop at text)) → behind_mark (whole_lines text)
-    ≡ whole_lines (drop (at + n) text)
-rest_begins text rest at n is_rest line mark so_far =
-    so_far
-    ∙ ap (λ (r : List ℕ). behind_mark (whole_lines r)) (sym is_rest)
-    ∙ ap behind_mark line
-    ∙ (marked (take n rest) (whole_lines (drop n rest)) mark).1
-    ∙ ap (λ (r : List ℕ). whole_lines (drop n r)) is_rest
-    ∙ ap whole_lines (drop-drop n at text)
+    rw (so_far, lines_behind text rest at n is_rest line, ← other, is_rest, take-add at n text, append_assoc)
 
 -- a line may be cut off where it ends
 pub line_boundary : (text rest : List ℕ) (at n : ℕ) → IsUtf8 text → rest ≡ drop at text → at ≤ length text → 0 < n

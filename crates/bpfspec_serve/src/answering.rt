@@ -4,7 +4,7 @@ ghost use Rattle.std.specs.{Prelude.{◌≡◌, ◌<◌, ◌≤◌, IfOk, Ok, le
 ghost use Rattle.bpf_insn_types.specs.Program.{callback_starts};
 ghost use Rattle.bpfspec_command_line.specs.declared.job.Mode.TheVariants.{Order, Replay};
 ghost use Rattle.bpfspec_serve.specs.Output.{unit_program, function_numbered, functions_of, loop_replay, IsReplayed};
-ghost use Rattle.bpfspec_serve.specs.Output.{replay_refusal, PrintsReportInOrder, PrintsReportByPlan, ReplaysTo};
+ghost use Rattle.bpfspec_serve.specs.Output.{replay_refusal, PrintsReportByPlan, ReplaysTo};
 ghost use Rattle.bpfspec_serve.specs.Output.{InMode, ByPlan, OfInput, SatisfiesUnlessMemory, written, accepted};
 ghost use Rattle.bpfspec_serve.specs.{Output.{verified}, Sections.{unit_section}};
 
@@ -12,7 +12,6 @@ use crate::answer_error::AnswerError;
 use crate::reading::{accept, codec_error, read_events, read_unit, readable, start_maps};
 use crate::sections::part;
 use array_maps::Maps;
-use bpf_insn_types::Unit;
 use bpf_text::{print_unit, write_hex};
 use bpf_verify::Verified;
 use bpfspec_command_line::{Mode, Plan, Test, UnitForm};
@@ -24,25 +23,6 @@ use spec_run_replay::{NoReplay, ReplayRefusal, Replayed, replay};
 use std::alloc::{AllocError, Global};
 use std::thread::Threads;
 
-/// What comes of a program that runs in order on these maps, which are of its sizes.
-fn order_on(
-    alloc: Global,
-    program: &Verified,
-    maps: Maps,
-    argument: u64,
-) -> Result<String, AnswerError>
-    requires { maps.sizes ≡ program.now.sizes }
-    ensures { SatisfiesUnlessMemory string_bytes (PrintsReportInOrder program.now argument (Ok maps.words)) result }
-{
-    let mut maps = maps;
-    match run_in_order(alloc, program, &mut maps, argument) {
-        Ok(report) => Ok(print_report(alloc, report.ret, &report.loops, &maps)?),
-        Err(RunError::Sizes) => unreachable!(),
-        Err(RunError::Plan) => unreachable!(),
-        Err(RunError::Memory) => Err(AnswerError::Memory),
-    }
-}
-
 /// What comes of a unit, its argument and its maps.
 fn order(alloc: Global, form: UnitForm, argument: u64, input: &str) -> Result<String, AnswerError>
     ensures { SatisfiesUnlessMemory string_bytes (InMode (Order form argument) input.now) result }
@@ -50,8 +30,13 @@ fn order(alloc: Global, form: UnitForm, argument: u64, input: &str) -> Result<St
     let unit = part(input);
     let maps = part(unit.rest);
     let program = accept(alloc, form, unit.section)?;
-    let maps = start_maps(alloc, &program, maps.section)?;
-    order_on(alloc, &program, maps, argument)
+    let mut maps = start_maps(alloc, &program, maps.section)?;
+    match run_in_order(alloc, &program, &mut maps, argument) {
+        Ok(report) => Ok(print_report(alloc, report.ret, &report.loops, &maps)?),
+        Err(RunError::Sizes) => unreachable!(),
+        Err(RunError::Plan) => unreachable!(),
+        Err(RunError::Memory) => Err(AnswerError::Memory),
+    }
 }
 
 /// What comes of a program that runs by a plan on these maps, which are of its sizes.
@@ -78,26 +63,6 @@ fn run_on<R: Threads + Sync, G: Gate, O: Observer>(
         Err(RunError::Plan) => Err(AnswerError::Refused(Refusal::Plan)),
         Err(RunError::Memory) => Err(AnswerError::Memory),
     }
-}
-
-/// What comes of a unit, its argument, its maps and a plan.
-fn run_program<R: Threads + Sync, G: Gate, O: Observer>(
-    rt: &R,
-    alloc: Global,
-    form: UnitForm,
-    argument: u64,
-    plan: &Plan,
-    gate: &G,
-    observer: &mut O,
-    input: &str,
-) -> Result<String, AnswerError>
-    ensures { SatisfiesUnlessMemory string_bytes (ByPlan form argument plan.now input.now) result }
-{
-    let unit = part(input);
-    let maps = part(unit.rest);
-    let program = accept(alloc, form, unit.section)?;
-    let maps = start_maps(alloc, &program, maps.section)?;
-    run_on(rt, alloc, &program, maps, argument, plan, gate, observer)
 }
 
 /// The refusal of a replay.
@@ -170,20 +135,6 @@ fn replay_first_loop(
     replay_on(alloc, &program, start, argument, schedule, test)
 }
 
-/// A unit as a text.
-fn write_unit(alloc: Global, form: UnitForm, unit: &Unit) -> Result<String, AnswerError>
-    ensures { SatisfiesUnlessMemory string_bytes (λ outcome. outcome ≡ written form (Ok unit.now)) result }
-{
-    let text = match form {
-        UnitForm::Assembler => print_unit(alloc, unit),
-        UnitForm::Hex => write_hex(alloc, unit),
-    };
-    match text {
-        Ok(text) => Ok(text),
-        Err(error) => Err(codec_error(error)),
-    }
-}
-
 /// What comes of a unit that is written in another form.
 fn translate(
     alloc: Global,
@@ -195,7 +146,14 @@ fn translate(
         (unit_program from (unit_section input.now))) result }
 {
     let unit = read_unit(alloc, from, part(input).section)?;
-    write_unit(alloc, to, &unit)
+    let text = match to {
+        UnitForm::Assembler => print_unit(alloc, &unit),
+        UnitForm::Hex => write_hex(alloc, &unit),
+    };
+    match text {
+        Ok(text) => Ok(text),
+        Err(error) => Err(codec_error(error)),
+    }
 }
 
 /// A function of an accepted program, whose number is at most the program's `callbacks()`.
@@ -257,6 +215,9 @@ pub(crate) fn run_outcome<R: Threads + Sync, G: Gate, O: Observer>(
 ) -> Result<String, AnswerError>
     ensures { SatisfiesUnlessMemory string_bytes (OfInput (ByPlan form argument plan.now) input.now) result }
 {
-    let input = readable(input)?;
-    run_program(rt, alloc, form, argument, plan, gate, observer, input)
+    let unit = part(readable(input)?);
+    let maps = part(unit.rest);
+    let program = accept(alloc, form, unit.section)?;
+    let maps = start_maps(alloc, &program, maps.section)?;
+    run_on(rt, alloc, &program, maps, argument, plan, gate, observer)
 }

@@ -1,6 +1,6 @@
 //! The facts of an input, as records.
 
-ghost use Rattle.std.specs.Prelude.{◌≡◌, ◌≤◌, ◌∷◌, [], ◌++◌, length, IfOk, Ok, OnOk};
+ghost use Rattle.std.specs.Prelude.{◌≡◌, ◌≤◌, ◌∷◌, [], ◌++◌, length, IfOk, OnOk};
 ghost use Rattle.bpf_insn_types.specs.Program.{callback_starts};
 ghost use Rattle.bpfspec_serve.specs.Facts.{Adds, AddsRefusal, AreFacts, AreInputFacts, AreReplayFacts, AreRunFacts};
 ghost use Rattle.bpfspec_serve.specs.Facts.{AreUnitFacts, function_record, function_records, header, is_hex};
@@ -194,24 +194,6 @@ fn add_unit_facts(
     }
 }
 
-/// Adds the facts of a text, and gives how `verify` serves it.
-fn add_text_facts(
-    alloc: Global,
-    ask: &Ask,
-    records: &mut Vec<Record>,
-    text: &str,
-) -> Result<Served, AllocError>
-    ensures served { IfOk result (λ served. served ≡ verify_served ask.now.form (Ok text.now)) }
-    ensures facts { OnOk result (Adds (AreInputFacts ask.now (Ok text.now)) records.old.items records.new.items) }
-{
-    let unit = part(text);
-    let maps = part(unit.rest);
-    match read_unit(alloc, ask.form, unit.section) {
-        Ok(program) => add_unit_facts(alloc, ask, records, program, maps.section, maps.rest),
-        Err(error) => add_refusal(records, error),
-    }
-}
-
 /// Adds the facts of an input, and gives how `verify` serves it.
 fn add_input_facts(
     alloc: Global,
@@ -223,8 +205,14 @@ fn add_input_facts(
     ensures facts { OnOk result (Adds (AreInputFacts ask.now (readable input.now)) records.old.items
         records.new.items) }
 {
-    match readable(input) {
-        Ok(text) => add_text_facts(alloc, ask, records, text),
+    let text = match readable(input) {
+        Ok(text) => text,
+        Err(error) => return add_refusal(records, error),
+    };
+    let unit = part(text);
+    let maps = part(unit.rest);
+    match read_unit(alloc, ask.form, unit.section) {
+        Ok(program) => add_unit_facts(alloc, ask, records, program, maps.section, maps.rest),
         Err(error) => add_refusal(records, error),
     }
 }

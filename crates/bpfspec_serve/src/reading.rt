@@ -106,6 +106,7 @@ pub(crate) fn read_unit(alloc: Global, form: UnitForm, section: &str) -> Result<
 }
 
 /// The accepted program of a unit.
+#[tactic(auto, unfolding(crate::specs::Output::judged))]
 pub(crate) fn accept_unit(alloc: Global, unit: Unit) -> Result<Verified, AnswerError>
     ensures { SatisfiesUnlessMemory (λ program. program) (λ outcome. outcome ≡ judged unit) result }
 {

@@ -1,13 +1,15 @@
-use Rattle.std.proofs.Common.{ℕ, List}
+use Rattle.std.proofs.Common.{ℕ, List, Ok}
 use Rattle.spec_run_replay.specs.ProgramReplay.{LoopReplay}
-use Rattle.bpfspec_serve.proofs.OutputLaws.{replay_printed, replay_refused}
+use Rattle.bpfspec_serve.specs.Output.{loop_replay}
+use Rattle.bpfspec_serve.proofs.OutputLaws.{replay_refused}
 use Rattle.bpfspec_serve.proofs.answering.replay_on.Goals as goal
 
 pub returns-in_ok-print_replay-in-Ok : goal.returns-in_ok-print_replay-in-Ok
-returns-in_ok-print_replay-in-Ok c =
-    replay_printed c.args.test c.args.program.now c.args.argument c.args.maps.words
-    (c.args.schedule.0.items, c.args.schedule.1.items) c.in-Ok.replayed _ c.in-Ok.ensures.replayed
-    c.in-Ok.ensures.sizes c.in_ok-print_replay-in-Ok.ensures
+returns-in_ok-print_replay-in-Ok c = (
+  Ok (loop_replay c.in-Ok.replayed),
+  c.in-Ok.ensures.replayed,
+  rw (c.in_ok-print_replay-in-Ok.ensures, c.in-Ok.ensures.sizes),
+)
 
 pub returns-in-Err : goal.returns-in-Err
 returns-in-Err c =
