@@ -1,6 +1,6 @@
 -- Records that are added one after the other, as loops do.
 use Rattle.std.proofs.Common.{◌≡◌, ℕ, zero, suc, ◌+◌, ◌<◌, List, [], ◌∷◌, ◌++◌, length, drop, get_or, append-nil}
-use Rattle.std.proofs.Common.{append_assoc, add-one, refl, sym, ap, ◌∙◌, arith, Option}
+use Rattle.std.proofs.Common.{append_assoc, add-one, sym, ap, ◌∙◌, arith, Option}
 use Rattle.bpf_insn_types.specs.{declared.insn.Insn.{Insn}, Program.{Program}}
 use Rattle.bpf_verify_model.specs.declared.{abstract_value.AbstractValue.{AbstractValue}, state.State.{State}}
 use Rattle.bpf_verify_model.specs.States.{known_register}

@@ -1,7 +1,7 @@
 -- The instructions up to the first fault, and what is known there.
-use Rattle.std.proofs.Common.{◌≡◌, ℕ, zero, suc, ◌+◌, ◌<◌, ◌≤◌, Bool, true, false, not, ◌||◌, List, [], ◌∷◌, ◌++◌}
+use Rattle.std.proofs.Common.{◌≡◌, ℕ, ◌+◌, ◌<◌, ◌≤◌, Bool, true, false, not, ◌||◌, List, [], ◌∷◌, ◌++◌}
 use Rattle.std.proofs.Common.{length, drop, get_or, append-nil, append_assoc, refl, sym, ap, ◌∙◌, arith, Option, Some}
-use Rattle.std.{proofs.Common.{None, is_some}, specs.Prelude.{IfSome, nat_eq, nat_le, nat_lt, if◌then◌else◌}}
+use Rattle.std.{proofs.Common.{None, is_some}, specs.Prelude.{IfSome, nat_eq, nat_lt, if◌then◌else◌}}
 use Rattle.std.proofs.lemmas.Bool.Decides.{nat_tests}
 use Rattle.bpf_insn_types.specs.{declared.insn.Insn.{Insn}, Limits.{sizes_fit}, Slots.{slots_of}}
 use Rattle.bpf_insn_types.specs.Program.{Program, insn_at, slot_count}

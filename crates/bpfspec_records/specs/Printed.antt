@@ -1,20 +1,20 @@
 -- The lines of records.
-use Rattle.std.specs.Prelude.{ℕ, ℤ, Bool, List, ◌++◌, codes}
+use Rattle.std.specs.Prelude.{ℕ, List, ◌++◌, codes, Some, None}
 use Rattle.bpf_text_lex.specs.PrintedLines.{insn_spelling}
 use Rattle.bpf_verify_origin.specs.declared.source.Source.{Source}
 use Rattle.bpf_verify_origin.specs.declared.source.Source.TheVariants as sources
 use Rattle.bpfspec_records.specs.{declared.records.Record.{Record}, Words.{form_word, frame_word, test_word}}
-use Rattle.bpfspec_records.specs.Fields.{absent, flag, number, object, optional, signed, wide, word}
+use Rattle.bpfspec_records.specs.Fields.{flag, number, object, optional, signed, wide, word}
 use Rattle.bpfspec_records.specs.{Refusals.{printed_refusal}, Values.{value_fields}}
 use Rattle.bpfspec_records.specs.LoopsPrinted.{printed_cell, printed_grid, printed_loop, printed_pair}
 use Rattle.bpfspec_records.specs.declared.records.Record.TheVariants as records
 
--- where a value comes from, and the slot of it
+-- where a value comes from, and the slot of it, if it has one
 unfoldable pub source_fields : Source → List ℕ
-source_fields sources.Start = word (codes "source") (codes "start") ++ absent (codes "at")
-source_fields (sources.Written slot) = word (codes "source") (codes "written") ++ number (codes "at") slot
-source_fields (sources.Entered slot) = word (codes "source") (codes "entered") ++ number (codes "at") slot
-source_fields (sources.Meeting slot) = word (codes "source") (codes "join") ++ number (codes "at") slot
+source_fields sources.Start = word (codes "source") (codes "start") ++ optional (codes "at") None
+source_fields (sources.Written slot) = word (codes "source") (codes "written") ++ optional (codes "at") (Some slot)
+source_fields (sources.Entered slot) = word (codes "source") (codes "entered") ++ optional (codes "at") (Some slot)
+source_fields (sources.Meeting slot) = word (codes "source") (codes "join") ++ optional (codes "at") (Some slot)
 
 -- the line of a record
 unfoldable pub printed : Record → List ℕ

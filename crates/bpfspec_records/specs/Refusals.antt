@@ -68,12 +68,10 @@ cause_fields refusal = word (codes "section") (section_name (refused_section ref
     ++ word (codes "code") (refusal_code refusal)
     ++ word (codes "name") (refusal_name refusal)
 
--- where it is
-unfoldable pub refused_fields : Refusal → List ℕ
-refused_fields refusal = optional (codes "line") (refused_line refusal)
-    ++ optional (codes "slot") (refused_slot refusal)
-    ++ optional (codes "event") (refused_event refusal)
-
--- the record of a refusal
+-- the record of a refusal: what is refused, why, and where it is
 unfoldable pub printed_refusal : Refusal → List ℕ
-printed_refusal refusal = object (codes "refusal") (cause_fields refusal ++ refused_fields refusal)
+printed_refusal refusal = object (codes "refusal")
+    (cause_fields refusal
+    ++ optional (codes "line") (refused_line refusal)
+    ++ optional (codes "slot") (refused_slot refusal)
+    ++ optional (codes "event") (refused_event refusal))

@@ -10,7 +10,7 @@ use Rattle.bpf_verify_model.specs.declared.{rule.Rule.TheVariants.{UnwrittenByte
 use Rattle.bpf_verify_model.specs.{declared.outflow.Outflow.{Outflow}, Accepted.{BrokenRule, first_fault, is_too_large}}
 use Rattle.bpf_verify_model.specs.{Helpers.{helper_called}, Inflow.{received_all, state_before}, Values.{is_unwritten}}
 use Rattle.bpf_verify_model.specs.States.{known_register}
-use Rattle.bpf_verify_origin.specs.declared.inflow.Inflow.{Inflow, TheVariants.{Nowhere, One, Several}}
+use Rattle.bpf_verify_origin.specs.declared.inflow.Inflow.{Inflow, TheVariants.{Several}}
 use Rattle.bpf_verify_origin.specs.{Edges.{flow_passed, inflow}, Inspected.{is_up_to}, Sources.{source_before}}
 use Rattle.bpfspec_records.specs.declared.records.{FrameOf.{FrameOf, TheVariants.{Own, Main}}, Record.{Record}}
 use Rattle.bpfspec_records.specs.{declared.unwritten.MemoryRead.{MemoryRead}, Operands.{reads_register}}

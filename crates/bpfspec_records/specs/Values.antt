@@ -1,5 +1,5 @@
 -- Abstract values in records.
-use Rattle.std.specs.Prelude.{ℕ, ℤ, pos, ◌-ℤ◌, List, [], ◌++◌, codes}
+use Rattle.std.specs.Prelude.{ℕ, pos, ◌-ℤ◌, List, [], ◌++◌, codes}
 use Rattle.value_range.specs.Spans.{Span}
 use Rattle.bpf_verify_model.specs.declared.abstract_value.AbstractValue.{AbstractValue}
 use Rattle.bpf_verify_model.specs.declared.abstract_value.AbstractValue.TheVariants as values
@@ -9,14 +9,6 @@ use Rattle.bpfspec_records.specs.Fields.{number, signed, wide, word}
 unfoldable pub range_fields : Span → List ℕ
 range_fields range =
     wide (codes "low") range.lo ++ wide (codes "high") range.hi ++ number (codes "shift") range.zeros
-
--- the place of a byte in a frame, from the frame's end
-unfoldable pub position_field : ℕ → List ℕ
-position_field position = signed (codes "offset") (pos position -ℤ pos 512)
-
--- bytes of a map's values
-unfoldable pub area_fields : ℕ → Span → List ℕ
-area_fields map range = number (codes "map") map ++ range_fields range
 
 -- the name of what a value is
 abbrev pub kind_word : AbstractValue → List ℕ
@@ -29,15 +21,15 @@ kind_word (values.Area map range) = codes "area"
 kind_word (values.AreaOrNull map range) = codes "area_or_null"
 kind_word (values.Code start) = codes "callback"
 
--- what is known of it
+-- what is known of it: a range, the place of a byte from its frame's end, bytes of a map's values, or a start
 unfoldable pub known_fields : AbstractValue → List ℕ
 known_fields values.Unwritten = []
 known_fields (values.Number range) = range_fields range
-known_fields (values.Frame position) = position_field position
-known_fields (values.Ctx position) = position_field position
+known_fields (values.Frame position) = signed (codes "offset") (pos position -ℤ pos 512)
+known_fields (values.Ctx position) = signed (codes "offset") (pos position -ℤ pos 512)
 known_fields (values.Map map) = number (codes "map") map
-known_fields (values.Area map range) = area_fields map range
-known_fields (values.AreaOrNull map range) = area_fields map range
+known_fields (values.Area map range) = number (codes "map") map ++ range_fields range
+known_fields (values.AreaOrNull map range) = number (codes "map") map ++ range_fields range
 known_fields (values.Code start) = number (codes "start") start
 
 -- an abstract value

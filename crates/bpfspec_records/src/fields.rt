@@ -81,11 +81,7 @@ pub(crate) fn add_word(out: &mut String, name: &str, text: &str) -> Result<(), A
 pub(crate) fn add_flag(out: &mut String, name: &str, holds: bool) -> Result<(), AllocError>
     ensures { OnOk result (string_bytes out.new ≡ string_bytes out.old ++ flag name.now holds) }
 {
-    if holds {
-        write!(out, ",\"{name}\":true")
-    } else {
-        write!(out, ",\"{name}\":false")
-    }
+    write!(out, ",\"{name}\":{holds}")
 }
 
 /// An instruction as text.

@@ -1,51 +1,16 @@
 //! The records of a grid: the iterations that it shows, and what each does at each element.
 
-ghost use Rattle.std.specs.{Prelude.{◌≡◌, ◌||◌, ◌++◌, is_some, OnOk}, List.{flat_map}};
-ghost use Rattle.bpfspec_records.specs.Grids.{accesses, cell_fact, cell_records, grid_fact, row_records, shown_records};
+ghost use Rattle.std.specs.{Prelude.{◌≡◌, ◌++◌, OnOk}, List.{flat_map}};
+ghost use Rattle.bpfspec_records.specs.Grids.{cell_records, row_records, shown_records};
 
 use crate::adding::add;
 use crate::elements::map_of;
 use crate::loop_facts::{CellFact, GridFact};
 use crate::records::Record;
-use loop_core_trace::Slots;
 use loop_core_witness::{Cell, Grid, Row};
 use std::alloc::AllocError;
 
-/// Whether an iteration with these slots accesses the element: its first access writes it or is an exposed read.
-fn accesses(slots: Slots) -> bool
-    ensures { result ≡ accesses slots }
-{
-    slots.write.is_some() || slots.read.is_some()
-}
-
-/// The iterations that a grid of a loop call with this number shows.
-fn grid_fact(number: usize, grid: &Grid) -> GridFact
-    ensures { result ≡ grid_fact number grid.now }
-{
-    GridFact {
-        number,
-        lower: grid.lower.from,
-        lower_past: grid.lower.past,
-        upper: grid.upper.from,
-        upper_past: grid.upper.past,
-    }
-}
-
-/// What an iteration does at an element.
-fn cell_fact(sizes: &[u32], number: usize, iteration: u32, cell: &Cell) -> CellFact
-    ensures { result ≡ cell_fact sizes.now number iteration cell.now }
-{
-    let (map, element) = map_of(sizes, cell.element);
-    CellFact {
-        number,
-        iteration,
-        map,
-        element,
-        slots: cell.slots,
-    }
-}
-
-/// Adds the record of a cell, if its iteration accesses the element.
+/// Adds the record of a cell, if its iteration accesses the element: its first access writes it or is an exposed read.
 fn add_cell(
     records: &mut Vec<Record>,
     sizes: &[u32],
@@ -56,13 +21,19 @@ fn add_cell(
     ensures { OnOk result (records.new.items ≡ records.old.items
         ++ cell_records sizes.now number iteration cell.now) }
 {
-    if accesses(cell.slots) {
-        add(
-            records,
-            Record::Cell(cell_fact(sizes, number, iteration, cell)),
-        )?;
+    let slots = cell.slots;
+    if slots.write.is_none() && slots.read.is_none() {
+        return Ok(());
     }
-    Ok(())
+    let (map, element) = map_of(sizes, cell.element);
+    let fact = CellFact {
+        number,
+        iteration,
+        map,
+        element,
+        slots,
+    };
+    add(records, Record::Cell(fact))
 }
 
 /// Adds the records of an iteration's cells.
@@ -109,7 +80,14 @@ pub(crate) fn add_shown(
 {
     match shown {
         Some(grid) => {
-            add(records, Record::Grid(grid_fact(number, grid)))?;
+            let fact = GridFact {
+                number,
+                lower: grid.lower.from,
+                lower_past: grid.lower.past,
+                upper: grid.upper.from,
+                upper_past: grid.upper.past,
+            };
+            add(records, Record::Grid(fact))?;
             add_rows(records, sizes, number, grid.rows.as_slice())
         }
         None => Ok(()),

@@ -2,7 +2,7 @@
 
 ghost use Rattle.std.specs.{Prelude.{◌≡◌, ◌++◌, OnOk}, Option.{option_map}};
 ghost use Rattle.bpf_verify_origin.specs.Inspected.{broken_rule, is_up_to};
-ghost use Rattle.bpfspec_records.specs.Units.{edge_records, edges_records, is_join, is_several, other_target};
+ghost use Rattle.bpfspec_records.specs.Units.{edge_records, edges_records, is_join, other_target};
 ghost use Rattle.bpfspec_records.specs.Units.{read_record, read_records, register_record, target_of, value_record};
 ghost use Rattle.bpfspec_records.specs.Units.{value_records};
 
@@ -116,21 +116,11 @@ pub(crate) fn is_up_to(fault: Option<Fault>, slot: u32) -> bool
     }
 }
 
-/// Whether edges come from several slots.
-fn is_several(inflow: Inflow) -> bool
-    ensures { result ≡ is_several inflow }
-{
-    match inflow {
-        Inflow::Nowhere | Inflow::One(_) => false,
-        Inflow::Several => true,
-    }
-}
-
 /// Whether a slot up to the first fault is one to which edges from several slots lead.
 fn is_join(inspection: &Inspection, slot: u32) -> bool
     ensures { result ≡ is_join inspection.now slot }
 {
-    is_several(inspection.inflow(slot)) && is_up_to(inspection.fault(), slot)
+    matches!(inspection.inflow(slot), Inflow::Several) && is_up_to(inspection.fault(), slot)
 }
 
 /// The slot to which an edge leads, if it is followed.

@@ -1,6 +1,6 @@
 //! The records of loops.
 
-ghost use Rattle.std.specs.{Prelude.{◌≡◌, ◌++◌, None, OnOk}, String.{string_bytes}};
+ghost use Rattle.std.specs.{Prelude.{◌≡◌, ◌++◌, OnOk}, String.{string_bytes}};
 ghost use Rattle.bpfspec_records.specs.LoopsPrinted.{call_fields, conflict_count, strategy_fields, optional_place};
 ghost use Rattle.bpfspec_records.specs.LoopsPrinted.{outcome_fields, place_fields, reduce_slot, way_fields};
 ghost use Rattle.bpfspec_records.specs.{LoopsPrinted.{witness_fields}, Printed.{printed}};
@@ -47,24 +47,18 @@ fn add_strategy(
     add_word(out, "reason", reason)
 }
 
-/// Adds that no way is gone.
-#[tactic(auto, unfolding(crate::specs::LoopsPrinted::way_fields))]
-fn add_no_strategy(out: &mut String) -> Result<(), AllocError>
-    ensures { OnOk result (string_bytes out.new ≡ string_bytes out.old ++ way_fields None) }
-{
-    add_absent(out, "way")?;
-    add_absent(out, "blocks")?;
-    add_absent(out, "workers")?;
-    add_absent(out, "reason")
-}
-
 /// Adds which way a loop goes.
 #[tactic(auto, unfolding(crate::specs::LoopsPrinted::way_fields))]
 fn add_way(out: &mut String, strategy: Option<Strategy>) -> Result<(), AllocError>
     ensures { OnOk result (string_bytes out.new ≡ string_bytes out.old ++ way_fields strategy) }
 {
     match strategy {
-        None => add_no_strategy(out),
+        None => {
+            add_absent(out, "way")?;
+            add_absent(out, "blocks")?;
+            add_absent(out, "workers")?;
+            add_absent(out, "reason")
+        }
         Some(Strategy::InOrder) => add_strategy(out, "in_order", None, 1, "asked"),
         Some(Strategy::Sums { workers }) => add_strategy(
             out,

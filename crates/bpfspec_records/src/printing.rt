@@ -1,12 +1,11 @@
 //! The lines of records.
 
 ghost use Rattle.std.specs.{Prelude.{◌≡◌, ◌++◌, OnOk, IfOk}, List.{flat_map}, String.{string_bytes}};
-ghost use Rattle.bpfspec_records.specs.Printed.{printed, source_fields};
+ghost use Rattle.bpfspec_records.specs.{Printed.{printed}, Units.{register_record}};
 ghost use Rattle.bpfspec_records.specs.declared.records.Record.TheVariants as records;
 
 use crate::fields::{
-    add_absent, add_flag, add_insn, add_number, add_optional, add_signed, add_wide, add_word,
-    begin, end,
+    add_flag, add_insn, add_number, add_optional, add_signed, add_wide, add_word, begin, end,
 };
 use crate::loop_printing::{add_cell, add_grid, add_loop, add_pair};
 use crate::optional::widened;
@@ -92,78 +91,50 @@ fn add_insn_record(
     end(out)
 }
 
-/// Adds what a register may have before a slot.
+/// Adds what a register may have before a slot, or on the edges from there to another.
 #[tactic(auto, unfolding(crate::specs::Printed::printed))]
 fn add_known(
     out: &mut String,
     slot: u32,
+    to: Option<u32>,
     register: Reg,
     value: &AbstractValue,
 ) -> Result<(), AllocError>
     ensures { OnOk result (string_bytes out.new
-        ≡ string_bytes out.old ++ printed (records.Value slot register value.now)) }
+        ≡ string_bytes out.old ++ printed (register_record slot to register value.now)) }
 {
-    begin(out, "value")?;
-    add_number(out, "slot", u64::from(slot))?;
-    add_number(out, "register", u64::from(register.number()))?;
-    add_value(out, value)?;
-    end(out)
-}
-
-/// Adds what a register may have on the edges from a slot to another.
-#[tactic(auto, unfolding(crate::specs::Printed::printed))]
-fn add_edge(
-    out: &mut String,
-    slot: u32,
-    to: u32,
-    register: Reg,
-    value: &AbstractValue,
-) -> Result<(), AllocError>
-    ensures { OnOk result (string_bytes out.new
-        ≡ string_bytes out.old ++ printed (records.Edge slot to register value.now)) }
-{
-    begin(out, "edge")?;
-    add_number(out, "slot", u64::from(slot))?;
-    add_number(out, "to", u64::from(to))?;
-    add_number(out, "register", u64::from(register.number()))?;
-    add_value(out, value)?;
-    end(out)
-}
-
-/// Adds a source, and the slot of it.
-#[tactic(auto, unfolding(crate::specs::Printed::source_fields))]
-fn add_source(out: &mut String, source: Source) -> Result<(), AllocError>
-    ensures { OnOk result (string_bytes out.new ≡ string_bytes out.old ++ source_fields source) }
-{
-    match source {
-        Source::Start => {
-            add_word(out, "source", "start")?;
-            add_absent(out, "at")
+    match to {
+        None => {
+            begin(out, "value")?;
+            add_number(out, "slot", u64::from(slot))?;
         }
-        Source::Written(at) => {
-            add_word(out, "source", "written")?;
-            add_number(out, "at", u64::from(at))
-        }
-        Source::Entered(at) => {
-            add_word(out, "source", "entered")?;
-            add_number(out, "at", u64::from(at))
-        }
-        Source::Meeting(at) => {
-            add_word(out, "source", "join")?;
-            add_number(out, "at", u64::from(at))
+        Some(to) => {
+            begin(out, "edge")?;
+            add_number(out, "slot", u64::from(slot))?;
+            add_number(out, "to", u64::from(to))?;
         }
     }
+    add_number(out, "register", u64::from(register.number()))?;
+    add_value(out, value)?;
+    end(out)
 }
 
-/// Adds where a register's value comes from that is read.
-#[tactic(auto, unfolding(crate::specs::Printed::printed))]
+/// Adds where a register's value comes from that is read, and the slot of that.
+#[tactic(auto, unfolding(crate::specs::Printed::printed, crate::specs::Printed::source_fields))]
 fn add_read(out: &mut String, slot: u32, register: Reg, source: Source) -> Result<(), AllocError>
     ensures { OnOk result (string_bytes out.new ≡ string_bytes out.old ++ printed (records.Read slot register source)) }
 {
     begin(out, "read")?;
     add_number(out, "slot", u64::from(slot))?;
     add_number(out, "register", u64::from(register.number()))?;
-    add_source(out, source)?;
+    let (word, at) = match source {
+        Source::Start => ("start", None),
+        Source::Written(at) => ("written", Some(at)),
+        Source::Entered(at) => ("entered", Some(at)),
+        Source::Meeting(at) => ("join", Some(at)),
+    };
+    add_word(out, "source", word)?;
+    add_optional(out, "at", widened(at))?;
     end(out)
 }
 
@@ -217,7 +188,7 @@ fn print_record(out: &mut String, alloc: Global, fact: &Record) -> Result<(), Al
             slot,
             register,
             value,
-        } => add_known(out, slot, register, &value),
+        } => add_known(out, slot, None, register, &value),
         Record::Read {
             slot,
             register,
@@ -228,7 +199,7 @@ fn print_record(out: &mut String, alloc: Global, fact: &Record) -> Result<(), Al
             to,
             register,
             value,
-        } => add_edge(out, slot, to, register, &value),
+        } => add_known(out, slot, Some(to), register, &value),
         Record::Unwritten {
             slot,
             frame,

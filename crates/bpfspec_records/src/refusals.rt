@@ -3,7 +3,7 @@
 ghost use Rattle.std.specs.{Prelude.{◌≡◌, ◌++◌, codes, OnOk}, String.{string_bytes}};
 ghost use Rattle.bpfspec_records.specs.{Fields.{word}, Printed.{printed}};
 ghost use Rattle.bpfspec_records.specs.Refusals.{cause_fields, refusal_code, refusal_name, refused_event};
-ghost use Rattle.bpfspec_records.specs.Refusals.{refused_fields, refused_line, refused_section, refused_slot};
+ghost use Rattle.bpfspec_records.specs.Refusals.{refused_line, refused_section, refused_slot};
 ghost use Rattle.bpfspec_records.specs.declared.records.Record.TheVariants as records;
 
 use crate::fields::{add_optional, add_word, begin, end};
@@ -104,23 +104,15 @@ fn add_cause(out: &mut String, refusal: Refusal) -> Result<(), AllocError>
     add_word(out, "name", name_of(refusal))
 }
 
-/// Adds where it is.
-#[tactic(auto, unfolding(crate::specs::Refusals::refused_fields))]
-fn add_place(out: &mut String, refusal: Refusal) -> Result<(), AllocError>
-    ensures { OnOk result (string_bytes out.new ≡ string_bytes out.old ++ refused_fields refusal) }
-{
-    add_optional(out, "line", line_of(refusal))?;
-    add_optional(out, "slot", slot_of(refusal))?;
-    add_optional(out, "event", event_of(refusal))
-}
-
-/// Adds the record of a refusal.
+/// Adds the record of a refusal: what is refused, why, and where it is.
 #[tactic(auto, unfolding(crate::specs::Printed::printed, crate::specs::Refusals::printed_refusal))]
 pub(crate) fn add_refusal(out: &mut String, refusal: Refusal) -> Result<(), AllocError>
     ensures { OnOk result (string_bytes out.new ≡ string_bytes out.old ++ printed (records.Refusal refusal)) }
 {
     begin(out, "refusal")?;
     add_cause(out, refusal)?;
-    add_place(out, refusal)?;
+    add_optional(out, "line", line_of(refusal))?;
+    add_optional(out, "slot", slot_of(refusal))?;
+    add_optional(out, "event", event_of(refusal))?;
     end(out)
 }

@@ -4,8 +4,8 @@ ghost use Rattle.std.specs.Prelude.{◌≡◌, ◌++◌, true, Some, is_some, On
 ghost use Rattle.bpf_insn_types.specs.Program.{insn_at};
 ghost use Rattle.bpf_verify_model.specs.Accepted.{first_fault};
 ghost use Rattle.bpf_verify_origin.specs.Inspected.{is_up_to};
-ghost use Rattle.bpfspec_records.specs.Units.{insn_records, is_of_bytes, known_before, known_records, map_records};
-ghost use Rattle.bpfspec_records.specs.Units.{slot_records, unit_records, unwritten_records};
+ghost use Rattle.bpfspec_records.specs.Units.{insn_records, known_before, known_records, map_records, slot_records};
+ghost use Rattle.bpfspec_records.specs.Units.{unit_records, unwritten_records};
 
 use crate::adding::add;
 use crate::known::{add_edges, add_reads, add_values, is_up_to, target};
@@ -116,16 +116,6 @@ fn add_insns(
     Ok(())
 }
 
-/// Whether a rule is V20.
-fn is_of_bytes(rule: Rule) -> bool
-    ensures { result ≡ is_of_bytes rule }
-{
-    match rule {
-        Rule::UnwrittenByte => true,
-        _ => false,
-    }
-}
-
 /// Adds the unwritten bytes that the first fault is about, if it is one of V20.
 fn add_unwritten(records: &mut Vec<Record>, inspection: &Inspection) -> Result<(), AllocError>
     ensures { OnOk result (records.new.items
@@ -134,7 +124,7 @@ fn add_unwritten(records: &mut Vec<Record>, inspection: &Inspection) -> Result<(
     let Some(fault) = inspection.fault() else {
         return Ok(());
     };
-    if !is_of_bytes(fault.rule) {
+    if !matches!(fault.rule, Rule::UnwrittenByte) {
         return Ok(());
     }
     let Some(insn) = inspection.insn(fault.slot) else {

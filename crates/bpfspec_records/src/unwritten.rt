@@ -1,8 +1,8 @@
 //! The bytes that an instruction reads and that aren't written.
 
 ghost use Rattle.std.specs.Prelude.{◌≡◌, ◌<◌, ◌≤◌, ◌+◌, ◌++◌, OnOk};
-ghost use Rattle.bpfspec_records.specs.Units.{base_records, byte_record, byte_records, caller_bytes, memory_read};
-ghost use Rattle.bpfspec_records.specs.Units.{place_records, unread_records};
+ghost use Rattle.bpfspec_records.specs.Units.{base_records, byte_record, byte_records, memory_read, place_records};
+ghost use Rattle.bpfspec_records.specs.Units.{unread_records};
 
 use crate::adding::add;
 use crate::records::{FrameOf, Record};
@@ -23,7 +23,7 @@ pub struct MemoryRead {
 fn memory_read(insn: &Insn) -> Option<MemoryRead>
     ensures { result ≡ memory_read insn.now }
 {
-    match *insn {
+    let (base, offset, size) = match *insn {
         Insn::Load {
             size,
             src,
@@ -35,31 +35,20 @@ fn memory_read(insn: &Insn) -> Option<MemoryRead>
             src,
             offset,
             ..
-        } => Some(MemoryRead {
-            base: src,
-            offset,
-            size: bytes_of(size),
-        }),
+        } => (src, offset, bytes_of(size)),
         Insn::Atomic {
             width,
             dst,
             offset,
             ..
-        } => Some(MemoryRead {
-            base: dst,
-            offset,
-            size: atomic_bytes(width),
-        }),
+        } => (dst, offset, atomic_bytes(width)),
         Insn::Call { callee, imm } => match helper_of(callee, imm) {
-            Some(Helper::Lookup) => Some(MemoryRead {
-                base: reg(2),
-                offset: 0,
-                size: 4,
-            }),
-            _ => None,
+            Some(Helper::Lookup) => (reg(2), 0, 4),
+            _ => return None,
         },
-        _ => None,
-    }
+        _ => return None,
+    };
+    Some(MemoryRead { base, offset, size })
 }
 
 /// Adds a byte of a frame that the instruction at a slot reads, unless it is written.
@@ -123,16 +112,6 @@ fn add_bytes_at(
     add_bytes(records, slot, frame, written, place as u32, size)
 }
 
-/// The written bytes of main's frame, in a callback.
-fn caller_bytes(caller: Option<WrittenBytes>) -> WrittenBytes
-    ensures { result ≡ caller_bytes caller }
-{
-    match caller {
-        None => WrittenBytes::none(),
-        Some(written) => written,
-    }
-}
-
 /// Adds the unwritten bytes that a read at this base has.
 fn add_base(
     records: &mut Vec<Record>,
@@ -152,7 +131,7 @@ fn add_base(
         }
         AbstractValue::Ctx(position) => {
             let place = i64::from(position) + offset;
-            let written = caller_bytes(state.caller);
+            let written = state.caller.unwrap_or(WrittenBytes::none());
             add_bytes_at(records, slot, FrameOf::Main, &written, place, read.size)
         }
         _ => Ok(()),

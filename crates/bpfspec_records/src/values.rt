@@ -1,7 +1,7 @@
 //! Abstract values in records.
 
 ghost use Rattle.std.specs.{Prelude.{◌≡◌, ◌++◌, OnOk}, String.{string_bytes}};
-ghost use Rattle.bpfspec_records.specs.Values.{area_fields, kind_word, position_field, range_fields, value_fields};
+ghost use Rattle.bpfspec_records.specs.Values.{kind_word, range_fields, value_fields};
 
 use crate::fields::{add_number, add_signed, add_wide, add_word};
 use bpf_verify_model::AbstractValue;
@@ -16,23 +16,6 @@ fn add_range(out: &mut String, range: Range) -> Result<(), AllocError>
     add_wide(out, "low", range.lo())?;
     add_wide(out, "high", range.hi())?;
     add_number(out, "shift", u64::from(range.zeros()))
-}
-
-/// Adds the place of a byte in a frame, from the frame's end.
-#[tactic(auto, unfolding(crate::specs::Values::position_field))]
-fn add_position(out: &mut String, position: u32) -> Result<(), AllocError>
-    ensures { OnOk result (string_bytes out.new ≡ string_bytes out.old ++ position_field position) }
-{
-    add_signed(out, "offset", i64::from(position) - 512)
-}
-
-/// Adds bytes of a map's values.
-#[tactic(auto, unfolding(crate::specs::Values::area_fields))]
-fn add_area(out: &mut String, map: u32, range: Range) -> Result<(), AllocError>
-    ensures { OnOk result (string_bytes out.new ≡ string_bytes out.old ++ area_fields map range) }
-{
-    add_number(out, "map", u64::from(map))?;
-    add_range(out, range)
 }
 
 /// The name of what a value is.
@@ -60,12 +43,13 @@ pub(crate) fn add_value(out: &mut String, value: &AbstractValue) -> Result<(), A
     match *value {
         AbstractValue::Unwritten => Ok(()),
         AbstractValue::Number(range) => add_range(out, range),
-        AbstractValue::Frame(position) | AbstractValue::Ctx(position) => add_position(
-            out, position,
-        ),
+        AbstractValue::Frame(position) | AbstractValue::Ctx(position) => {
+            add_signed(out, "offset", i64::from(position) - 512)
+        }
         AbstractValue::Map(map) => add_number(out, "map", u64::from(map)),
         AbstractValue::Area(map, range) | AbstractValue::AreaOrNull(map, range) => {
-            add_area(out, map, range)
+            add_number(out, "map", u64::from(map))?;
+            add_range(out, range)
         }
         AbstractValue::Code(start) => add_number(out, "start", u64::from(start)),
     }

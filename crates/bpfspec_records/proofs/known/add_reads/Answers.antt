@@ -1,5 +1,4 @@
-use Rattle.std.proofs.Common.{◌≡◌, ℕ, ◌++◌, subst, arith}
-use Rattle.bpfspec_records.{specs.Units.{each_below, read_record}, proofs.EachLaws.{each_begun, read_next}}
+use Rattle.bpfspec_records.{specs.Units.{read_record}, proofs.EachLaws.{each_begun, read_next}}
 use Rattle.bpfspec_records.proofs.known.add_reads.Goals as goal
 
 pub loop-number-init : goal.loop-number-init

@@ -1,6 +1,5 @@
-use Rattle.std.proofs.Common.{◌≡◌, ℕ, ◌++◌, subst, arith}
 use Rattle.bpf_verify_model.specs.States.{known_register}
-use Rattle.bpfspec_records.{specs.Units.{each_below, value_record}, proofs.EachLaws.{each_begun, value_next}}
+use Rattle.bpfspec_records.{specs.Units.{value_record}, proofs.EachLaws.{each_begun, value_next}}
 use Rattle.bpfspec_records.proofs.known.add_values.Goals as goal
 
 pub loop-number-init : goal.loop-number-init

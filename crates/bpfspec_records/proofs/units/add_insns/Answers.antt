@@ -1,4 +1,4 @@
-use Rattle.std.proofs.Common.{◌≡◌, ℕ, ◌+◌, List, refl, ap, sym, ◌∙◌, arith, Option, is_some}
+use Rattle.std.proofs.Common.{ℕ, ◌+◌, List, refl, ap, sym, ◌∙◌, arith, Option, is_some}
 use Rattle.bpf_insn_types.specs.{declared.insn.Insn.{Insn}, Program.{insn_at, slot_count}}
 use Rattle.bpf_insn_types.proofs.ProgramLaws.{slots_two}
 use Rattle.bpf_verify_model.specs.Accepted.{BrokenRule}

@@ -1,5 +1,5 @@
-use Rattle.std.proofs.Common.{◌≡◌, ℕ, ◌+◌, ◌++◌, subst, arith}
-use Rattle.bpfspec_records.{specs.Units.{byte_record, each_below}, proofs.EachLaws.{each_begun, each_next}}
+use Rattle.std.proofs.Common.{◌+◌}
+use Rattle.bpfspec_records.{specs.Units.{byte_record}, proofs.EachLaws.{each_begun, each_next}}
 use Rattle.bpfspec_records.proofs.unwritten.add_bytes.Goals as goal
 
 pub loop-at-init : goal.loop-at-init
