@@ -71,24 +71,15 @@ action_saw (StoreHalf half value) word = refl
 action_saw (Update op operand) word = tt
 action_saw (Fetch part rmw value compare into) word = refl
 
--- a request that would have seen another word too does the same there
-same_action : (request : Request) (word other : ℕ) → Saw (action_of request word) other → action_of request other
-    ≡ action_of request word
-same_action (Load part extension into) word other saw = ap (action_of (Load part extension into)) (sym saw)
-same_action (Store value) word other saw = refl
-same_action (StoreHalf half value) word other saw = ap (action_of (StoreHalf half value)) (sym saw)
-same_action (Update op operand) word other saw = refl
-same_action (Fetch part rmw value compare into) word other saw = ap (action_of (Fetch part rmw value compare into))
-    (sym saw)
-
-same_told : (request : Request) (word other : ℕ) (m : Machine) → Saw (action_of request word) other
-    → after_request request other m ≡ after_request request word m
-same_told (Load part extension into) word other m saw = ap (λ w. after_request (Load part extension into) w m) (sym saw)
-same_told (Store value) word other m saw = refl
-same_told (StoreHalf half value) word other m saw = refl
-same_told (Update op operand) word other m saw = refl
-same_told (Fetch part rmw value compare into) word other m saw =
-    ap (λ w. after_request (Fetch part rmw value compare into) w m) (sym saw)
+-- a request that would have seen another word too does the same there, and leads to the same
+same_request : (request : Request) (word other : ℕ) (m : Machine) → Saw (action_of request word) other
+    → (action_of request other ≡ action_of request word)
+    × (after_request request other m ≡ after_request request word m)
+same_request (Load part extension into) word other m saw = rw saw (refl, refl)
+same_request (Store value) word other m saw = (refl, refl)
+same_request (StoreHalf half value) word other m saw = rw saw (refl, refl)
+same_request (Update op operand) word other m saw = (refl, refl)
+same_request (Fetch part rmw value compare into) word other m saw = rw saw (refl, refl)
 
 -- a stretch over other words
 abbrev pub over : List ℕ → RunSegment → RunSegment
@@ -99,158 +90,75 @@ over words s = record {
   words = words_after_all s.accesses words;
 }
 
--- what is claimed of a run from any machine: it saw its words and left what its accesses leave; and over other words,
--- which its accesses saw too, it is the same
-pub record IsLocal (go_on : Machine → List ℕ → BoundedResult RunSegment) : Type 0 where
-  pub saw : (m : Machine) (words : List ℕ) (s : RunSegment) → go_on m words ≡ Ended s → Saws s.accesses words
-  pub left : (m : Machine) (words : List ℕ) (s : RunSegment) → go_on m words ≡ Ended s
-      → s.words ≡ words_after_all s.accesses words
-  pub again : (m : Machine) (words others : List ℕ) (s : RunSegment) → go_on m words ≡ Ended s
-      → length others ≡ length words → Saws s.accesses others →
-      go_on m others ≡ Ended (over others s)
+-- what is claimed of a run on some words: it saw them; and over other words, which its accesses saw too, it is the same
+abbrev pub Local : (again : List ℕ → BoundedResult RunSegment) (words : List ℕ) → BoundedResult RunSegment → Type 0
+Local again words Stuck = Unit {0}
+Local again words Unfinished = Unit {0}
+Local again words (Ended s) = Saws s.accesses words
+    × ((others : List ℕ) → length others ≡ length words → Saws s.accesses others → again others ≡ Ended (over others s))
 
--- the stretch of a run that ends with this instruction
-abbrev pub at_once : StopReason → List ℕ → RunSegment
-at_once turn words = record { turn = turn; steps = 1; accesses = []; words = words }
+-- the access that a request makes
+abbrev pub access_by : ℕ → Request → ℕ → Access
+access_by element request word = record { element = element; action = action_of request word }
 
-module _ (go_on : Machine → List ℕ → BoundedResult RunSegment) (is_local : IsLocal go_on) where
-  access_saw : (element : ℕ) (request : Request) (next : Machine) (words : List ℕ) (s : RunSegment) (o : Option ℕ)
-      → slice_get words element ≡ o →
-      after_access go_on element request next words o ≡ Ended s → Saws s.accesses words
-  access_saw element request next words s None there h = absurd (cc)
-  access_saw element request next words s (Some word) there h =
-      let access : Access = record { element = element; action = action_of request word } in
-      let before = mapped_from (with_first_step (access ∷ [])) (go_on (after_request request word next)
-      (words_after access words)) s h in
-      let word_there : slice_index words element ≡ word = get_or_from_slice_get words element word 0 there in
-      subst (λ (t : RunSegment). Saws t.accesses words) (sym before.2)
-      (saws_cons access before.0.accesses words (subst (Saw (action_of request word)) (sym word_there)
-      (action_saw request word))
-      (is_local.saw (after_request request word next) (words_after access words) before.0 before.1))
+module _ (go_on : Machine → List ℕ → BoundedResult RunSegment)
+    (local : (m : Machine) (words : List ℕ) → Local (go_on m) words (go_on m words)) where
+  next_local : (again : List ℕ → BoundedResult RunSegment) (words : List ℕ) (e : BoundedResult RunSegment)
+      → Local again words e
+      → Local (λ others. mapped (with_first_step []) (again others)) words (mapped (with_first_step []) e)
+  next_local again words Stuck h = tt
+  next_local again words Unfinished h = tt
+  next_local again words (Ended s) h = (
+    h.0,
+    λ others same saws. ap (mapped (with_first_step [])) (h.1 others same saws),
+  )
 
-  move_saw : (slot : ℕ) (move : StepOutcome) (words : List ℕ) (s : RunSegment) → after_step go_on slot move words
-      ≡ Ended s → Saws s.accesses words
-  move_saw slot NoStep words s h = absurd (cc)
-  move_saw slot (Next next) words s h =
-      let before = mapped_from (with_first_step []) (go_on next words) s h in
-      subst (λ (t : RunSegment). Saws t.accesses words) (sym before.2) (is_local.saw next words before.0 before.1)
-  move_saw slot (Asks element request next) words s h =
-      access_saw element request next words s (slice_get words element) refl h
-  move_saw slot (Loops call next) words s h = subst (λ (t : RunSegment). Saws t.accesses words)
-      (ended_same (at_once (Loop call next) words) s h) (λ e inside. tt)
-  move_saw slot (Refuses call next) words s h =
-      subst (λ (t : RunSegment). Saws t.accesses words) (ended_same (at_once (Refused slot call next) words) s h)
-      (λ e inside. tt)
-  move_saw slot (Exits ret) words s h = subst (λ (t : RunSegment). Saws t.accesses words)
-      (ended_same (at_once (Exit ret) words) s h) (λ e inside. tt)
+  access_local : (element : ℕ) (request : Request) (next : Machine) (words : List ℕ) (word : ℕ)
+      → slice_get words element ≡ Some word → (e : BoundedResult RunSegment)
+      → Local (go_on (after_request request word next)) (words_after (access_by element request word) words) e
+      → Local (λ others. after_access go_on element request next others (slice_get others element)) words
+      (mapped (with_first_step (access_by element request word ∷ [])) e)
+  access_local element request next words word there Stuck h = tt
+  access_local element request next words word there Unfinished h = tt
+  access_local element request next words word there (Ended s) h = (
+    saws_cons access s.accesses words
+        (rw (get_or_from_slice_get words element word 0 there) (action_saw request word)) h.0,
+    λ others same saws.
+        let inside : element < length others =
+        rw same (slice_get_within words element word there) in
+        let told = same_request request word (slice_index others element) next
+        (saws_head access s.accesses others inside saws) in
+        let long : length (words_after access others) ≡ length (words_after access words) =
+        length-words_after access others ∙ same ∙ sym (length-words_after access words) in
+        rw (slice_get-get_or others element 0 inside, told.0, told.1) (ap (mapped (with_first_step (access ∷ [])))
+        (h.1 (words_after access others) long (saws_tail access s.accesses others saws))),
+  )
+    where
+      access : Access
+      access = access_by element request word
 
-  access_left : (element : ℕ) (request : Request) (next : Machine) (words : List ℕ) (s : RunSegment) (o : Option ℕ) →
-      after_access go_on element request next words o ≡ Ended s → s.words ≡ words_after_all s.accesses words
-  access_left element request next words s None h = absurd (cc)
-  access_left element request next words s (Some word) h =
-      let access : Access = record { element = element; action = action_of request word } in
-      let before = mapped_from (with_first_step (access ∷ [])) (go_on (after_request request word next)
-      (words_after access words)) s h in
-      subst (λ (t : RunSegment). t.words ≡ words_after_all t.accesses words) (sym before.2)
-      (is_local.left (after_request request word next) (words_after access words) before.0 before.1)
+  asked_local : (element : ℕ) (request : Request) (next : Machine) (words : List ℕ) (o : Option ℕ)
+      → slice_get words element ≡ o
+      → Local (λ others. after_access go_on element request next others (slice_get others element)) words
+      (after_access go_on element request next words o)
+  asked_local element request next words None there = tt
+  asked_local element request next words (Some word) there =
+      access_local element request next words word there _ (local (after_request request word next) _)
 
-  move_left : (slot : ℕ) (move : StepOutcome) (words : List ℕ) (s : RunSegment) → after_step go_on slot move words
-      ≡ Ended s → s.words ≡ words_after_all s.accesses words
-  move_left slot NoStep words s h = absurd (cc)
-  move_left slot (Next next) words s h =
-      let before = mapped_from (with_first_step []) (go_on next words) s h in
-      subst (λ (t : RunSegment). t.words ≡ words_after_all t.accesses words) (sym before.2)
-      (is_local.left next words before.0 before.1)
-  move_left slot (Asks element request next) words s h =
-      access_left element request next words s (slice_get words element) h
-  move_left slot (Loops call next) words s h = subst (λ (t : RunSegment). t.words ≡ words_after_all t.accesses words)
-      (ended_same (at_once (Loop call next) words) s h) refl
-  move_left slot (Refuses call next) words s h =
-      subst (λ (t : RunSegment). t.words ≡ words_after_all t.accesses words)
-      (ended_same (at_once (Refused slot call next) words) s h) refl
-  move_left slot (Exits ret) words s h = subst (λ (t : RunSegment). t.words ≡ words_after_all t.accesses words)
-      (ended_same (at_once (Exit ret) words) s h) refl
-
-  access_again : (element : ℕ) (request : Request) (next : Machine) (words others : List ℕ) (s : RunSegment)
-      (o : Option ℕ) → slice_get words element ≡ o →
-      after_access go_on element request next words o ≡ Ended s → length others ≡ length words → Saws s.accesses others
-      →
-      after_access go_on element request next others (slice_get others element) ≡ Ended (over others s)
-  access_again element request next words others s None there h same saws = absurd (cc)
-  access_again element request next words others s (Some word) there h same saws =
-      let access : Access = record { element = element; action = action_of request word } in
-      let before = mapped_from (with_first_step (access ∷ [])) (go_on (after_request request word next)
-      (words_after access words)) s h in
-      let inside : element < length others =
-      subst (λ (n : ℕ). element < n) (sym same) (slice_get_within words element word there) in
-      let saws' : Saws (access ∷ before.0.accesses) others = subst (λ (t : RunSegment). Saws t.accesses others) before.2
-      saws in
-      let saw : Saw (action_of request word) (slice_index others element) =
-      saws_head access before.0.accesses others inside saws' in
-      let longer : length (words_after access others) ≡ length (words_after access words) =
-      length-words_after access others ∙ same ∙ sym (length-words_after access words) in
-      let rest : go_on (after_request request word next) (words_after access others)
-      ≡ Ended (over (words_after access others) before.0) =
-      is_local.again (after_request request word next) (words_after access words) (words_after access others) before.0
-      before.1 longer
-      (saws_tail access before.0.accesses others saws') in
-      let whole : mapped (with_first_step (access ∷ [])) (go_on (after_request request word next)
-      (words_after access others)) ≡ Ended (over others (with_first_step (access ∷ []) before.0)) =
-      ap (mapped (with_first_step (access ∷ []))) rest in
-      let there_too : slice_get others element ≡ Some (slice_index others element) =
-      slice_get-get_or others element 0 inside in
-      subst (λ (o : Option ℕ). after_access go_on element request next others o ≡ Ended (over others s)) (sym there_too)
-      (subst (λ (a : Action). mapped (with_first_step (record { element = element; action = a } ∷ []))
-      (go_on (after_request request (slice_index others element) next)
-      (words_after (record { element = element; action = a }) others)) ≡ Ended (over others s))
-      (sym (same_action request word (slice_index others element) saw))
-      (subst (λ (m : Machine). mapped (with_first_step (access ∷ [])) (go_on m (words_after access others))
-      ≡ Ended (over others s))
-      (sym (same_told request word (slice_index others element) next saw))
-      (subst (λ (t : RunSegment). mapped (with_first_step (access ∷ [])) (go_on (after_request request word next)
-      (words_after access others)) ≡ Ended (over others t))
-      (sym before.2) whole)))
-
-  move_again : (slot : ℕ) (move : StepOutcome) (words others : List ℕ) (s : RunSegment)
-      → after_step go_on slot move words ≡ Ended s →
-      length others ≡ length words → Saws s.accesses others → after_step go_on slot move others ≡ Ended (over others s)
-  move_again slot NoStep words others s h same saws = absurd (cc)
-  move_again slot (Next next) words others s h same saws =
-      let before = mapped_from (with_first_step []) (go_on next words) s h in
-      subst (λ (t : RunSegment). mapped (with_first_step []) (go_on next others) ≡ Ended (over others t)) (sym before.2)
-      (ap (mapped (with_first_step [])) (is_local.again next words others before.0 before.1 same
-      (subst (λ (t : RunSegment). Saws t.accesses others) before.2 saws)))
-  move_again slot (Asks element request next) words others s h same saws =
-      access_again element request next words others s (slice_get words element) refl h same saws
-  move_again slot (Loops call next) words others s h same saws =
-      subst (λ (t : RunSegment). ended_by (Loop call next) others ≡ Ended (over others t))
-      (ended_same (at_once (Loop call next) words) s h) refl
-  move_again slot (Refuses call next) words others s h same saws =
-      subst (λ (t : RunSegment). ended_by (Refused slot call next) others ≡ Ended (over others t))
-      (ended_same (at_once (Refused slot call next) words) s h) refl
-  move_again slot (Exits ret) words others s h same saws =
-      subst (λ (t : RunSegment). ended_by (Exit ret) others ≡ Ended (over others t))
-      (ended_same (at_once (Exit ret) words) s h) refl
-
-never_local : (program : Program) → IsLocal (run program zero)
-never_local program = record {
-  saw = λ m words s h. absurd (cc);
-  left = λ m words s h. absurd (cc);
-  again = λ m words others s h same saws. absurd (cc);
-}
-
-next_local : (program : Program) (bound : ℕ) → IsLocal (run program bound) → IsLocal (run program (suc bound))
-next_local program bound before = record {
-  saw = λ m words s h. move_saw (run program bound) before m.slot (step program m) words s h;
-  left = λ m words s h. move_left (run program bound) before m.slot (step program m) words s h;
-  again = λ m words others s h same saws. move_again (run program bound) before m.slot (step program m) words others s h
-      same saws;
-}
+  move_local : (slot : ℕ) (move : StepOutcome) (words : List ℕ)
+      → Local (after_step go_on slot move) words (after_step go_on slot move words)
+  move_local slot NoStep words = tt
+  move_local slot (Next next) words = next_local (go_on next) words (go_on next words) (local next words)
+  move_local slot (Asks element request next) words =
+      asked_local element request next words (slice_get words element) refl
+  move_local slot move words = (λ e inside. tt, λ others same saws. refl)
 
 -- every run is so
-pub run_local : (program : Program) (bound : ℕ) → IsLocal (run program bound)
-run_local program zero = never_local program
-run_local program (suc bound) = next_local program bound (run_local program bound)
+pub run_local : (program : Program) (bound : ℕ) (m : Machine) (words : List ℕ)
+    → Local (run program bound m) words (run program bound m words)
+run_local program zero m words = tt
+run_local program (suc bound) m words = move_local (run program bound) (run_local program bound) m.slot
+    (step program m) words
 
 -- and so is every iteration
 pub record IterationIsLocal (program : Program) (bound : ℕ) (call : LoopCall) (index : ℕ) : Type 0 where
@@ -266,38 +174,40 @@ pub record IterationIsLocal (program : Program) (bound : ℕ) (call : LoopCall) 
         words = words_after_all it.accesses others;
       })
 
--- the stretch that an iteration is
-abbrev pub stretch_of : Iterated → RunSegment
-stretch_of it = record { turn = Exit it.ret; steps = it.steps; accesses = it.accesses; words = it.words }
+-- what is claimed of an iteration whose run is so
+abbrev pub LocalIteration : (again : List ℕ → BoundedResult RunSegment) (words : List ℕ) → Iterated → Type 0
+LocalIteration again words it = Saws it.accesses words
+    × ((others : List ℕ) → length others ≡ length words → Saws it.accesses others
+    → followed exited (again others) ≡ Ended (record {
+      ret = it.ret;
+      steps = it.steps;
+      accesses = it.accesses;
+      words = words_after_all it.accesses others;
+    }))
 
-exited_from : (s : RunSegment) (turn : StopReason) (it : Iterated) → s.turn ≡ turn → exited_by turn s ≡ Ended it
-    → s ≡ stretch_of it
-exited_from s (Exit ret) it same h = exit_same s ret it same (cc)
+exit_local : (again : List ℕ → BoundedResult RunSegment) (words : List ℕ) (e : BoundedResult RunSegment) (it : Iterated)
+    → Local again words e → followed exited e ≡ Ended it → LocalIteration again words it
+exit_local again words Stuck it h ended = absurd (cc)
+exit_local again words Unfinished it h ended = absurd (cc)
+exit_local again words (Ended s) it h ended = by_turn s.turn refl ended
   where
-    exit_same : (s : RunSegment) (ret : ℕ) (it : Iterated) → s.turn ≡ Exit ret → record {
-      ret = ret;
-      steps = s.steps;
-      accesses = s.accesses;
-      words = s.words;
-    } ≡ it → s ≡ stretch_of it
-    exit_same s ret it turns e =
-        subst (λ (i : Iterated). s ≡ stretch_of i) e
-        (ap (λ turn. record { turn = turn; steps = s.steps; accesses = s.accesses; words = s.words }) turns)
-exited_from s (Loop call next) it same h = absurd (cc)
-exited_from s (Refused slot call next) it same h = absurd (cc)
-
-to_exit_from : (e : BoundedResult RunSegment) (it : Iterated) → followed exited e ≡ Ended it → e ≡ Ended (stretch_of it)
-to_exit_from (Ended s) it h = ap Ended (exited_from s s.turn it refl h)
-to_exit_from Stuck it h = absurd (cc)
-to_exit_from Unfinished it h = absurd (cc)
+    by_turn : (turn : StopReason) → s.turn ≡ turn → exited_by turn s ≡ Ended it → LocalIteration again words it
+    by_turn (Exit ret) turns ended =
+        subst (LocalIteration again words) (ended_same _ it ended)
+        (h.0, λ others same saws. ap (followed exited) (h.1 others same saws)
+        ∙ ap (λ turn. exited_by turn (over others s)) turns)
+    by_turn _ turns ended = absurd (cc)
 
 pub iteration_local : (program : Program) (bound : ℕ) (call : LoopCall) (index : ℕ)
     → IterationIsLocal program bound call index
 unfolding iteration
 iteration_local program bound call index = record {
-  saw = λ words it h. (run_local program bound).saw (callback_entry call index) words (stretch_of it)
-      (to_exit_from (run program bound (callback_entry call index) words) it h);
-  again = λ words others it h same saws.
-      ap (followed exited) ((run_local program bound).again (callback_entry call index) words others (stretch_of it)
-      (to_exit_from (run program bound (callback_entry call index) words) it h) same saws);
+  saw = λ words it h. (at_exit words it h).0;
+  again = λ words others it h. (at_exit words it h).1 others;
 }
+  where
+    at_exit : (words : List ℕ) (it : Iterated)
+        → followed exited (run program bound (callback_entry call index) words) ≡ Ended it
+        → LocalIteration (run program bound (callback_entry call index)) words it
+    at_exit words it h = exit_local (run program bound (callback_entry call index)) words _ it
+        (run_local program bound (callback_entry call index) words) h

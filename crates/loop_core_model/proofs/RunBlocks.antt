@@ -103,52 +103,41 @@ module _ (iterate : ℕ → BoundedResult Iterated) where
   abbrev breaking : ℕ → Bool
   breaking index = is_break (iterate index)
 
-  -- a scan that ended broke at the first index that breaks
-  broke_once : (left index : ℕ) (it : Iterated) (ran : List Iterated) → iterate index ≡ Ended it → (it.ret == 1) ≡ true
-      → it ∷ [] ≡ ran →
-      break_from index ran ≡ first_break breaking (suc left) index
-  broke_once left index it ran same one is_one =
-      sym (ap (break_from index) is_one)
-      ∙ (ap (λ (b : Bool). if b then Some index else None) one
-      ∙ sym (ap (λ (e : BoundedResult Iterated). if is_break e then Some index
-      else first_break breaking left (index + 1)) same
-      ∙ ap (λ (b : Bool). if b then Some index else first_break breaking left (index + 1)) one))
+  -- a scan that ended broke at this index
+  abbrev BreaksAt : (index : ℕ) → Option ℕ → BoundedResult (List Iterated) → Type 0
+  BreaksAt index o Stuck = Unit {0}
+  BreaksAt index o Unfinished = Unit {0}
+  BreaksAt index o (Ended ran) = break_from index ran ≡ o
 
-  went_on : (left index : ℕ) (it : Iterated) (others ran : List Iterated) → iterate index ≡ Ended it
-      → (it.ret == 1) ≡ false → ran ≡ it ∷ others →
-      break_from (index + 1) others ≡ first_break breaking left (index + 1) → break_from index ran ≡ first_break
-      breaking (suc left) index
-  went_on left index it others ran same on is_more rest =
-      ap (break_from index) is_more
-      ∙ (ap (λ (b : Bool). if b then Some index else break_from (index + 1) others) on
-      ∙ (rest
-      ∙ sym (ap (λ (e : BoundedResult Iterated). if is_break e then Some index
-      else first_break breaking left (index + 1)) same
-      ∙ ap (λ (b : Bool). if b then Some index else first_break breaking left (index + 1)) on)))
+  -- which is the first that breaks
+  scan_breaks : (left index : ℕ) → BreaksAt index (first_break breaking left index) (scan iterate left index)
+  scan_breaks zero index = refl
+  scan_breaks (suc left) index = first (iterate index) (scan_breaks left (index + 1))
+    where
+      more : Option ℕ
+      more = first_break breaking left (index + 1)
+
+      goes_on : (it : Iterated) → (it.ret == 1) ≡ false → (e : BoundedResult (List Iterated))
+          → BreaksAt (index + 1) more e → BreaksAt index more (in_front_of e it)
+      goes_on it on Stuck rest = tt
+      goes_on it on Unfinished rest = tt
+      goes_on it on (Ended ran) rest = rw on rest
+
+      by_return : (it : Iterated) (b : Bool) → (it.ret == 1) ≡ b
+          → BreaksAt (index + 1) more (scan iterate left (index + 1)) → BreaksAt index (if b then Some index else more)
+          (if b then Ended (it ∷ []) else in_front_of (scan iterate left (index + 1)) it)
+      by_return it true one rest = rw one refl
+      by_return it false on rest = goes_on it on (scan iterate left (index + 1)) rest
+
+      first : (e : BoundedResult Iterated) → BreaksAt (index + 1) more (scan iterate left (index + 1))
+          → BreaksAt index (if is_break e then Some index else more) (followed (up_to_break (scan iterate left (index + 1))) e)
+      first Stuck rest = tt
+      first Unfinished rest = tt
+      first (Ended it) rest = by_return it (it.ret == 1) refl rest
 
   pub scan_break : (left index : ℕ) (ran : List Iterated) → scan iterate left index ≡ Ended ran
       → break_from index ran ≡ first_break breaking left index
-  scan_break zero index ran h = let none : [] ≡ ran = cc in sym (ap (break_from index) none)
-  scan_break (suc left) index ran h = by_first (iterate index) refl h (λ its e. scan_break left (index + 1) its e)
-    where
-      by_break : (it : Iterated) → iterate index ≡ Ended it → (b : Bool) → (it.ret == 1) ≡ b →
-          (if b then Ended (it ∷ []) else in_front_of (scan iterate left (index + 1)) it) ≡ Ended ran →
-          ((its : List Iterated) → scan iterate left (index + 1) ≡ Ended its → break_from (index + 1) its ≡ first_break
-          breaking left (index + 1)) →
-          break_from index ran ≡ first_break breaking (suc left) index
-      by_break it same true one h later = broke_once left index it ran same one (cc)
-      by_break it same false on h later =
-          let parts = mapped_from (λ others. it ∷ others) (scan iterate left (index + 1)) ran h in
-          went_on left index it parts.0 ran same on parts.2 (later parts.0 parts.1)
-
-      by_first : (e : BoundedResult Iterated) → iterate index ≡ e
-          → followed (up_to_break (scan iterate left (index + 1))) e ≡ Ended ran →
-          ((its : List Iterated) → scan iterate left (index + 1) ≡ Ended its → break_from (index + 1) its ≡ first_break
-          breaking left (index + 1)) →
-          break_from index ran ≡ first_break breaking (suc left) index
-      by_first Stuck same h later = absurd (cc)
-      by_first Unfinished same h later = absurd (cc)
-      by_first (Ended it) same h later = by_break it same (it.ret == 1) refl h later
+  scan_break left index ran h = subst (BreaksAt index (first_break breaking left index)) h (scan_breaks left index)
 
   -- so the least break of blocks that were run is known from their numbers
   break_is : (bounds : List ℕ) (b : Block) → stands_in bounds b ≡ true → scan iterate (b.past - b.first) b.first

@@ -1,51 +1,67 @@
 -- The counted iterations are the scan of all.
-use Rattle.std.proofs.Common.{◌≡◌, ℕ, zero, suc, ◌+◌, ◌≤◌, Bool, true, false, [], ◌∷◌, map, refl, ◌∙◌, ap, arith}
-use Rattle.std.specs.{Prelude.{if◌then◌else◌, ◌==◌}, List.{range_with_len}}
+use Rattle.std.proofs.Common.{◌≡◌, ℕ, zero, suc, ◌+◌, Bool, true, false, [], ◌∷◌, map, Some, refl, sym, ◌∙◌}
+use Rattle.std.{proofs.Common.{ap, arith}, specs.{Prelude.{if◌then◌else◌, ◌==◌}, List.{range_with_len}}}
 use Rattle.bpf_step_model.specs.Run.{BoundedResult, Ended, Stuck, Unfinished, followed}
 use Rattle.bpf_step_model.specs.Iteration.{Iterated, iteration}
 use Rattle.loop_core_model.specs.LeastBreak.{is_break, least_below, count_to, in_front_of, all_ended}
 use Rattle.loop_core_model.specs.Scan.{up_to_break, scan, CountedAreScanned}
-use Rattle.loop_core_model.proofs.Least.{EndsAt, counts_to, ends_here, ends_next, ends_somewhere, ends_at_zero}
+use Rattle.loop_core_model.proofs.{Least.{least_is}, Steps.{first_break}, FirstBreak.{first_is, one_first}}
+
+-- so many of n indices from this one on are up to the first that breaks
+abbrev pub scanned : (ℕ → Bool) → (left index : ℕ) → ℕ
+scanned breaks zero index = 0
+scanned breaks (suc left) index = suc (if breaks index then 0 else scanned breaks left (index + 1))
+
+counts_scanned : (breaks : ℕ → Bool) (left index n : ℕ) → index + left ≡ n
+    → count_to n (first_break breaks left index) ≡ index + scanned breaks left index
+counts_scanned breaks zero index n all = sym all
+counts_scanned breaks (suc left) index n all =
+    go (breaks index) (counts_scanned breaks left (index + 1) n (omega arith))
+  where
+    go : (b : Bool) → count_to n (first_break breaks left (index + 1)) ≡ index + 1 + scanned breaks left (index + 1)
+        → count_to n (if b then Some index else first_break breaks left (index + 1))
+        ≡ index + suc (if b then 0 else scanned breaks left (index + 1))
+    go true rest = omega arith
+    go false rest = rest ∙ omega arith
 
 module _ (iterate : ℕ → BoundedResult Iterated) where
-  abbrev pub breaks_at : ℕ → Bool
+  abbrev breaks_at : ℕ → Bool
   breaks_at index = is_break (iterate index)
 
-  -- the counted iterations are those up to the first that breaks
-  one_scanned : (count left index : ℕ) (e : BoundedResult Iterated) → iterate index ≡ e
-      → EndsAt breaks_at (suc count) (suc left) index →
-      (breaks_at index ≡ false → all_ended (map iterate (range_with_len (index + 1) count)) ≡ scan iterate left
-      (index + 1)) →
-      all_ended (e ∷ map iterate (range_with_len (index + 1) count))
-      ≡ followed (up_to_break (scan iterate left (index + 1))) e
-  one_scanned count left index Stuck same ends later = refl
-  one_scanned count left index Unfinished same ends later = refl
-  one_scanned count left index (Ended it) same ends later = go (it.ret == 1) refl
+  -- they end as the scan does
+  scan_is : (left index : ℕ)
+      → all_ended (map iterate (range_with_len index (scanned breaks_at left index))) ≡ scan iterate left index
+  scan_is zero index = refl
+  scan_is (suc left) index = first (iterate index) (scan_is left (index + 1))
     where
-      go : (one : Bool) → (it.ret == 1) ≡ one →
-          in_front_of (all_ended (map iterate (range_with_len (index + 1) count))) it
-          ≡ (if one then Ended (it ∷ []) else in_front_of (scan iterate left (index + 1)) it)
-      go true one =
-          let none : count ≡ 0 = ends_here breaks_at count left index (ap is_break same ∙ one) ends in
-          ap (λ (n : ℕ). in_front_of (all_ended (map iterate (range_with_len (index + 1) n))) it) none
-      go false one = ap (λ rest. in_front_of rest it) (later (ap is_break same ∙ one))
+      more : ℕ
+      more = scanned breaks_at left (index + 1)
 
-  scan_is : (count left index : ℕ) → count ≤ left → EndsAt breaks_at count left index
-      → all_ended (map iterate (range_with_len index count)) ≡ scan iterate left index
-  scan_is zero zero index within ends = refl
-  scan_is zero (suc left) index within ends = absurd (ends_somewhere breaks_at left index ends)
-  scan_is (suc count) zero index within ends = absurd (omega arith)
-  scan_is (suc count) (suc left) index within ends =
-      one_scanned count left index (iterate index) refl ends
-      (λ going. scan_is count left (index + 1) (omega arith) (ends_next breaks_at count left index going ends))
+      by_return : (it : Iterated) (b : Bool)
+          → all_ended (map iterate (range_with_len (index + 1) more)) ≡ scan iterate left (index + 1)
+          → in_front_of (all_ended (map iterate (range_with_len (index + 1) (if b then 0 else more)))) it
+          ≡ (if b then Ended (it ∷ []) else in_front_of (scan iterate left (index + 1)) it)
+      by_return it true rest = refl
+      by_return it false rest = ap (λ others. in_front_of others it) rest
 
-  -- from the first on
-  pub counted_scan : (n : ℕ) → all_ended (map iterate (range_with_len 0 (count_to n (least_below breaks_at n))))
+      first : (e : BoundedResult Iterated)
+          → all_ended (map iterate (range_with_len (index + 1) more)) ≡ scan iterate left (index + 1)
+          → followed (in_front_of (all_ended (map iterate (range_with_len (index + 1)
+          (if is_break e then 0 else more))))) e
+          ≡ followed (up_to_break (scan iterate left (index + 1))) e
+      first Stuck rest = refl
+      first Unfinished rest = refl
+      first (Ended it) rest = by_return it (it.ret == 1) rest
+
+  counted_scan : (n : ℕ) → all_ended (map iterate (range_with_len 0 (count_to n (least_below breaks_at n))))
       ≡ scan iterate n 0
   counted_scan n =
-      let counts = counts_to breaks_at n in
-      scan_is (count_to n (least_below breaks_at n)) n 0 counts.within
-      (ends_at_zero breaks_at n (count_to n (least_below breaks_at n)) counts)
+      let all : 0 + n ≡ n = omega arith in
+      let same = one_first breaks_at n (first_break breaks_at n 0) (least_below breaks_at n)
+      (first_is breaks_at n 0 n all) (least_is breaks_at n) in
+      let count : count_to n (least_below breaks_at n) ≡ scanned breaks_at n 0 =
+      ap (count_to n) (sym same) ∙ counts_scanned breaks_at n 0 n all ∙ omega arith in
+      rw count (scan_is n 0)
 
 pub counted_are_scanned : CountedAreScanned
 counted_are_scanned program bound call words = counted_scan (λ index. iteration program bound call index words) call.n
