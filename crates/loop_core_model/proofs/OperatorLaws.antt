@@ -1,47 +1,15 @@
 -- Each operator is associative.
 use Rattle.std.proofs.Common.{◌≡◌, ℕ, zero, suc, ◌+◌, ◌*◌, ◌<◌, ◌⊎◌, inl, inr, List, [], ◌∷◌, refl, sym, ◌∙◌, ap, arith}
 use Rattle.std.specs.{Prelude.{◌/◌, ◌%◌, ◌^◌, bit_and, bit_or, bit_xor}, List.{fold}, Int.Bits.{xor_assoc, or_zero_l}}
-use Rattle.std.proofs.Math.{Arith.{bin_ind}, Nat.{mod-mod, mod-lt, add-mod-mod, mod-add-mod, add_assoc, div-add-mod}}
-use Rattle.std.proofs.lemmas.Nat.{and_assoc, and_mod, or_mod, or_shr, xor_mod}
+use Rattle.std.proofs.Math.Nat.{mod-mod, add-mod-mod, mod-add-mod, add_assoc}
+use Rattle.std.proofs.lemmas.{Nat.{and_assoc, and_mod, or_mod, xor_mod}, Nat.Bits.{bit_at_or, same_from_bits}}
 use Rattle.bpf_insn_types.specs.Words.{alu}
 use Rattle.array_maps.specs.{declared.access.Op.{Op, TheVariants.{Add, Or, And, Xor, AddH}}, Accesses.{combined}}
 use Rattle.array_maps.specs.Halves.{of_halves, half_of, halves_added}
 use Rattle.loop_core_model.specs.Kept.{combined_from_first, applied, OperatorsAssociate}
 
--- a number is its half and its last bit
-by_bits : (x y : ℕ) → x / 2 ≡ y / 2 → x % 2 ≡ y % 2 → x ≡ y
-by_bits x y half bit = sym (div-add-mod x 2) ∙ ap (λ h. 2 * h + x % 2) half ∙ ap (λ b. 2 * (y / 2) + b) bit
-    ∙ div-add-mod y 2
-
-bit_cases : (x : ℕ) → x < 2 → (x ≡ 0) ⊎ (x ≡ 1)
-bit_cases zero h = inl refl
-bit_cases (suc zero) h = inr refl
-bit_cases (suc (suc x)) h = absurd (omega arith)
-
-bits_assoc : (x y z : ℕ) → (x ≡ 0) ⊎ (x ≡ 1) → (y ≡ 0) ⊎ (y ≡ 1) → (z ≡ 0) ⊎ (z ≡ 1)
-    → bit_or (bit_or x y) z ≡ bit_or x (bit_or y z)
-bits_assoc x y z (inl a) (inl b) (inl c) = rw (a, b, c) refl
-bits_assoc x y z (inl a) (inl b) (inr c) = rw (a, b, c) refl
-bits_assoc x y z (inl a) (inr b) (inl c) = rw (a, b, c) refl
-bits_assoc x y z (inl a) (inr b) (inr c) = rw (a, b, c) refl
-bits_assoc x y z (inr a) (inl b) (inl c) = rw (a, b, c) refl
-bits_assoc x y z (inr a) (inl b) (inr c) = rw (a, b, c) refl
-bits_assoc x y z (inr a) (inr b) (inl c) = rw (a, b, c) refl
-bits_assoc x y z (inr a) (inr b) (inr c) = rw (a, b, c) refl
-
-bit_of : (n : ℕ) → (n % 2 ≡ 0) ⊎ (n % 2 ≡ 1)
-bit_of n = bit_cases (n % 2) (mod-lt n (omega arith))
-
 or_assoc : (a b c : ℕ) → bit_or (bit_or a b) c ≡ bit_or a (bit_or b c)
-or_assoc =
-    bin_ind (λ (n : ℕ). (b c : ℕ) → bit_or (bit_or n b) c ≡ bit_or n (bit_or b c))
-    (λ b c. ap (λ (x : ℕ). bit_or x c) (or_zero_l b) ∙ sym (or_zero_l (bit_or b c)))
-    (λ n ih b c. by_bits (bit_or (bit_or n b) c) (bit_or n (bit_or b c))
-    (or_shr (bit_or n b) c 1 ∙ ap (λ (x : ℕ). bit_or x (c / 2)) (or_shr n b 1) ∙ ih (b / 2) (c / 2)
-    ∙ sym (or_shr n (bit_or b c) 1 ∙ ap (bit_or (n / 2)) (or_shr b c 1)))
-    (or_mod (bit_or n b) c 1 ∙ ap (λ (x : ℕ). bit_or x (c % 2)) (or_mod n b 1)
-    ∙ bits_assoc (n % 2) (b % 2) (c % 2) (bit_of n) (bit_of b) (bit_of c)
-    ∙ sym (or_mod n (bit_or b c) 1 ∙ ap (bit_or (n % 2)) (or_mod b c 1))))
+or_assoc a b c = same_from_bits _ _ (λ i. simp bit_at_or (omega arith))
 
 -- sums that wrap
 wrapped_assoc : (a b c m : ℕ) → ((a + b) % m + c) % m ≡ (a + (b + c) % m) % m
