@@ -7,7 +7,7 @@ use Rattle.array_maps.specs.declared.access.Op.{Op}
 use Rattle.array_maps.specs.Accesses.{Action, Read, Write, ReadWrite, Reduce, combined, left_by_all}
 use Rattle.loop_core_model.specs.Actions.{writes, is_same, reduces_by, joined, only_operator, operand_of, operands}
 use Rattle.loop_core_model.specs.{Committed.{last_that, last_value, committed_by}, Kept.{CommitsOfKept}}
-use Rattle.loop_core_model.proofs.OneElement.{and_true_left, and_true_right, same_op, all_left, all_right, only_reduces}
+use Rattle.loop_core_model.proofs.OneElement.{and_true_left, and_true_right, same_op, all_parts, only_reduces}
 use Rattle.loop_core_model.specs.Kept.{partial_by, partial, Kept, kept, applied, last_of, committed_of_kept}
 use Rattle.loop_core_model.proofs.OperatorLaws.{fold_at_once}
 
@@ -15,9 +15,6 @@ use Rattle.loop_core_model.proofs.OperatorLaws.{fold_at_once}
 partial_applied : (op : Op) (actions : List Action) (word : ℕ) → list_all (reduces_by op) actions ≡ true →
     applied word (partial_by (only_operator actions) (operands actions)) ≡ fold (combined op) word (operands actions)
 partial_applied op [] word h = refl
-partial_applied op (Read saw ∷ actions) word h = absurd (cc)
-partial_applied op (Write left ∷ actions) word h = absurd (cc)
-partial_applied op (ReadWrite saw left ∷ actions) word h = absurd (cc)
 partial_applied op (Reduce other operand ∷ actions) word h =
     let same : op ≡ other = same_op op other (and_true_left (is_same op other) _ h) in
     let all : list_all (reduces_by op) actions ≡ true = and_true_right (is_same op other) _ h in
@@ -25,6 +22,7 @@ partial_applied op (Reduce other operand ∷ actions) word h =
     ∷ operands actions))
     ≡ fold (combined op) (combined op word operand) (operands actions)) same
     (rw all (fold_at_once op word operand (operands actions)))
+partial_applied op (_ ∷ actions) word h = absurd (cc)
 
 pub joined-append : {A : Type 0} (xs ys : List (List A)) → joined (xs ++ ys) ≡ joined xs ++ joined ys
 joined-append [] ys = refl
@@ -39,16 +37,13 @@ all_applied op [] start word h = refl
 all_applied op (block ∷ blocks) start word h =
     let parts : joined (block ++ joined blocks) ≡ joined block ++ joined (joined blocks) =
     joined-append block (joined blocks) in
-    let all : list_all (reduces_by op) (joined block ++ joined (joined blocks)) ≡ true =
-    subst (λ (actions : List Action). list_all (reduces_by op) actions ≡ true) parts h in
+    let all = all_parts (reduces_by op) (joined block) (joined (joined blocks)) (rw parts at h) in
     ap (λ actions. fold (combined op) word (operands actions)) parts
     ∙ ap (fold (combined op) word) (filter_map-append operand_of (joined block) (joined (joined blocks)))
     ∙ fold-append (combined op) word (operands (joined block)) (operands (joined (joined blocks)))
     ∙ ap (λ w. fold (combined op) w (operands (joined (joined blocks))))
-    (sym (partial_applied op (joined block) word (all_left (reduces_by op) (joined block) (joined (joined blocks))
-    all)))
-    ∙ all_applied op blocks start (applied word (partial block)) (all_right (reduces_by op) (joined block)
-    (joined (joined blocks)) all)
+    (sym (partial_applied op (joined block) word all.0))
+    ∙ all_applied op blocks start (applied word (partial block)) all.1
 
 -- last writers
 pub last_that-append : (test : List Action → Bool) (xs ys : List (List Action)) → last_that test (xs ++ ys)

@@ -3,6 +3,7 @@
 use Rattle.std.proofs.Common.{◌≡◌, ℕ, Bool, true, false, ◌&&◌, ◌||◌, ◌⊎◌, inl, inr, List, [], ◌∷◌, ◌++◌, Option, Some}
 use Rattle.std.{proofs.Common.{None, refl, sym, ◌∙◌, ap, subst}, specs.Prelude.{if◌then◌else◌, is_none}}
 use Rattle.std.specs.{Option.{option_or, option_map, unwrap_or}, List.{list_any, list_all, fold}}
+use Rattle.std.proofs.lemmas.{Bool.{and_parts, or_parts, or_from}, List.Folds.{list_all-append}}
 use Rattle.array_maps.specs.declared.access.Op.{Op, TheVariants.{Add, Or, And, Xor, AddH}}
 use Rattle.array_maps.specs.Accesses.{Action, Read, Write, ReadWrite, Reduce, combined, left_by, left_by_all, SawEach}
 use Rattle.loop_core_model.specs.Actions.{writes, exposed, is_same, reduces_by, joined, only_operator, operands}
@@ -33,37 +34,28 @@ and_false false c d f h = refl
 pub sealed_saw : (actions : List Action) (word other : ℕ) → exposed actions ≡ false → SawEach actions word
     → SawEach actions other
 sealed_saw [] word other h saw = tt
-sealed_saw (Read w ∷ actions) word other h saw = absurd (cc)
 sealed_saw (Write w ∷ actions) word other h saw = saw
-sealed_saw (ReadWrite w v ∷ actions) word other h saw = absurd (cc)
-sealed_saw (Reduce op v ∷ actions) word other h saw = absurd (cc)
+sealed_saw (_ ∷ actions) word other h saw = absurd (cc)
 
 -- and what it leaves doesn't depend on it either, if it writes
 pub sealed_left : (actions : List Action) (word other : ℕ) → exposed actions ≡ false → writes actions ≡ true
     → left_by_all actions word ≡ left_by_all actions other
-sealed_left [] word other h w = absurd (cc)
-sealed_left (Read x ∷ actions) word other h w = absurd (cc)
 sealed_left (Write x ∷ actions) word other h w = refl
-sealed_left (ReadWrite x v ∷ actions) word other h w = absurd (cc)
-sealed_left (Reduce op v ∷ actions) word other h w = absurd (cc)
+sealed_left _ word other h w = absurd (cc)
 
 -- what isn't written stays
 pub unwritten_left : (actions : List Action) (word : ℕ) → writes actions ≡ false → left_by_all actions word ≡ word
 unwritten_left [] word h = refl
 unwritten_left (Read x ∷ actions) word h = unwritten_left actions word h
-unwritten_left (Write x ∷ actions) word h = absurd (cc)
-unwritten_left (ReadWrite x v ∷ actions) word h = absurd (cc)
-unwritten_left (Reduce op v ∷ actions) word h = absurd (cc)
+unwritten_left (_ ∷ actions) word h = absurd (cc)
 
 -- reduces see nothing
 pub reduces_saw : (op : Op) (actions : List Action) (word : ℕ) → list_all (reduces_by op) actions ≡ true
     → SawEach actions word
 reduces_saw op [] word h = tt
-reduces_saw op (Read x ∷ actions) word h = absurd (cc)
-reduces_saw op (Write x ∷ actions) word h = absurd (cc)
-reduces_saw op (ReadWrite x v ∷ actions) word h = absurd (cc)
 reduces_saw op (Reduce other v ∷ actions) word h =
     (tt, reduces_saw op actions _ (and_true_right (is_same op other) _ h))
+reduces_saw op (_ ∷ actions) word h = absurd (cc)
 
 pub same_op : (a b : Op) → is_same a b ≡ true → a ≡ b
 same_op Add Add h = refl
@@ -77,14 +69,12 @@ same_op _ _ h = absurd (cc)
 pub reduces_left : (op : Op) (actions : List Action) (word : ℕ) → list_all (reduces_by op) actions ≡ true →
     left_by_all actions word ≡ fold (combined op) word (operands actions)
 reduces_left op [] word h = refl
-reduces_left op (Read x ∷ actions) word h = absurd (cc)
-reduces_left op (Write x ∷ actions) word h = absurd (cc)
-reduces_left op (ReadWrite x v ∷ actions) word h = absurd (cc)
 reduces_left op (Reduce other v ∷ actions) word h =
     let same : op ≡ other = same_op op other (and_true_left (is_same op other) _ h) in
     subst (λ (o : Op). left_by_all actions (combined o word v) ≡ fold (combined op) (combined op word v)
     (operands actions)) same
     (reduces_left op actions (combined op word v) (and_true_right (is_same op other) _ h))
+reduces_left op (_ ∷ actions) word h = absurd (cc)
 
 -- the word is still the start word, or nobody to come looks at it first
 abbrev pub Calm : (start word : ℕ) → List (List Action) → Type 0
@@ -97,23 +87,15 @@ Holds start word iterations =
     × Calm start word iterations)
 
 -- all of a joined list passes: its first part and its rest
-and_mono : (b x y : Bool) → (x ≡ true → y ≡ true) → (b && x) ≡ true → (b && y) ≡ true
-and_mono true x y f h = f h
-and_mono false x y f h = h
-
-pub all_left : (p : Action → Bool) (xs ys : List Action) → list_all p (xs ++ ys) ≡ true → list_all p xs ≡ true
-all_left p [] ys h = refl
-all_left p (x ∷ xs) ys h = and_mono (p x) (list_all p (xs ++ ys)) (list_all p xs) (all_left p xs ys) h
-
-pub all_right : (p : Action → Bool) (xs ys : List Action) → list_all p (xs ++ ys) ≡ true → list_all p ys ≡ true
-all_right p [] ys h = h
-all_right p (x ∷ xs) ys h = all_right p xs ys (and_true_right (p x) _ h)
+pub all_parts : (p : Action → Bool) (xs ys : List Action) → list_all p (xs ++ ys) ≡ true
+    → (list_all p xs ≡ true) × (list_all p ys ≡ true)
+all_parts p xs ys h = and_parts (list_all p xs) (list_all p ys) (sym (list_all-append p xs ys) ∙ h)
 
 -- the next iteration sees on the word in order what it saw on the start word
 pub holds_saw : (start word : ℕ) (first : List Action) (rest : List (List Action)) → SawEach first start
     → Holds start word (first ∷ rest) → SawEach first word
 holds_saw start word first rest saw (inl reduced) =
-    reduces_saw reduced.0 first word (all_left (reduces_by reduced.0) first (joined rest) reduced.1)
+    reduces_saw reduced.0 first word (all_parts (reduces_by reduced.0) first (joined rest) reduced.1).0
 holds_saw start word first rest saw (inr calm) = go calm.1
   where
     go : Calm start word (first ∷ rest) → SawEach first word
@@ -132,7 +114,7 @@ calm_next start word first rest false w unharmed (inr none) = inr (or_false_righ
 pub holds_next : (start word : ℕ) (first : List Action) (rest : List (List Action)) → Holds start word (first ∷ rest)
     → Holds start (left_by_all first word) rest
 holds_next start word first rest (inl reduced) =
-    inl (reduced.0, all_right (reduces_by reduced.0) first (joined rest) reduced.1)
+    inl (reduced.0, (all_parts (reduces_by reduced.0) first (joined rest) reduced.1).1)
 holds_next start word first rest (inr calm) =
     inr (
       or_false_right (writes first && list_any exposed rest) _ calm.0,
@@ -195,13 +177,10 @@ chosen false a op h = absurd (cc)
 -- all actions of a reduction-only element are reduces by its operator
 pub only_reduces : (op : Op) (actions : List Action) → only_operator actions ≡ Some op
     → list_all (reduces_by op) actions ≡ true
-only_reduces op [] h = absurd (cc)
-only_reduces op (Read x ∷ actions) h = absurd (cc)
-only_reduces op (Write x ∷ actions) h = absurd (cc)
-only_reduces op (ReadWrite x v ∷ actions) h = absurd (cc)
 only_reduces op (Reduce other v ∷ actions) h =
     let parts = chosen (list_all (reduces_by other) actions) other op h in
     subst (λ (o : Op). (is_same o other && list_all (reduces_by o) actions) ≡ true) parts.1 (rw is_same-refl parts.0)
+only_reduces op _ h = absurd (cc)
 
 -- no writer comes before a reader, unless the element is reduction-only
 abbrev pub Unharmed : List (List Action) → Type 0
@@ -231,14 +210,9 @@ left-committed start iterations unharmed = committed_with start iterations (only
     unharmed
 
 -- where no pair fails the LRPD test, none fails the flow test
-or_false : (a b : Bool) → a ≡ false → b ≡ false → (a || b) ≡ false
-or_false a b h k = rw (h, k) refl
-
 pub fails_flow-fails_lrpd : (iterations : List (List Action)) → fails_lrpd iterations ≡ false
     → fails_flow iterations ≡ false
 fails_flow-fails_lrpd [] h = refl
 fails_flow-fails_lrpd (first ∷ rest) h =
-    or_false (writes first && list_any exposed rest) (fails_flow rest)
-    (or_false_left (writes first && list_any exposed rest) _ h)
-    (fails_flow-fails_lrpd rest (or_false_right (exposed first && list_any writes rest) (fails_lrpd rest)
-    (or_false_right (writes first && list_any exposed rest) _ h)))
+    let parts = or_parts (writes first && list_any exposed rest) _ h in
+    or_from _ _ parts.0 (fails_flow-fails_lrpd rest (or_parts (exposed first && list_any writes rest) _ parts.1).1)

@@ -2,7 +2,7 @@
 use Rattle.std.proofs.Common.{◌≡◌, ℕ, Bool, true, false, not, ◌&&◌, ◌||◌, List, [], ◌∷◌, Some, None, refl, sym, ◌∙◌, ap}
 use Rattle.std.{proofs.Common.{subst, arith}, specs.Prelude.{if◌then◌else◌, ◌==◌, is_some}}
 use Rattle.std.{specs.List.{list_any, list_all, count_by}, proofs.lemmas.Bool.Decides.{nat_tests}}
-use Rattle.std.proofs.lemmas.List.Folds.{list_any-append}
+use Rattle.std.proofs.lemmas.{Bool.{or_left, and_right, not_from_true}, List.Folds.{list_any-append, list_any_at}}
 use Rattle.array_maps.specs.declared.access.Op.{Op, TheVariants.{Add, Or, And, Xor, AddH}}
 use Rattle.array_maps.specs.Accesses.{Action, Read, Write, ReadWrite, Reduce, operators}
 use Rattle.loop_core_model.specs.{Actions.{is_same, reduces_by, joined, only_operator}, Flags.{is_plain}}
@@ -24,22 +24,13 @@ has actions op = list_any (reduces_by op) actions
 abbrev pub another : Op → (Op → Bool) → Bool
 another op test = list_any (λ other. not (is_same op other) && test other) operators
 
-or_right : (a b : Bool) → b ≡ true → (a || b) ≡ true
-or_right true b h = refl
-or_right false b h = h
-
-or_left : (a b : Bool) → a ≡ true → (a || b) ≡ true
-or_left a b h = rw h refl
-
 -- one operator passes
 any_operator : (test : Op → Bool) (op : Op) → test op ≡ true → list_any test operators ≡ true
-any_operator test Add h = or_left (test Add) _ h
-any_operator test Or h = or_right (test Add) _ (or_left (test Or) _ h)
-any_operator test And h = or_right (test Add) _ (or_right (test Or) _ (or_left (test And) _ h))
-any_operator test Xor h = or_right (test Add) _ (or_right (test Or) _ (or_right (test And) _ (or_left (test Xor) _ h)))
-any_operator test AddH h =
-    or_right (test Add) _ (or_right (test Or) _
-    (or_right (test And) _ (or_right (test Xor) _ (or_left (test AddH) _ h))))
+any_operator test Add h = list_any_at test operators 0 Add (omega arith) h
+any_operator test Or h = list_any_at test operators 1 Add (omega arith) h
+any_operator test And h = list_any_at test operators 2 Add (omega arith) h
+any_operator test Xor h = list_any_at test operators 3 Add (omega arith) h
+any_operator test AddH h = list_any_at test operators 4 Add (omega arith) h
 
 -- a reduce by the operator itself is none by another
 another_same : (op : Op) (operand : ℕ) (actions : List Action) → another op (has (Reduce op operand ∷ actions))
@@ -54,8 +45,7 @@ not_and : (b c d : Bool) → b ≡ false → c ≡ true → (not b && (c || d)) 
 not_and b c d h k = rw (h, k) refl
 
 and_not_true : (a b : Bool) → b ≡ true → false ≡ (a && not b)
-and_not_true true b h = rw h refl
-and_not_true false b h = refl
+and_not_true a b h = sym (and_right a (not b) (not_from_true b h))
 
 -- all reduce by an operator where none is plain and none reduces by another
 all_alone : (op : Op) (actions : List Action) → list_all (reduces_by op) actions ≡ (not (plain actions)
@@ -65,9 +55,6 @@ all_alone Or [] = refl
 all_alone And [] = refl
 all_alone Xor [] = refl
 all_alone AddH [] = refl
-all_alone op (Read saw ∷ actions) = refl
-all_alone op (Write left ∷ actions) = refl
-all_alone op (ReadWrite saw left ∷ actions) = refl
 all_alone op (Reduce other operand ∷ actions) = go (all_alone op actions) (is_same op other) refl
   where
     go : list_all (reduces_by op) actions ≡ (not (plain actions) && not (another op (has actions))) → (b : Bool)
@@ -82,6 +69,7 @@ all_alone op (Reduce other operand ∷ actions) = go (all_alone op actions) (is_
         and_not_true (not (plain actions)) (another op (has (Reduce other operand ∷ actions)))
         (any_operator (λ o. not (is_same op o) && has (Reduce other operand ∷ actions) o) other
         (not_and (is_same op other) (is_same other other) (has actions other) apart (is_same-refl other)))
+all_alone op (_ ∷ actions) = refl
 
 -- where an operator passes, exactly one does if no other passes
 exactly_one : (op : Op) (test : Op → Bool) → test op ≡ true → (count_by test operators == 1) ≡ not (another op test)
@@ -99,12 +87,10 @@ some_if false op = refl
 pub only-kept : (actions : List Action) → is_some (only_operator actions) ≡ (not (plain actions)
     && (count_by (has actions) operators == 1))
 only-kept [] = refl
-only-kept (Read saw ∷ actions) = refl
-only-kept (Write left ∷ actions) = refl
-only-kept (ReadWrite saw left ∷ actions) = refl
 only-kept (Reduce op operand ∷ actions) =
     some_if (list_all (reduces_by op) actions) op
     ∙ all_alone op actions
     ∙ ap (λ b. not (plain actions) && not b) (sym (another_same op operand actions))
     ∙ ap (λ b. not (plain actions) && b)
     (sym (exactly_one op (has (Reduce op operand ∷ actions)) (or_left (is_same op op) _ (is_same-refl op))))
+only-kept (_ ∷ actions) = refl

@@ -25,10 +25,7 @@ length-after_effects effects words =
 kind_keeps : (deed : Deed) (word : ℕ) → kind_leaves (kind_of_deed deed) ≡ false → left_by (action_on deed word) word
     ≡ word
 kind_keeps (Load part) word h = refl
-kind_keeps (Store left) word h = absurd (cc)
-kind_keeps (Fetch left) word h = absurd (cc)
-kind_keeps (Replace half number fetches) word h = absurd (cc)
-kind_keeps (Apply op operand) word h = absurd (cc)
+kind_keeps _ word h = absurd (cc)
 
 pub keeps : (a : Effect) → kind_leaves (kind_of_deed a.deed) ≡ false → (words : List ℕ)
     → words_after_effect a words ≡ words
@@ -114,16 +111,9 @@ high_replaced word number =
 deed_spares : (deed : Deed) (half other : Half) → half ≢ other → deed_part deed ≡ Of half
     → kind_leaves (kind_of_deed deed) ≡ true → (word : ℕ) → FitsFor (Of other) word
     → Kept (Of other) word (left_by (action_on deed word) word)
-deed_spares (Load part) half other differ is leaves word below = absurd (cc)
-deed_spares (Store left) half other differ is leaves word below = absurd (cc)
-deed_spares (Fetch left) half other differ is leaves word below = absurd (cc)
-deed_spares (Apply op operand) half other differ is leaves word below = absurd (cc)
-deed_spares (Replace Low number fetches) half Low differ is leaves word below =
-    let same : half ≡ Low = cc in absurd (differ same)
 deed_spares (Replace Low number fetches) half High differ is leaves word below = low_replaced word number below
 deed_spares (Replace High number fetches) half Low differ is leaves word below = high_replaced word number
-deed_spares (Replace High number fetches) half High differ is leaves word below =
-    let same : half ≡ High = cc in absurd (differ same)
+deed_spares _ half other differ is leaves word below = absurd (let same : half ≡ other = cc in differ same)
 
 -- what is so of a word and of what it becomes is so where it stands in a list
 pub at_place : (P : (word left : ℕ) → Type 0) (change : ℕ → ℕ) (words : List ℕ) (e : ℕ) → P 0 0
@@ -186,19 +176,9 @@ pub deeds_exchange : (a b : Deed) (half other : Half) → half ≢ other → dee
     → kind_leaves (kind_of_deed a) ≡ true → kind_leaves (kind_of_deed b) ≡ true → (word : ℕ)
     → left_by (action_on a (left_by (action_on b word) word)) (left_by (action_on b word) word)
     ≡ left_by (action_on b (left_by (action_on a word) word)) (left_by (action_on a word) word)
-deeds_exchange (Load part) b half other differ is other_is leaves other_leaves word = absurd (cc)
-deeds_exchange (Store left) b half other differ is other_is leaves other_leaves word = absurd (cc)
-deeds_exchange (Fetch left) b half other differ is other_is leaves other_leaves word = absurd (cc)
-deeds_exchange (Apply op operand) b half other differ is other_is leaves other_leaves word = absurd (cc)
-deeds_exchange (Replace h n f) (Load part) half other differ is other_is leaves other_leaves word = absurd (cc)
-deeds_exchange (Replace h n f) (Store left) half other differ is other_is leaves other_leaves word = absurd (cc)
-deeds_exchange (Replace h n f) (Fetch left) half other differ is other_is leaves other_leaves word = absurd (cc)
-deeds_exchange (Replace h n f) (Apply op operand) half other differ is other_is leaves other_leaves word = absurd (cc)
-deeds_exchange (Replace Low n f) (Replace Low m g) half other differ is other_is leaves other_leaves word =
-    let same : half ≡ other = cc in absurd (differ same)
 deeds_exchange (Replace Low n f) (Replace High m g) half other differ is other_is leaves other_leaves word =
     both_replaced word n m
 deeds_exchange (Replace High n f) (Replace Low m g) half other differ is other_is leaves other_leaves word =
     sym (both_replaced word m n)
-deeds_exchange (Replace High n f) (Replace High m g) half other differ is other_is leaves other_leaves word =
-    let same : half ≡ other = cc in absurd (differ same)
+deeds_exchange _ _ half other differ is other_is leaves other_leaves word =
+    absurd (let same : half ≡ other = cc in differ same)
