@@ -14,15 +14,14 @@ pub record PassesAt (p : List Action → Bool) (xs : List (List Action)) : Type 
 
 any_at : (p : List Action → Bool) (xs : List (List Action)) → list_any p xs ≡ true → PassesAt p xs
 any_at p [] h = absurd (cc)
-any_at p (x ∷ xs) h = go (any_at p xs) (or_cases (p x) (list_any p xs) h)
-  where
-    go : (list_any p xs ≡ true → PassesAt p xs) → (p x ≡ true) ⊎ (list_any p xs ≡ true) → PassesAt p (x ∷ xs)
-    go later (inl here) = record { index = 0; within = omega arith; passes = here }
-    go later (inr there) = let at = later there in record {
-      index = suc at.index;
-      within = (let h = at.within in omega arith);
-      passes = at.passes;
-    }
+any_at p (x ∷ xs) h = elim (or_cases (p x) (list_any p xs) h) [
+  | inl here ↦ record { index = 0; within = omega arith; passes = here }
+  | inr there ↦ (let at = any_at p xs there in record {
+    index = suc at.index;
+    within = (let h = at.within in omega arith);
+    passes = at.passes;
+  })
+]
 
 -- the first iteration fails the test as a writer with those after it, or as a reader, which the LRPD test minds
 abbrev pub writes_first : List Action → List (List Action) → Bool
@@ -108,17 +107,13 @@ both_behind test it its c =
 pair_of : (test : Test) (its : List (List Action)) → fails test its ≡ true → FailingPair test its
 pair_of test [] h = absurd (let none = fails_none test in cc)
 pair_of test (it ∷ its) h =
-    first (pair_of test its) (or_cases (writes_first it its) _ (rw (fails_more test it its) at h))
-  where
-    second : (fails test its ≡ true → FailingPair test its) → (reads_first test it its ≡ true) ⊎ (fails test its ≡ true)
-        → FailingPair test (it ∷ its)
-    second later (inl h) = writer_behind test it its h
-    second later (inr h) = both_behind test it its (later h)
-
-    first : (fails test its ≡ true → FailingPair test its) → (writes_first it its ≡ true)
-        ⊎ ((reads_first test it its || fails test its) ≡ true) → FailingPair test (it ∷ its)
-    first later (inl h) = reader_behind test it its h
-    first later (inr h) = second later (or_cases (reads_first test it its) _ h)
+    elim (or_cases (writes_first it its) _ (rw (fails_more test it its) at h)) [
+      | inl writer ↦ reader_behind test it its writer
+      | inr h ↦ elim (or_cases (reads_first test it its) _ h) [
+        | inl reader ↦ writer_behind test it its reader
+        | inr later ↦ both_behind test it its (pair_of test its later)
+      ]
+    ]
 
 -- a pair fails the test
 fails_at : (test : Test) (its : List (List Action)) (writer reader : ℕ) → writer < length its → reader < length its

@@ -22,23 +22,22 @@ FirstIs test index past None = NoneIn test index past
 FirstIs test index past (Some i) = IsFirst test index past i
 
 -- an interval more in front, none of which passes
+more_none : (test : ℕ → Bool) (index middle past : ℕ) → NoneIn test index middle → NoneIn test middle past
+    → NoneIn test index past
+more_none test index middle past none rest j low high = elim (cases_lt j middle) [
+  | inl h ↦ none j low h
+  | inr h ↦ rest j h high
+]
+
 pub widened : (test : ℕ → Bool) (index middle past : ℕ) (o : Option ℕ) → index ≤ middle → NoneIn test index middle
     → FirstIs test middle past o → FirstIs test index past o
-widened test index middle past None order none rest = λ j low high. go j low high (cases_lt j middle)
-  where
-    go : (j : ℕ) → index ≤ j → j < past → (j < middle) ⊎ (middle ≤ j) → test j ≡ false
-    go j low high (inl h) = none j low h
-    go j low high (inr h) = rest j h high
+widened test index middle past None order none rest = more_none test index middle past none rest
 widened test index middle past (Some i) order none first = record {
   from = (let h = first.from in omega arith);
   within = first.within;
   passes = first.passes;
-  below = λ j low high. go j low high (cases_lt j middle);
+  below = more_none test index middle i none first.below;
 }
-  where
-    go : (j : ℕ) → index ≤ j → j < i → (j < middle) ⊎ (middle ≤ j) → test j ≡ false
-    go j low high (inl h) = none j low h
-    go j low high (inr h) = first.below j h high
 
 -- the first that breaks is the first that passes
 pub first_is : (test : ℕ → Bool) (left index past : ℕ) → index + left ≡ past

@@ -1,8 +1,8 @@
 -- The least number that passes a test, and what a filter of a range keeps.
 use Rattle.std.proofs.Common.{◌≡◌, ℕ, zero, suc, ◌+◌, ◌<◌, ◌≤◌, Bool, true, false, ◌⊎◌, inl, inr, List, [], ◌∷◌, Option}
-use Rattle.std.{proofs.Common.{Some, None, refl, sym, subst, arith, eqb}, specs.Prelude.{if◌then◌else◌, cond}}
-use Rattle.std.{specs.{Option.{option_or}, List.{filter, range_with_len}}, proofs.lemmas.Bool.Decides.{eqb_tells}}
-use Rattle.loop_core_model.specs.LeastBreak.{least_below, count_to}
+use Rattle.std.{proofs.Common.{Some, None, refl, sym, ◌∙◌, ap, subst, arith, eqb}, specs.Prelude.{if◌then◌else◌, cond, min}}
+use Rattle.std.{specs.{Option.{option_or}, List.{filter, range_with_len}}, proofs.lemmas.Bool.{cases_eq}}
+use Rattle.loop_core_model.specs.LeastBreak.{least_below, count_to, lesser}
 
 -- below which nothing passes
 abbrev pub NoneBelow : (ℕ → Bool) → ℕ → Type 0
@@ -10,11 +10,10 @@ NoneBelow test n = (j : ℕ) → j < n → test j ≡ false
 
 -- one number more that fails
 below_more : (test : ℕ → Bool) (n : ℕ) → NoneBelow test n → test n ≡ false → NoneBelow test (suc n)
-below_more test n below here j h = go (eqb_tells j n)
-  where
-    go : ((eqb j n ≡ true) × (j ≡ n)) ⊎ ((eqb j n ≡ false) × (j ≡ n → ⊥)) → test j ≡ false
-    go (inl same) = subst (λ (i : ℕ). test i ≡ false) (sym same.1) here
-    go (inr other) = below j (let apart = other.1 in omega arith)
+below_more test n below here j h = elim (cases_eq j n) [
+  | inl same ↦ ap test same ∙ here
+  | inr other ↦ below j (omega arith)
+]
 
 -- what the least number is
 pub record IsLeast (test : ℕ → Bool) (n index : ℕ) : Type 0 where
@@ -66,9 +65,26 @@ pub filter_none : (test : ℕ → Bool) (from count : ℕ) → filter test (rang
 filter_none test from zero h e low high = absurd (omega arith)
 filter_none test from (suc count) h e low high =
     let parts = kept_none (test from) from (filter test (range_with_len (from + 1) count)) h in
-    go parts.0 (filter_none test (from + 1) count parts.1 e) (eqb_tells e from)
-  where
-    go : test from ≡ false → (from + 1 ≤ e → e < from + 1 + count → test e ≡ false) →
-        ((eqb e from ≡ true) × (e ≡ from)) ⊎ ((eqb e from ≡ false) × (e ≡ from → ⊥)) → test e ≡ false
-    go here later (inl same) = subst (λ (i : ℕ). test i ≡ false) (sym same.1) here
-    go here later (inr other) = later (let apart = other.1 in omega arith) (omega arith)
+    elim (cases_eq e from) [
+      | inl same ↦ ap test same ∙ parts.0
+      | inr other ↦ filter_none test (from + 1) count parts.1 e (omega arith) (omega arith)
+    ]
+
+-- the lesser of several
+pub lesser_none : (a : Option ℕ) → lesser a None ≡ a
+lesser_none None = refl
+lesser_none (Some n) = refl
+
+pub lesser_assoc : (a b c : Option ℕ) → lesser (lesser a b) c ≡ lesser a (lesser b c)
+lesser_assoc None b c = refl
+lesser_assoc (Some a) None c = refl
+lesser_assoc (Some a) (Some b) None = refl
+lesser_assoc (Some a) (Some b) (Some c) = ap Some (let e : min (min a b) c ≡ min a (min b c) = omega arith in e)
+
+pub lesser_comm : (a b : Option ℕ) → lesser a b ≡ lesser b a
+lesser_comm None b = sym (lesser_none b)
+lesser_comm (Some a) None = refl
+lesser_comm (Some a) (Some b) = ap Some (let e : min a b ≡ min b a = omega arith in e)
+
+pub lesser_swap : (a b c : Option ℕ) → lesser a (lesser b c) ≡ lesser b (lesser a c)
+lesser_swap a b c = sym (lesser_assoc a b c) ∙ ap (λ o. lesser o c) (lesser_comm a b) ∙ lesser_assoc b a c

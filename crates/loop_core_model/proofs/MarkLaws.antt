@@ -11,7 +11,8 @@ use Rattle.loop_core_model.specs.Marks.{Visit, actions_of, numbered, Marks, two_
 use Rattle.loop_core_model.specs.Marks.{marks_of, marked_reduction, stands_before, first_number, marked_fails}
 use Rattle.loop_core_model.specs.Marks.{marked_conflict, marks_of_one, merged}
 use Rattle.loop_core_model.specs.MarkLaw.{MarksTell, FirstIsNumber, MarksMerge}
-use Rattle.loop_core_model.proofs.ReductionLaws.{only-kept, any-joined, has}
+use Rattle.loop_core_model.proofs.ReductionLaws.{only-kept, any-joined}
+use Rattle.loop_core_model.proofs.Least.{lesser_none, lesser_assoc, lesser_comm}
 
 -- marks that agree are the same
 pub record MarksAgree (a b : Marks) : Type 0 where
@@ -42,71 +43,37 @@ numbered_actions index [] = refl
 numbered_actions index (it ∷ its) = ap (λ rest. it ∷ rest) (numbered_actions (index + 1) its)
 
 -- the marks of numbered iterations are those of their actions
-reduction_of : (its : List (List Action)) → is_some (only_operator (joined its))
-    ≡ (not (list_any (λ actions. list_any is_plain actions) its)
-    && (count_by (λ op. list_any (λ actions. list_any (reduces_by op) actions) its) operators == 1))
-reduction_of its =
-    only-kept (joined its)
-    ∙ ap (λ b. not b && (count_by (has (joined its)) operators == 1)) (sym (any-joined is_plain its))
-    ∙ ap (λ (test : Op → Bool). not (list_any (λ actions. list_any is_plain actions) its)
-    && (count_by test operators == 1)) (λ i op. sym (any-joined (reduces_by op) its) i)
-
 reduction : (index : ℕ) (its : List (List Action)) → is_some (only_operator (joined its)) ≡ marked_reduction
     (marks_of (numbered index its))
-reduction index its =
-    reduction_of its
-    ∙ ap (λ (all : List (List Action)). not (list_any (λ actions. list_any is_plain actions) all)
-    && (count_by (λ op. list_any (λ actions. list_any (reduces_by op) actions) all) operators == 1))
-    (sym (numbered_actions index its))
+reduction index its = simp (numbered_actions, any-joined) (only-kept (joined its))
 
--- a mark that needs a writer is a mark of a written element
-abbrev pub written : List (List Action) → Bool
-written its = list_any writes its
+-- what is known of the marks for the LRPD test: a mark that needs a writer is one of a written element, an exposed read
+-- is by an iteration that writes or by one that doesn't, and the test fails by the marks
+pub record ClashFacts (written two read_only read_and_written looked clash : Bool) : Type 0 where
+  pub both_write : (read_and_written && written) ≡ read_and_written
+  pub two_write : (two && written) ≡ two
+  pub looks : looked ≡ (read_only || read_and_written)
+  pub clashes : clash ≡ ((read_only && written) || (read_and_written && two))
 
-abbrev pub read_only : List (List Action) → Bool
-read_only its = list_any (λ actions. exposed actions && not (writes actions)) its
+clash_step : (W E w m r np x f : Bool) → ClashFacts w m r np x f
+    → ClashFacts (W || w) ((W && w) || m) ((E && not W) || r) ((E && W) || np) (E || x) ((W && x) || ((E && w) || f))
+clash_step W E w m r np x f facts =
+    let h = facts.both_write in
+    let k = facts.two_write in
+    let l = facts.looks in
+    let c = facts.clashes in
+    record {
+      both_write = grind (arith, nat_tests);
+      two_write = grind (arith, nat_tests);
+      looks = grind (arith, nat_tests);
+      clashes = grind (arith, nat_tests);
+    }
 
-abbrev pub read_and_written : List (List Action) → Bool
-read_and_written its = list_any (λ actions. exposed actions && writes actions) its
-
-read_and_written-written : (its : List (List Action)) → (read_and_written its && written its) ≡ read_and_written its
-read_and_written-written [] = refl
-read_and_written-written (it ∷ its) = go (exposed it) (writes it) (read_and_written its) (written its)
-    (read_and_written-written its)
-  where
-    go : (E W np w : Bool) → (np && w) ≡ np → (((E && W) || np) && (W || w)) ≡ ((E && W) || np)
-    go E W np w h = grind (arith, nat_tests)
-
-two_write-written : (its : List (List Action)) → (two_write its && written its) ≡ two_write its
-two_write-written [] = refl
-two_write-written (it ∷ its) = go (writes it) (two_write its) (written its) (two_write-written its)
-  where
-    go : (W m w : Bool) → (m && w) ≡ m → (((W && w) || m) && (W || w)) ≡ ((W && w) || m)
-    go W m w h = grind (arith, nat_tests)
-
--- an exposed read is by one that writes or by one that doesn't
-exposed_split : (its : List (List Action)) → list_any exposed its ≡ (read_only its || read_and_written its)
-exposed_split [] = refl
-exposed_split (it ∷ its) = ap (λ b. exposed it || b) (exposed_split its) ∙ go (exposed it) (writes it) (read_only its)
-    (read_and_written its)
-  where
-    go : (E W r np : Bool) → (E || (r || np)) ≡ (((E && not W) || r) || ((E && W) || np))
-    go E W r np = grind (arith, nat_tests)
-
-clash_step : (W E r w np m : Bool) → (np && w) ≡ np → (m && w) ≡ m →
-    ((W && (r || np)) || ((E && w) || ((r && w) || (np && m)))) ≡ ((((E && not W) || r) && (W || w))
-    || (((E && W) || np) && ((W && w) || m)))
-clash_step W E r w np m h k = grind (arith, nat_tests)
-
-clash_marked : (its : List (List Action)) → fails_lrpd its ≡ ((read_only its && written its)
-    || (read_and_written its && two_write its))
-clash_marked [] = refl
-clash_marked (it ∷ its) =
-    ap (λ b. (writes it && b) || ((exposed it && list_any writes its) || fails_lrpd its)) (exposed_split its)
-    ∙ ap (λ b. (writes it && (read_only its || read_and_written its)) || ((exposed it && list_any writes its) || b))
-    (clash_marked its)
-    ∙ clash_step (writes it) (exposed it) (read_only its) (written its) (read_and_written its) (two_write its)
-    (read_and_written-written its) (two_write-written its)
+clash_facts : (its : List (List Action)) → ClashFacts (list_any writes its) (two_write its)
+    (list_any (λ actions. exposed actions && not (writes actions)) its)
+    (list_any (λ actions. exposed actions && writes actions) its) (list_any exposed its) (fails_lrpd its)
+clash_facts [] = record { both_write = refl; two_write = refl; looks = refl; clashes = refl }
+clash_facts (it ∷ its) = clash_step (writes it) (exposed it) _ _ _ _ _ _ (clash_facts its)
 
 -- the first writer of iterations from an index on has no lesser index
 abbrev pub FromIndex : ℕ → Option ℕ → Type 0
@@ -124,9 +91,12 @@ pub record FlowFacts (index : ℕ) (first : Option ℕ) (last : ℕ) (reads harm
 abbrev pub one_reader : ℕ → Bool → ℕ
 one_reader index looked = if looked then index + 1 else 0
 
-reader_small : (index : ℕ) (E : Bool) → one_reader index E ≤ index + 1
-reader_small index true = omega arith
-reader_small index false = omega arith
+late_step : (index : ℕ) (W : Bool) (first : Option ℕ) → FromIndex (index + 1) first
+    → FromIndex index (lesser (if W then Some index else None) first)
+late_step index true None h = omega arith
+late_step index true (Some first) h = omega arith
+late_step index false None h = tt
+late_step index false (Some first) h = omega arith
 
 last_step : (index : ℕ) (E : Bool) (last : ℕ) → (last ≡ 0) ⊎ (index + 1 + 1 ≤ last) →
     (max (one_reader index E) last ≡ 0) ⊎ (index + 1 ≤ max (one_reader index E) last)
@@ -134,77 +104,39 @@ last_step index true last h = inr (omega arith)
 last_step index false last (inl h) = inl (omega arith)
 last_step index false last (inr h) = inr (omega arith)
 
-reads_step : (index : ℕ) (E : Bool) (last : ℕ) (reads : Bool) → reads ≡ not (last == 0)
-    → (E || reads) ≡ not (max (one_reader index E) last == 0)
-reads_step index true last reads h = grind (arith, nat_tests)
-reads_step index false last reads h = grind (arith, nat_tests)
+reads_step : (index : ℕ) (E : Bool) (last : ℕ) → (E || not (last == 0)) ≡ not (max (one_reader index E) last == 0)
+reads_step index true last = grind (arith, nat_tests)
+reads_step index false last = grind (arith, nat_tests)
 
--- where the iteration writes, it comes before all readers that come
-harmed_by_this : (index own last : ℕ) → own ≤ index + 1 → (last ≡ 0) ⊎ (index + 1 + 1 ≤ last) →
-    not (last == 0) ≡ (not (max own last == 0) && nat_lt index (max own last - 1))
-harmed_by_this index own last small (inl h) = grind (arith, nat_tests)
-harmed_by_this index own last small (inr h) = grind (arith, nat_tests)
-
--- and its own look changes nothing for the writers that come
-harmed_later : (index first own last : ℕ) → own ≤ index + 1 → index + 1 ≤ first → (last ≡ 0) ⊎ (index + 1 + 1 ≤ last) →
-    (not (last == 0) && nat_lt first (last - 1)) ≡ (not (max own last == 0) && nat_lt first (max own last - 1))
-harmed_later index first own last small later (inl h) = grind (arith, nat_tests)
-harmed_later index first own last small later (inr h) = grind (arith, nat_tests)
-
-covered : (reads harmed late : Bool) → harmed ≡ (reads && late) → (reads || harmed) ≡ reads
-covered true harmed late h = refl
-covered false harmed late h = h
-
-flow_step : (index : ℕ) (W E : Bool) (first : Option ℕ) (last : ℕ) (reads harmed : Bool)
-    → FlowFacts (index + 1) first last reads harmed →
-    FlowFacts index (lesser (if W then Some index else None) first) (max (one_reader index E) last) (E || reads)
-    ((W && reads) || harmed)
-flow_step index true E None last reads harmed facts = record {
-  late_first = omega arith;
-  late_last = last_step index E last facts.late_last;
-  reads_is = reads_step index E last reads facts.reads_is;
-  harm_is = rw (facts.harm_is, or-false) (facts.reads_is ∙ harmed_by_this index (one_reader index E) last
-      (reader_small index E) facts.late_last);
-}
-flow_step index true E (Some first) last reads harmed facts = record {
-  late_first = (let h = facts.late_first in omega arith);
-  late_last = last_step index E last facts.late_last;
-  reads_is = reads_step index E last reads facts.reads_is;
-  harm_is =
-      let least : min index first ≡ index = (let h = facts.late_first in omega arith) in
-      rw least (covered reads harmed (nat_lt first (last - 1)) (facts.harm_is ∙ ap (λ b. b && nat_lt first (last - 1))
-      (sym facts.reads_is))
-      ∙ facts.reads_is ∙ harmed_by_this index (one_reader index E) last (reader_small index E) facts.late_last);
-}
-flow_step index false E None last reads harmed facts = record {
-  late_first = tt;
-  late_last = last_step index E last facts.late_last;
-  reads_is = reads_step index E last reads facts.reads_is;
-  harm_is = facts.harm_is;
-}
-flow_step index false E (Some first) last reads harmed facts = record {
-  late_first = (let h = facts.late_first in omega arith);
-  late_last = last_step index E last facts.late_last;
-  reads_is = reads_step index E last reads facts.reads_is;
-  harm_is = facts.harm_is ∙ harmed_later index first (one_reader index E) last (reader_small index E) facts.late_first
-      facts.late_last;
-}
+-- where the iteration writes, it comes before all readers that come; its own look changes nothing for the writers
+harm_step : (index : ℕ) (W E : Bool) (first : Option ℕ) (last : ℕ) → FromIndex (index + 1) first
+    → (last ≡ 0) ⊎ (index + 1 + 1 ≤ last) → ((W && not (last == 0)) || stands_before first last)
+    ≡ stands_before (lesser (if W then Some index else None) first) (max (one_reader index E) last)
+harm_step index true true None last late later = grind (arith, nat_tests)
+harm_step index true false None last late later = grind (arith, nat_tests)
+harm_step index true true (Some first) last late later = grind (arith, nat_tests)
+harm_step index true false (Some first) last late later = grind (arith, nat_tests)
+harm_step index false E None last late later = refl
+harm_step index false true (Some first) last late later = grind (arith, nat_tests)
+harm_step index false false (Some first) last late later = let e : max 0 last ≡ last = omega arith in rw e refl
 
 flow_facts : (index : ℕ) (its : List (List Action)) →
     FlowFacts index (first_writer (numbered index its)) (last_reader (numbered index its)) (list_any exposed its)
     (fails_flow its)
 flow_facts index [] = record { late_first = tt; late_last = inl refl; reads_is = refl; harm_is = refl }
 flow_facts index (it ∷ its) =
-    flow_step index (writes it) (exposed it) (first_writer (numbered (index + 1) its))
-    (last_reader (numbered (index + 1) its)) (list_any exposed its) (fails_flow its)
-    (flow_facts (index + 1) its)
+    let rest = flow_facts (index + 1) its in
+    record {
+      late_first = late_step index (writes it) _ rest.late_first;
+      late_last = last_step index (exposed it) _ rest.late_last;
+      reads_is = rw rest.reads_is (reads_step index (exposed it) _);
+      harm_is = rw (rest.reads_is, rest.harm_is) (harm_step index (writes it) (exposed it) _ _ rest.late_first
+          rest.late_last);
+    }
 
 fails_marked : (test : Test) (index : ℕ) (its : List (List Action)) → fails test its ≡ marked_fails test
     (marks_of (numbered index its))
-fails_marked Lrpd index its =
-    clash_marked its
-    ∙ ap (λ (all : List (List Action)). (read_only all && written all) || (read_and_written all && two_write all))
-    (sym (numbered_actions index its))
+fails_marked Lrpd index its = simp numbered_actions ((clash_facts its).clashes)
 fails_marked Flow index its = (flow_facts index its).harm_is
 
 conflict : (test : Test) (index : ℕ) (its : List (List Action)) → conflicts test its ≡ marked_conflict test
@@ -236,10 +168,6 @@ first_is_number = record { before = first_before; lesser_is = first_lesser }
 one_writes_once : (b : Bool) → ((b && false) || false) ≡ false
 one_writes_once true = refl
 one_writes_once false = refl
-
-lesser_none : (o : Option ℕ) → lesser o None ≡ o
-lesser_none None = refl
-lesser_none (Some n) = refl
 
 one : (visit : Visit) → marks_of (visit ∷ []) ≡ marks_of_one visit.index (flags_of visit.actions)
 one visit = same_marks _ _ (record {
@@ -275,18 +203,6 @@ actions_of-append xs ys = map-append (λ (visit : Visit). visit.actions) xs ys
 any-actions : (p : List Action → Bool) (xs ys : List Visit) →
     list_any p (actions_of (xs ++ ys)) ≡ (list_any p (actions_of xs) || list_any p (actions_of ys))
 any-actions p xs ys = ap (list_any p) (actions_of-append xs ys) ∙ list_any-append p (actions_of xs) (actions_of ys)
-
-lesser_assoc : (a b c : Option ℕ) → lesser (lesser a b) c ≡ lesser a (lesser b c)
-lesser_assoc None b c = refl
-lesser_assoc (Some a) None c = refl
-lesser_assoc (Some a) (Some b) None = refl
-lesser_assoc (Some a) (Some b) (Some c) = ap Some (let e : min (min a b) c ≡ min a (min b c) = omega arith in e)
-
-lesser_comm : (a b : Option ℕ) → lesser a b ≡ lesser b a
-lesser_comm None None = refl
-lesser_comm None (Some b) = refl
-lesser_comm (Some a) None = refl
-lesser_comm (Some a) (Some b) = ap Some (let e : min a b ≡ min b a = omega arith in e)
 
 first-append : (xs ys : List Visit) → first_writer (xs ++ ys) ≡ lesser (first_writer xs) (first_writer ys)
 first-append [] ys = refl

@@ -19,28 +19,19 @@ numbers blocks = map (λ (b : Block). b.number) blocks
 none_times : (k : ℕ) (blocks : List Block) → times k (numbers blocks) ≡ 0
     → list_any (λ (other : Block). other.number == k) blocks ≡ false
 none_times k [] h = refl
-none_times k (b ∷ blocks) h = go (cases_Bool (b.number == k)) (λ none. none_times k blocks none)
-  where
-    go : ((b.number == k) ≡ true) ⊎ ((b.number == k) ≡ false) → (times k (numbers blocks) ≡ 0
-        → list_any (λ (other : Block). other.number == k) blocks ≡ false) →
-        list_any (λ (other : Block). other.number == k) (b ∷ blocks) ≡ false
-    go (inl here) later = absurd (let one : bit (b.number == k) ≡ 1 = ap bit here in omega arith)
-    go (inr other) later =
-        or_from (b.number == k) (list_any (λ (other : Block). other.number == k) blocks) other
-        (later (let none : bit (b.number == k) ≡ 0 = ap bit other in omega arith))
+none_times k (b ∷ blocks) h = elim (cases_Bool (b.number == k)) [
+  | inl here ↦ absurd (let one : bit (b.number == k) ≡ 1 = ap bit here in omega arith)
+  | inr other ↦ or_from (b.number == k) (list_any (λ (other : Block). other.number == k) blocks) other
+      (none_times k blocks (let none : bit (b.number == k) ≡ 0 = ap bit other in omega arith))
+]
 
 pub some_times : (k : ℕ) (blocks : List Block) → 0 < times k (numbers blocks) → is_none (block_numbered k blocks)
     ≡ false
 some_times k [] h = absurd (omega arith)
-some_times k (b ∷ blocks) h = go (cases_Bool (b.number == k)) (λ some. some_times k blocks some)
-  where
-    go : ((b.number == k) ≡ true) ⊎ ((b.number == k) ≡ false) → (0 < times k (numbers blocks)
-        → is_none (block_numbered k blocks) ≡ false) →
-        is_none (block_numbered k (b ∷ blocks)) ≡ false
-    go (inl here) later = ap (λ (c : Bool). is_none (cond c (Some b) (block_numbered k blocks))) here
-    go (inr other) later =
-        ap (λ (c : Bool). is_none (cond c (Some b) (block_numbered k blocks))) other
-        ∙ later (let none : bit (b.number == k) ≡ 0 = ap bit other in omega arith)
+some_times k (b ∷ blocks) h = elim (cases_Bool (b.number == k)) [
+  | inl here ↦ rw here refl
+  | inr other ↦ rw other (some_times k blocks (let none : bit (b.number == k) ≡ 0 = ap bit other in omega arith))
+]
 
 -- no number appears twice
 pub once_each : (blocks : List Block) → ((k : ℕ) → times k (numbers blocks) ≤ 1) → twice blocks ≡ false
@@ -68,20 +59,14 @@ none_lacks_from : (least : Option ℕ) (blocks : List Block) (number first : ℕ
 none_lacks_from least blocks number first [] each = refl
 none_lacks_from least blocks number first (past ∷ bounds) each =
     or_from (not (starts_late least first) && is_none (block_numbered number blocks))
-    (lacks_block least blocks (number + 1) past bounds) (go (each 0 (omega arith)))
+    (lacks_block least blocks (number + 1) past bounds) (elim (each 0 (omega arith)) [
+      | inl there ↦
+          let same : number + 0 ≡ number = omega arith in
+          and_right (not (starts_late least first)) _ (rw same at there)
+      | inr late ↦ and_left (not (starts_late least first)) _ (not_from_true (starts_late least first) late)
+    ])
     (none_lacks_from least blocks (number + 1) past bounds (λ j h.
-    let same : number + suc j ≡ number + 1 + j = omega arith in
-    subst (λ (k : ℕ). (is_none (block_numbered k blocks) ≡ false) ⊎ (starts_late least (slice_index (past ∷ bounds) j)
-    ≡ true)) same (each (suc j) (omega arith))))
-  where
-    go : (is_none (block_numbered (number + 0) blocks) ≡ false) ⊎ (starts_late least first ≡ true)
-        → (not (starts_late least first) && is_none (block_numbered number blocks)) ≡ false
-    go (inl there) =
-        let same : number + 0 ≡ number = omega arith in
-        and_right (not (starts_late least first)) (is_none (block_numbered number blocks))
-        (subst (λ (k : ℕ). is_none (block_numbered k blocks) ≡ false) same there)
-    go (inr late) = and_left (not (starts_late least first)) (is_none (block_numbered number blocks))
-        (not_from_true (starts_late least first) late)
+    (let same : number + suc j ≡ number + 1 + j = omega arith in rw same at (each (suc j) (omega arith)))))
 
 pub none_lacks : (bounds : List ℕ) (blocks : List Block) →
     ((k : ℕ) → k < blocks_of bounds → (is_none (block_numbered k blocks) ≡ false) ⊎ (starts_late (least_of blocks)
@@ -89,9 +74,9 @@ pub none_lacks : (bounds : List ℕ) (blocks : List Block) →
 none_lacks [] blocks each = refl
 none_lacks (first ∷ bounds) blocks each =
     none_lacks_from (least_of blocks) blocks 0 first bounds (λ j h.
-    let same : j ≡ 0 + j = omega arith in
+    (let same : j ≡ 0 + j = omega arith in
     subst (λ (k : ℕ). (is_none (block_numbered k blocks) ≡ false) ⊎ (starts_late (least_of blocks)
-    (slice_index (first ∷ bounds) j) ≡ true)) same (each j (omega arith)))
+    (slice_index (first ∷ bounds) j) ≡ true)) same (each j (omega arith))))
 
 -- a bound that is there
 bound_is : (bounds : List ℕ) (k x : ℕ) → is_bound (slice_get bounds k) x ≡ true → slice_index bounds k ≡ x

@@ -18,8 +18,9 @@ use Rattle.loop_core_model.specs.Schedule.{ScheduleState, at_first, worker_of, i
 use Rattle.loop_core_model.specs.Schedule.{after_events, is_stopped, has_ended, if_ended}
 use Rattle.loop_core_model.specs.ScheduleLaw.{AreRun, Complete, EndedSchedulesComplete}
 use Rattle.loop_core_model.proofs.RunBlocks.{none_lacks, once_each, some_times, none_foreign, least_is_least}
+use Rattle.loop_core_model.proofs.Least.{lesser_swap, lesser_none}
 use Rattle.loop_core_model.proofs.Totals.{total, others, one_and_others, changed, none_of_all}
-use Rattle.loop_core_model.proofs.Steps.{holds, times, to_post, least_break_of, lesser_swap, lesser_none, Fits}
+use Rattle.loop_core_model.proofs.Steps.{holds, times, to_post, least_break_of, Fits}
 use Rattle.loop_core_model.proofs.Steps.{CountsTo, Kept, KeptIfEnabled, event_keeps}
 use Rattle.loop_core_model.specs.declared.replay_fault.ReplayFault.TheVariants as faults
 
@@ -54,7 +55,11 @@ module _ (breaks : ℕ → Bool) (bounds : List ℕ) (rises : falls 0 bounds ≡
   sound_after state number new after sound below kept = record {
     sixteen = length-set state.workers number new ∙ sound.sixteen;
     within = kept.within;
-    fits = λ w. fits_each w (cases_eq w number);
+    fits = λ w. elim (cases_eq w number) [
+      | inl same ↦ rw (same, get_or-set_same state.workers number new Idle there) kept.fits
+      | inr other ↦ rw (get_or-set_other state.workers number w new Idle other) (kept.fit_on (worker_of state w)
+          (sound.fits w))
+    ];
     counts = λ k.
         subst (λ (t : ℕ). CountsTo bounds after.next after.least k (times k after.runs + t))
         (sym (changed ℕ (λ a b. a + b) 0 (holds k) add_swap state.workers number new there))
@@ -71,17 +76,6 @@ module _ (breaks : ℕ → Bool) (bounds : List ℕ) (rises : falls 0 bounds ≡
     where
       there : number < length state.workers
       there = let n = sound.sixteen in omega arith
-
-      fits_each : (w : ℕ) → (w ≡ number) ⊎ (w ≡ number → ⊥)
-          → Fits breaks bounds after.next (slice_index_or (slice_set state.workers number new) w Idle)
-      fits_each w (inl same) =
-          subst (λ (v : Worker). Fits breaks bounds after.next v)
-          (sym (ap (λ (i : ℕ). slice_index_or (slice_set state.workers number new) i Idle) same
-          ∙ get_or-set_same state.workers number new Idle there)) kept.fits
-      fits_each w (inr other) =
-          subst (λ (v : Worker). Fits breaks bounds after.next v)
-          (sym (get_or-set_other state.workers number w new Idle other)) (kept.fit_on (worker_of state w)
-          (sound.fits w))
 
   -- after an event: what is known of the state, and that no other worker did anything
   abbrev pub OneOk : ℕ → ScheduleState → Result ScheduleState ReplayFault → Type 0
@@ -163,29 +157,16 @@ module _ (breaks : ℕ → Bool) (bounds : List ℕ) (rises : falls 0 bounds ≡
   }
 
 -- a worker that neither has a block nor a break
-abbrev is_quiet : Worker → Bool
-is_quiet Idle = true
-is_quiet (Holding block) = false
-is_quiet (Running block index) = false
-is_quiet (Posting index) = false
-is_quiet Drained = true
-is_quiet Stopped = true
+pub record IsQuiet (w : Worker) : Type 0 where
+  pub holds_none : (k : ℕ) → holds k w ≡ 0
+  pub posts_none : to_post w ≡ None
 
-stopped_quiet : (w : Worker) → is_stopped w ≡ true → is_quiet w ≡ true
-stopped_quiet Stopped h = refl
+idle_quiet : IsQuiet Idle
+idle_quiet = record { holds_none = λ k. refl; posts_none = refl }
+
+stopped_quiet : (w : Worker) → is_stopped w ≡ true → IsQuiet w
+stopped_quiet Stopped h = record { holds_none = λ k. refl; posts_none = refl }
 stopped_quiet w h = absurd (cc)
-
-quiet_holds : (k : ℕ) (w : Worker) → is_quiet w ≡ true → holds k w ≡ 0
-quiet_holds k Idle h = refl
-quiet_holds k Drained h = refl
-quiet_holds k Stopped h = refl
-quiet_holds k w h = absurd (cc)
-
-quiet_posts : (w : Worker) → is_quiet w ≡ true → to_post w ≡ None
-quiet_posts Idle h = refl
-quiet_posts Drained h = refl
-quiet_posts Stopped h = refl
-quiet_posts w h = absurd (cc)
 
 -- a worker that stopped found no block left
 stopped_fits : (breaks : ℕ → Bool) (bounds : List ℕ) (next : ℕ) (w : Worker) → is_stopped w ≡ true
@@ -201,13 +182,10 @@ named_stopped state [] all w h = absurd (cc)
 named_stopped state (e ∷ events) all w h =
     let parts = and_parts (is_stopped (worker_of state e.worker))
     (list_all (λ (e : Event). is_stopped (worker_of state e.worker)) events) all in
-    go parts.0 (named_stopped state events parts.1 w) (or_cases (e.worker == w) (names w events) h)
-  where
-    go : is_stopped (worker_of state e.worker) ≡ true → (names w events ≡ true → is_stopped (worker_of state w) ≡ true)
-        →
-        ((e.worker == w) ≡ true) ⊎ (names w events ≡ true) → is_stopped (worker_of state w) ≡ true
-    go here later (inl same) = subst (λ (i : ℕ). is_stopped (worker_of state i) ≡ true) (eqb-true e.worker w same) here
-    go here later (inr found) = later found
+    elim (or_cases (e.worker == w) (names w events) h) [
+      | inl same ↦ subst (λ (i : ℕ). is_stopped (worker_of state i) ≡ true) (eqb-true e.worker w same) parts.0
+      | inr found ↦ named_stopped state events parts.1 w found
+    ]
 
 first_stopped : (state : ScheduleState) (events : List Event) → nat_lt 0 (length events) ≡ true
     → list_all (λ (e : Event). is_stopped (worker_of state e.worker)) events ≡ true →
@@ -219,68 +197,51 @@ first_stopped state (e ∷ events) some all = (
       (list_all (λ (e : Event). is_stopped (worker_of state e.worker)) events) all).0,
 )
 
--- the fault by three tests
-abbrev fault_by : (missing double foreign : Bool) → Option GatherFault
-fault_by missing double foreign = if missing then Some Missing else if double then Some Twice else if foreign
-    then Some Foreign else None
-
 pub no_fault : (bounds : List ℕ) (blocks : List Block) → lacks_some bounds blocks ≡ false → twice blocks ≡ false
     → list_any (λ (b : Block). not (stands_in bounds b)) blocks ≡ false →
     gather_fault bounds blocks ≡ None
-no_fault bounds blocks m t f =
-    ap (λ (b : Bool). fault_by b (twice blocks) (list_any (λ (c : Block). not (stands_in bounds c)) blocks)) m
-    ∙ (ap (λ (b : Bool). fault_by false b (list_any (λ (c : Block). not (stands_in bounds c)) blocks)) t
-    ∙ ap (λ (b : Bool). fault_by false false b) f)
+no_fault bounds blocks m t f = rw (m, t, f) refl
 
--- what is known at the end
-module _ (breaks : ℕ → Bool) (bounds : List ℕ) (rises : falls 0 bounds ≡ false) (events : List Event)
-    (state : ScheduleState) (sound : Sound breaks bounds state)
-    (apart : (w : ℕ) → names w events ≡ false → worker_of state w ≡ worker_of at_first w)
-    (some : nat_lt 0 (length events) ≡ true)
-    (all : list_all (λ (e : Event). is_stopped (worker_of state e.worker)) events ≡ true) where
-  quiet : (w : ℕ) → is_quiet (worker_of state w) ≡ true
-  quiet w = go (cases_Bool (names w events))
-    where
-      go : (names w events ≡ true) ⊎ (names w events ≡ false) → is_quiet (worker_of state w) ≡ true
-      go (inl named) = stopped_quiet (worker_of state w) (named_stopped state events all w named)
-      go (inr other) = ap is_quiet (apart w other ∙ idle_at breaks bounds rises 16 w)
-
-  none_held : (k : ℕ) → held k state.workers ≡ 0
-  none_held k = none_of_all ℕ (λ a b. a + b) 0 (holds k) (λ a. omega arith) state.workers
-      (λ i h. quiet_holds k (worker_of state i) (quiet i))
-
-  none_unposted : unposted state.workers ≡ None
-  none_unposted = none_of_all (Option ℕ) lesser None to_post (λ a. refl) state.workers
-      (λ i h. quiet_posts (worker_of state i) (quiet i))
-
-  all_taken : state.shared.next ≡ blocks_of bounds
-  all_taken = let one = first_stopped state events some all in stopped_fits breaks bounds state.shared.next
-      (worker_of state one.0) one.1 (sound.fits one.0)
-
-  least_is : state.shared.least ≡ least_break_of breaks bounds state.shared.runs
-  least_is = sym (sound.least ∙ (ap (lesser state.shared.least) none_unposted ∙ lesser_none state.shared.least))
-
-  pub once : (k : ℕ) → times k state.shared.runs ≤ 1
-  once k = let most = (sound.counts k).once in omega arith
-
-  -- a block of the split was run, or may be skipped
-  pub run_or_late : (k : ℕ) → k < blocks_of bounds → (0 < times k state.shared.runs) ⊎ (starts_late state.shared.least
-      (start_of bounds k) ≡ true)
-  run_or_late k below = go ((sound.counts k).taken (let t = all_taken in omega arith))
-    where
-      go : (times k state.shared.runs + held k state.workers ≡ 1) ⊎ (starts_late state.shared.least (start_of bounds k)
-          ≡ true) →
-          (0 < times k state.shared.runs) ⊎ (starts_late state.shared.least (start_of bounds k) ≡ true)
-      go (inl one) = let none = none_held k in inl (omega arith)
-      go (inr late) = inr late
-
--- of blocks that have those numbers
+-- what is known at the end: each block was taken, and run once, or may be skipped
 pub record AtEnd (breaks : ℕ → Bool) (bounds : List ℕ) (shared : Shared) : Type 0 where
   pub taken : shared.next ≡ blocks_of bounds
   pub once : (k : ℕ) → times k shared.runs ≤ 1
   pub run_or_late : (k : ℕ) → k < blocks_of bounds
       → (0 < times k shared.runs) ⊎ (starts_late shared.least (start_of bounds k) ≡ true)
   pub least : shared.least ≡ least_break_of breaks bounds shared.runs
+
+module _ (breaks : ℕ → Bool) (bounds : List ℕ) (rises : falls 0 bounds ≡ false) (events : List Event)
+    (state : ScheduleState) (sound : Sound breaks bounds state)
+    (apart : (w : ℕ) → names w events ≡ false → worker_of state w ≡ worker_of at_first w)
+    (some : nat_lt 0 (length events) ≡ true)
+    (all : list_all (λ (e : Event). is_stopped (worker_of state e.worker)) events ≡ true) where
+  quiet : (w : ℕ) → IsQuiet (worker_of state w)
+  quiet w = elim (cases_Bool (names w events)) [
+    | inl named ↦ stopped_quiet (worker_of state w) (named_stopped state events all w named)
+    | inr other ↦ rw (apart w other, idle_at breaks bounds rises 16 w) idle_quiet
+  ]
+
+  none_held : (k : ℕ) → held k state.workers ≡ 0
+  none_held k = none_of_all ℕ (λ a b. a + b) 0 (holds k) (λ a. omega arith) state.workers
+      (λ i h. (quiet i).holds_none k)
+
+  none_unposted : unposted state.workers ≡ None
+  none_unposted = none_of_all (Option ℕ) lesser None to_post (λ a. refl) state.workers (λ i h. (quiet i).posts_none)
+
+  all_taken : state.shared.next ≡ blocks_of bounds
+  all_taken = let one = first_stopped state events some all in stopped_fits breaks bounds state.shared.next
+      (worker_of state one.0) one.1 (sound.fits one.0)
+
+  pub at_end : AtEnd breaks bounds state.shared
+  at_end = record {
+    taken = all_taken;
+    once = λ k. (let most = (sound.counts k).once in omega arith);
+    run_or_late = λ k below. elim ((sound.counts k).taken (let t = all_taken in omega arith)) [
+      | inl one ↦ (let none = none_held k in inl (omega arith))
+      | inr late ↦ inr late
+    ];
+    least = sym (sound.least ∙ (ap (lesser state.shared.least) none_unposted ∙ lesser_none state.shared.least));
+  }
 
 ended_by : (breaks : ℕ → Bool) (bounds : List ℕ) (rises : falls 0 bounds ≡ false) (events : List Event)
     (state : ScheduleState)
@@ -296,12 +257,8 @@ ended_by breaks bounds rises events state (Ok last) ok h = go (has_ended events 
         let parts = and_parts (nat_lt 0 (length events)) (list_all (λ (e : Event). is_stopped (worker_of last e.worker))
         events) e in
         let same : last ≡ state = cc in
-        subst (λ (s : ScheduleState). AtEnd breaks bounds s.shared) same (record {
-          taken = all_taken breaks bounds rises events last ok.0 ok.1 parts.0 parts.1;
-          once = once breaks bounds rises events last ok.0 ok.1 parts.0 parts.1;
-          run_or_late = run_or_late breaks bounds rises events last ok.0 ok.1 parts.0 parts.1;
-          least = least_is breaks bounds rises events last ok.0 ok.1 parts.0 parts.1;
-        })
+        subst (λ (s : ScheduleState). AtEnd breaks bounds s.shared) same
+        (at_end breaks bounds rises events last ok.0 ok.1 parts.0 parts.1)
     go false e h = absurd (cc)
 
 module _ (program : Program) (bound : ℕ) (call : LoopCall) (words : List ℕ) (bounds : List ℕ) (shared : Shared)
@@ -319,14 +276,12 @@ module _ (program : Program) (bound : ℕ) (call : LoopCall) (words : List ℕ) 
   gathers : gather_fault bounds blocks ≡ None
   gathers =
       no_fault bounds blocks
-      (none_lacks bounds blocks (λ k below. go k (end.run_or_late k below)))
+      (none_lacks bounds blocks (λ k below. elim (end.run_or_late k below) [
+        | inl some ↦ inl (some_times k blocks (let same = same_times k in omega arith))
+        | inr late ↦ inr (rw least_same at late)
+      ]))
       (once_each blocks (λ k. (let most = end.once k in let same = same_times k in omega arith)))
       (none_foreign bounds blocks are.stand)
-    where
-      go : (k : ℕ) → (0 < times k shared.runs) ⊎ (starts_late shared.least (start_of bounds k) ≡ true) →
-          (is_none (block_numbered k blocks) ≡ false) ⊎ (starts_late (least_of blocks) (start_of bounds k) ≡ true)
-      go k (inl some) = inl (some_times k blocks (let same = same_times k in omega arith))
-      go k (inr late) = inr (subst (λ (o : Option ℕ). starts_late o (start_of bounds k) ≡ true) least_same late)
 
   complete : Complete program bound call words bounds shared blocks
   complete = record {

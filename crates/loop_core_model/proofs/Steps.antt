@@ -7,7 +7,8 @@ use Rattle.loop_core_model.{specs.{LeastBreak.{lesser}, Split.{falls}, Gather.{s
 use Rattle.loop_core_model.specs.declared.event.EventKind.{EventKind, TheVariants.{Claim, Look, Turn, Post, Stop}}
 use Rattle.loop_core_model.specs.Intervals.{blocks_of, start_of, end_of}
 use Rattle.loop_core_model.specs.Events.{Worker, Idle, Holding, Running, Posting, Drained, Stopped, Shared, Moved}
-use Rattle.loop_core_model.specs.Events.{becomes, having_run, posts, transition}
+use Rattle.loop_core_model.specs.Events.{becomes, having_run, claims, looks, iterates, posts, transition}
+use Rattle.loop_core_model.proofs.Least.{lesser_swap, lesser_assoc}
 
 abbrev pub bit : Bool → ℕ
 bit true = 1
@@ -49,29 +50,10 @@ to_post Drained = None
 to_post Stopped = None
 
 pub bit_cases : (a b : ℕ) → ((a ≡ b) × (bit (a == b) ≡ 1)) ⊎ ((a ≡ b → ⊥) × (bit (a == b) ≡ 0))
-bit_cases a b = go (cases_eq a b)
-  where
-    go : (a ≡ b) ⊎ (a ≡ b → ⊥) → ((a ≡ b) × (bit (a == b) ≡ 1)) ⊎ ((a ≡ b → ⊥) × (bit (a == b) ≡ 0))
-    go (inl same) = inl (same, ap bit (eq-eqb a b same))
-    go (inr other) = inr (other, ap bit (ne_eqb a b other))
-
--- the lesser of several
-pub lesser_swap : (a b c : Option ℕ) → lesser a (lesser b c) ≡ lesser b (lesser a c)
-lesser_swap None b c = refl
-lesser_swap (Some x) None c = refl
-lesser_swap (Some x) (Some y) None = ap (λ (z : ℕ). Some z) (min_comm x y)
-lesser_swap (Some x) (Some y) (Some z) = ap (λ (w : ℕ). Some w) (omega arith)
-
-pub lesser_of_three : (a b c : Option ℕ) → lesser a (lesser b c) ≡ lesser (lesser b a) c
-lesser_of_three None None c = refl
-lesser_of_three None (Some y) c = refl
-lesser_of_three (Some x) None c = refl
-lesser_of_three (Some x) (Some y) None = ap (λ (z : ℕ). Some z) (min_comm x y)
-lesser_of_three (Some x) (Some y) (Some z) = ap (λ (w : ℕ). Some w) (omega arith)
-
-pub lesser_none : (a : Option ℕ) → lesser a None ≡ a
-lesser_none None = refl
-lesser_none (Some x) = refl
+bit_cases a b = elim (cases_eq a b) [
+  | inl same ↦ inl (same, ap bit (eq-eqb a b same))
+  | inr other ↦ inr (other, ap bit (ne_eqb a b other))
+]
 
 late_lesser : (start index : ℕ) (least : Option ℕ) → starts_late least start ≡ true
     → starts_late (lesser (Some index) least) start ≡ true
@@ -143,57 +125,51 @@ module _ (breaks : ℕ → Bool) (bounds : List ℕ) (rises : falls 0 bounds ≡
   -- a block more is taken
   taken_one : (next : ℕ) (least : Option ℕ) (k t rest : ℕ) → CountsTo bounds next least k (t + (0 + rest))
       → CountsTo bounds (next + 1) least k (t + (bit (next == k) + rest))
-  taken_one next least k t rest c = go (bit_cases next k)
-    where
-      go : ((next ≡ k) × (bit (next == k) ≡ 1)) ⊎ ((next ≡ k → ⊥) × (bit (next == k) ≡ 0))
-          → CountsTo bounds (next + 1) least k (t + (bit (next == k) + rest))
-      go (inl this) =
-          let same = this.0 in
-          let one = this.1 in
-          let none : t + (0 + rest) ≡ 0 = c.not_taken (omega arith) in
-          record { once = omega arith; not_taken = λ h. absurd (omega arith); taken = λ h. inl (omega arith) }
-      go (inr other) =
-          let apart = other.0 in
-          let none = other.1 in
-          let same : t + (0 + rest) ≡ t + (bit (next == k) + rest) = omega arith in
-          recount bounds (next + 1) least k _ _ same
-          (record { once = c.once; not_taken = λ h. c.not_taken (omega arith); taken = λ h. c.taken (omega arith) })
+  taken_one next least k t rest c = elim (bit_cases next k) [
+    | inl this ↦
+        let same = this.0 in
+        let one = this.1 in
+        let none : t + (0 + rest) ≡ 0 = c.not_taken (omega arith) in
+        record { once = omega arith; not_taken = λ h. absurd (omega arith); taken = λ h. inl (omega arith) }
+    | inr other ↦
+        let apart = other.0 in
+        let none = other.1 in
+        let same : t + (0 + rest) ≡ t + (bit (next == k) + rest) = omega arith in
+        recount bounds (next + 1) least k _ _ same
+        (record { once = c.once; not_taken = λ h. c.not_taken (omega arith); taken = λ h. c.taken (omega arith) })
+  ]
 
-  claimed : (shared : Shared) → shared.next ≤ blocks_of bounds → (below : Bool) → nat_lt shared.next (blocks_of bounds)
-      ≡ below →
-      KeptBy breaks bounds Idle shared
-      (if below then becomes (Holding shared.next) (record {
-        next = shared.next + 1;
-        least = shared.least;
-        runs = shared.runs;
-      }) else becomes Drained shared)
-  claimed shared within true e =
-      let below : shared.next < blocks_of bounds = ltb-true shared.next (blocks_of bounds) e in record {
+  -- by a test, one or the other
+  by_test : (old : Worker) (shared : Shared) (b : Bool) (x y : Moved) → (b ≡ true → KeptBy breaks bounds old shared x)
+      → (b ≡ false → KeptBy breaks bounds old shared y) → KeptBy breaks bounds old shared (if b then x else y)
+  by_test old shared true x y one other = one refl
+  by_test old shared false x y one other = other refl
+
+  claimed : (shared : Shared) → shared.next ≤ blocks_of bounds → KeptBy breaks bounds Idle shared (claims bounds shared)
+  claimed shared within = by_test Idle shared (nat_lt shared.next (blocks_of bounds)) _ _
+      (λ e. (let below : shared.next < blocks_of bounds = ltb-true shared.next (blocks_of bounds) e in record {
         within = omega arith;
         fits = below;
         fit_on = fit_next shared.next below;
         counts = λ k rest c. taken_one shared.next shared.least k (times k shared.runs) rest c;
         least = λ rest h. h;
-      }
-  claimed shared within false e =
-      let above : blocks_of bounds ≤ shared.next = ltb-false shared.next (blocks_of bounds) e in
-      stays Idle Drained shared within (omega arith) (λ k. refl) refl
+      }))
+      (λ e. (let above : blocks_of bounds ≤ shared.next = ltb-false shared.next (blocks_of bounds) e in
+      stays Idle Drained shared within (omega arith) (λ k. refl) refl))
 
   -- a block is skipped
   skipped_one : (next : ℕ) (least : Option ℕ) (block k t rest : ℕ) → starts_late least (start_of bounds block) ≡ true →
       CountsTo bounds next least k (t + (bit (block == k) + rest)) → CountsTo bounds next least k (t + (0 + rest))
-  skipped_one next least block k t rest past c = go (bit_cases block k)
-    where
-      go : ((block ≡ k) × (bit (block == k) ≡ 1)) ⊎ ((block ≡ k → ⊥) × (bit (block == k) ≡ 0))
-          → CountsTo bounds next least k (t + (0 + rest))
-      go (inl this) =
-          let one = this.1 in
-          let most = c.once in record {
-            once = omega arith;
-            not_taken = λ h. (let none = c.not_taken h in omega arith);
-            taken = λ h. inr (subst (λ (i : ℕ). starts_late least (start_of bounds i) ≡ true) this.0 past);
-          }
-      go (inr other) = let none = other.1 in recount bounds next least k _ _ (omega arith) c
+  skipped_one next least block k t rest past c = elim (bit_cases block k) [
+    | inl this ↦
+        let one = this.1 in
+        let most = c.once in record {
+          once = omega arith;
+          not_taken = λ h. (let none = c.not_taken h in omega arith);
+          taken = λ h. inr (subst (λ (i : ℕ). starts_late least (start_of bounds i) ≡ true) this.0 past);
+        }
+    | inr other ↦ (let none = other.1 in recount bounds next least k _ _ (omega arith) c)
+  ]
 
   -- a block is run to its end, or to a break
   has_run : (old new : Worker) (shared : Shared) (block : ℕ) → shared.next ≤ blocks_of bounds
@@ -213,42 +189,24 @@ module _ (breaks : ℕ → Bool) (bounds : List ℕ) (rises : falls 0 bounds ≡
         ∙ ap (λ (o : Option ℕ). lesser shared.least (lesser o rest)) (sym post));
   }
 
-  empty_break : (block : ℕ) → start_of bounds block ≡ end_of bounds block → None ≡ break_of breaks bounds block
-  empty_break block same =
+  looked : (shared : Shared) (block : ℕ) → shared.next ≤ blocks_of bounds → block < blocks_of bounds
+      → KeptBy breaks bounds (Holding block) shared (looks bounds block shared)
+  looked shared block within below = by_test (Holding block) shared (starts_late shared.least (start_of bounds block)) _ _
+      (λ late. record {
+        within = within;
+        fits = tt;
+        fit_on = λ w h. h;
+        counts = λ k rest c. skipped_one shared.next shared.least block k (times k shared.runs) rest late c;
+        least = λ rest h. h;
+      })
+      (λ on_time. by_test (Holding block) shared (start_of bounds block == end_of bounds block) _ _
+      (λ e. (let same = eqb-true (start_of bounds block) (end_of bounds block) e in
       let none : end_of bounds block - start_of bounds block ≡ 0 = omega arith in
-      sym (ap (λ (left : ℕ). first_break breaks left (start_of bounds block)) none)
-
-  looked_in : (shared : Shared) (block : ℕ) → shared.next ≤ blocks_of bounds → block < blocks_of bounds → (empty : Bool)
-      → (start_of bounds block == end_of bounds block) ≡ empty →
-      KeptBy breaks bounds (Holding block) shared (if empty then having_run block Idle shared
-      else becomes (Running block (start_of bounds block)) shared)
-  looked_in shared block within below true e =
-      has_run (Holding block) Idle shared block within tt (λ k. omega arith) refl
-      (empty_break block (eqb-true (start_of bounds block) (end_of bounds block) e))
-  looked_in shared block within below false e =
-      let apart = eqb-false (start_of bounds block) (end_of bounds block) e in
+      has_run (Holding block) Idle shared block within tt (λ k. omega arith) refl (rw none refl)))
+      (λ e. (let apart = eqb-false (start_of bounds block) (end_of bounds block) e in
       let up = rising 0 bounds rises block (block + 1) (omega arith) (omega arith) in
-      stays (Holding block) (Running block (start_of bounds block)) shared within (record {
-        within = below;
-        before_end = omega arith;
-        no_break = refl;
-      }) (λ k. refl) refl
-
-  looked : (shared : Shared) (block : ℕ) → shared.next ≤ blocks_of bounds → block < blocks_of bounds → (past : Bool)
-      → starts_late shared.least (start_of bounds block) ≡ past →
-      KeptBy breaks bounds (Holding block) shared
-      (if past then becomes Idle shared
-      else if start_of bounds block == end_of bounds block then having_run block Idle shared
-      else becomes (Running block (start_of bounds block)) shared)
-  looked shared block within below true e = record {
-    within = within;
-    fits = tt;
-    fit_on = λ w h. h;
-    counts = λ k rest c. skipped_one shared.next shared.least block k (times k shared.runs) rest e c;
-    least = λ rest h. h;
-  }
-  looked shared block within below false e =
-      looked_in shared block within below (start_of bounds block == end_of bounds block) refl
+      stays (Holding block) (Running block (start_of bounds block)) shared within
+      (record { within = below; before_end = omega arith; no_break = refl }) (λ k. refl) refl)))
 
   -- the first of the indices that are left
   first_of_left : (left index : ℕ) → 0 < left → first_break breaks left index ≡ (if breaks index then Some index
@@ -268,34 +226,21 @@ module _ (breaks : ℕ → Bool) (bounds : List ℕ) (rises : falls 0 bounds ≡
       ∙ (ap (λ (c : Bool). if c then Some index else first_break breaks (end_of bounds block - index - 1) (index + 1)) e
       ∙ ap (λ (left : ℕ). if b then Some index else first_break breaks left (index + 1)) one_less))
 
-  turned_on : (shared : Shared) (block index : ℕ) → shared.next ≤ blocks_of bounds → RunsFrom breaks bounds block index
-      → breaks index ≡ false →
-      (last : Bool) → (index + 1 == end_of bounds block) ≡ last →
-      KeptBy breaks bounds (Running block index) shared (if last then having_run block Idle shared
-      else becomes (Running block (index + 1)) shared)
-  turned_on shared block index within from going true e =
-      let same = eqb-true (index + 1) (end_of bounds block) e in
+  turned : (shared : Shared) (block index : ℕ) → shared.next ≤ blocks_of bounds → RunsFrom breaks bounds block index
+      → KeptBy breaks bounds (Running block index) shared (iterates breaks bounds block index shared)
+  turned shared block index within from = by_test (Running block index) shared (breaks index) _ _
+      (λ e. has_run (Running block index) (Posting index) shared block within tt (λ k. omega arith) refl
+      (sym (break_here block index true from e)))
+      (λ going. by_test (Running block index) shared (index + 1 == end_of bounds block) _ _
+      (λ e. (let same = eqb-true (index + 1) (end_of bounds block) e in
       let none : end_of bounds block - (index + 1) ≡ 0 = omega arith in
       has_run (Running block index) Idle shared block within tt (λ k. omega arith) refl
-      (sym (break_here block index false from going ∙ ap (λ (left : ℕ). first_break breaks left (index + 1)) none))
-  turned_on shared block index within from going false e =
-      let apart = eqb-false (index + 1) (end_of bounds block) e in
+      (sym (break_here block index false from going ∙ ap (λ (left : ℕ). first_break breaks left (index + 1)) none))))
+      (λ e. (let apart = eqb-false (index + 1) (end_of bounds block) e in
       let high = from.before_end in
       stays (Running block index) (Running block (index + 1)) shared within
       (record { within = from.within; before_end = omega arith; no_break = break_here block index false from going })
-      (λ k. refl) refl
-
-  turned : (shared : Shared) (block index : ℕ) → shared.next ≤ blocks_of bounds → RunsFrom breaks bounds block index
-      → (b : Bool) → breaks index ≡ b →
-      KeptBy breaks bounds (Running block index) shared
-      (if b then having_run block (Posting index) shared
-      else if index + 1 == end_of bounds block then having_run block Idle shared
-      else becomes (Running block (index + 1)) shared)
-  turned shared block index within from true e =
-      has_run (Running block index) (Posting index) shared block within tt (λ k. omega arith) refl
-      (sym (break_here block index true from e))
-  turned shared block index within from false e =
-      turned_on shared block index within from e (index + 1 == end_of bounds block) refl
+      (λ k. refl) refl)))
 
   posted : (shared : Shared) (index : ℕ) → shared.next ≤ blocks_of bounds → KeptBy breaks bounds (Posting index) shared
       (posts index shared)
@@ -303,14 +248,16 @@ module _ (breaks : ℕ → Bool) (bounds : List ℕ) (rises : falls 0 bounds ≡
     within = within;
     fits = tt;
     fit_on = λ w h. h;
-    counts = λ k rest c. record { once = c.once; not_taken = c.not_taken; taken = λ h. go k (c.taken h) };
-    least = λ rest h. h ∙ lesser_of_three shared.least (Some index) rest;
+    counts = λ k rest c. record {
+      once = c.once;
+      not_taken = c.not_taken;
+      taken = λ h. elim (c.taken h) [
+        | inl one ↦ inl one
+        | inr past ↦ inr (late_lesser (start_of bounds k) index shared.least past)
+      ];
+    };
+    least = λ rest h. h ∙ lesser_swap shared.least (Some index) rest ∙ sym (lesser_assoc (Some index) shared.least rest);
   }
-    where
-      go : (k : ℕ) → {count : ℕ} → (count ≡ 1) ⊎ (starts_late shared.least (start_of bounds k) ≡ true)
-          → (count ≡ 1) ⊎ (starts_late (lesser (Some index) shared.least) (start_of bounds k) ≡ true)
-      go k (inl one) = inl one
-      go k (inr past) = inr (late_lesser (start_of bounds k) index shared.least past)
 
   abbrev pub KeptIfEnabled : Worker → Shared → Option Moved → Type 0
   KeptIfEnabled old shared None = Unit {0}
@@ -319,10 +266,9 @@ module _ (breaks : ℕ → Bool) (bounds : List ℕ) (rises : falls 0 bounds ≡
   pub event_keeps : (kind : EventKind) (old : Worker) (shared : Shared) → shared.next ≤ blocks_of bounds
       → Fits breaks bounds shared.next old →
       KeptIfEnabled old shared (transition breaks bounds kind old shared)
-  event_keeps Claim Idle shared within fits = claimed shared within (nat_lt shared.next (blocks_of bounds)) refl
-  event_keeps Look (Holding block) shared within fits =
-      looked shared block within fits (starts_late shared.least (start_of bounds block)) refl
-  event_keeps Turn (Running block index) shared within fits = turned shared block index within fits (breaks index) refl
+  event_keeps Claim Idle shared within fits = claimed shared within
+  event_keeps Look (Holding block) shared within fits = looked shared block within fits
+  event_keeps Turn (Running block index) shared within fits = turned shared block index within fits
   event_keeps Post (Posting index) shared within fits = posted shared index within
   event_keeps Stop Drained shared within fits = stays Drained Stopped shared within fits (λ k. refl) refl
   event_keeps kind old shared within fits = tt
