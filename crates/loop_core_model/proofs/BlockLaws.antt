@@ -1,9 +1,46 @@
--- The scan of adjacent intervals.
-use Rattle.std.proofs.Common.{◌≡◌, zero, suc, ◌+◌, Bool, true, false, List, [], ◌∷◌, ◌++◌, refl, sym, ◌∙◌, ap, arith}
-use Rattle.std.specs.Prelude.{if◌then◌else◌, ◌==◌}
+-- Scans that end, and the scan of adjacent intervals.
+use Rattle.std.proofs.Common.{◌≡◌, ℕ, zero, suc, ◌+◌, Bool, true, false, List, [], ◌∷◌, ◌++◌, refl, sym, ◌∙◌, ap, arith}
+use Rattle.std.{specs.Prelude.{if◌then◌else◌, ◌==◌}, proofs.{Common.{inl, inr}, lemmas.Bool.{cases_Bool}}}
 use Rattle.bpf_step_model.specs.{Run.{BoundedResult, Ended, Stuck, Unfinished, mapped, followed}, Iteration.{Iterated}}
 use Rattle.loop_core_model.specs.{LeastBreak.{in_front_of}, Scan.{up_to_break, scan}}
 use Rattle.loop_core_model.specs.Block.{has_break, unless_break, ScansFollow}
+
+-- What holds of the iterations of every scan that ended: it holds of none, of one that breaks alone, and of one that
+-- doesn't in front of those after it.
+module _ (iterate : ℕ → BoundedResult Iterated) (P : (left index : ℕ) → List Iterated → Type 0)
+    (none : (index : ℕ) → P zero index [])
+    (last : (left index : ℕ) (it : Iterated) → iterate index ≡ Ended it → (it.ret == 1) ≡ true
+    → P (suc left) index (it ∷ []))
+    (more : (left index : ℕ) (it : Iterated) (its : List Iterated) → iterate index ≡ Ended it → (it.ret == 1) ≡ false
+    → P left (index + 1) its → P (suc left) index (it ∷ its)) where
+  abbrev IfEnded : (left index : ℕ) → BoundedResult (List Iterated) → Type 0
+  IfEnded left index Stuck = Unit {0}
+  IfEnded left index Unfinished = Unit {0}
+  IfEnded left index (Ended its) = P left index its
+
+  in_front : (left index : ℕ) (it : Iterated) (behind : BoundedResult (List Iterated)) → iterate index ≡ Ended it
+      → (it.ret == 1) ≡ false → IfEnded left (index + 1) behind → IfEnded (suc left) index (in_front_of behind it)
+  in_front left index it Stuck same on rest = tt
+  in_front left index it Unfinished same on rest = tt
+  in_front left index it (Ended its) same on rest = more left index it its same on rest
+
+  one_more : (left index : ℕ) (behind : BoundedResult (List Iterated)) (e : BoundedResult Iterated)
+      → iterate index ≡ e → IfEnded left (index + 1) behind
+      → IfEnded (suc left) index (followed (up_to_break behind) e)
+  one_more left index behind Stuck same rest = tt
+  one_more left index behind Unfinished same rest = tt
+  one_more left index behind (Ended it) same rest = elim (cases_Bool (it.ret == 1)) [
+    | inl one ↦ rw one (last left index it same one)
+    | inr on ↦ rw on (in_front left index it behind same on rest)
+  ]
+
+  all_scans : (left index : ℕ) → IfEnded left index (scan iterate left index)
+  all_scans zero index = none index
+  all_scans (suc left) index = one_more left index (scan iterate left (index + 1)) (iterate index) refl
+      (all_scans left (index + 1))
+
+  pub of_scan : (left index : ℕ) (its : List Iterated) → scan iterate left index ≡ Ended its → P left index its
+  of_scan left index its ended = rw ended at (all_scans left index)
 
 mapped_same : (e : BoundedResult (List Iterated)) → mapped (λ others. [] ++ others) e ≡ e
 mapped_same Stuck = refl

@@ -1,6 +1,6 @@
 -- What conflicts by the flow test conflicts by the other too.
 use Rattle.std.{proofs.Common.{◌≡◌, ℕ, Bool, true, false, List, [], ◌∷◌, refl, ◌∙◌, ap}, specs.Prelude.{is_none, cond}}
-use Rattle.std.specs.List.{filter, range_with_len}
+use Rattle.std.{specs.List.{filter, range_with_len}, proofs.{Common.{inl, inr}, lemmas.Bool.{cases_Bool}}}
 use Rattle.array_maps.specs.Accesses.{Action, Access}
 use Rattle.loop_core_model.specs.{declared.loop_test.Test.TheVariants.{Lrpd, Flow}, Actions.{joined, only_operator}}
 use Rattle.loop_core_model.specs.Conflict.{fails_lrpd, fails_flow, conflicts, at_element, conflicting, FlowPassesMore}
@@ -10,15 +10,12 @@ use Rattle.loop_core_model.proofs.OneElement.{and_false, fails_flow-fails_lrpd}
 filter_both : (wide narrow : ℕ → Bool) → ((e : ℕ) → wide e ≡ false → narrow e ≡ false) → (xs : List ℕ)
     → filter narrow xs ≡ filter narrow (filter wide xs)
 filter_both wide narrow only [] = refl
-filter_both wide narrow only (x ∷ xs) = go (wide x) (only x) (filter_both wide narrow only xs)
-  where
-    go : (w : Bool) → (w ≡ false → narrow x ≡ false) → filter narrow xs ≡ filter narrow (filter wide xs) →
-        cond (narrow x) (x ∷ filter narrow xs) (filter narrow xs) ≡ filter narrow
-        (cond w (x ∷ filter wide xs) (filter wide xs))
-    go true later rest = ap (λ kept. cond (narrow x) (x ∷ kept) kept) rest
-    go false later rest = rw (later refl) rest
+filter_both wide narrow only (x ∷ xs) = elim (cases_Bool (wide x)) [
+  | inl kept ↦ rw (kept, ← filter_both wide narrow only xs) refl
+  | inr gone ↦ rw (gone, only x gone) (filter_both wide narrow only xs)
+]
 
-narrower : (iterations : List (List Action)) → conflicts Lrpd iterations ≡ false → conflicts Flow iterations ≡ false
+pub narrower : (iterations : List (List Action)) → conflicts Lrpd iterations ≡ false → conflicts Flow iterations ≡ false
 narrower iterations h =
     and_false (is_none (only_operator (joined iterations))) (fails_lrpd iterations) (fails_flow iterations)
     (fails_flow-fails_lrpd iterations) h

@@ -3,7 +3,7 @@ use Rattle.std.proofs.Common.{◌≡◌, ℕ, zero, suc, ◌+◌, ◌-◌, ◌�
 use Rattle.std.proofs.Common.{List, [], ◌∷◌, ◌++◌, map, length, Option, Some, None, refl, sym, ◌∙◌, ap, subst, arith}
 use Rattle.std.specs.Prelude.{if◌then◌else◌, ◌==◌, nat_lt, min, cond, is_none, is_some, slice_get}
 use Rattle.std.{specs.List.{list_any, AllByRecursion}, proofs.lemmas.List.{append-nil}}
-use Rattle.std.proofs.lemmas.{Bool.{cases_lt, eqb-true, ltb-false, le-ltb, lt-ltb, and_parts}}
+use Rattle.std.proofs.lemmas.{Bool.{cases_Bool, cases_lt, eqb-true, ltb-false, le-ltb, lt-ltb, and_parts}}
 use Rattle.std.proofs.lemmas.Option.{slice_get_within, get_or_from_slice_get}
 use Rattle.bpf_insn_types.specs.Program.{Program}
 use Rattle.bpf_step_model.specs.{State.{LoopCall}, Run.{BoundedResult, Ended, mapped, followed}}
@@ -11,7 +11,7 @@ use Rattle.bpf_step_model.specs.Iteration.{Iterated, iteration}
 use Rattle.loop_core_model.specs.{Actions.{joined}, LeastBreak.{is_break, least_below, lesser}, Scan.{scan}}
 use Rattle.loop_core_model.proofs.{Least.{least_is}, ScanLaws.{counted_are_scanned}, BlockLaws.{scans_follow}}
 use Rattle.loop_core_model.proofs.{OneElement.{or_false_left, or_false_right}}
-use Rattle.loop_core_model.{specs.Intervals.{blocks_of}, proofs.SplitLaws.{Faultless, faultless, rising as no_lower}}
+use Rattle.loop_core_model.{specs.Intervals.{blocks_of}, proofs.SplitLaws.{Faultless, none_if, faultless, rising as no_lower}}
 use Rattle.loop_core_model.specs.{Block.{has_break, break_from, unless_break}, Split.{falls, last_bound, ends_amiss}}
 use Rattle.loop_core_model.specs.Gather.{Block, IsRunOf, least_of, starts_late, block_numbered, lacks_block, counting}
 use Rattle.loop_core_model.specs.Gather.{lacks_some, twice, is_bound, stands_in, gathered, Gathers, BlocksGather}
@@ -52,8 +52,7 @@ real_lesser test n (Some i) (Some j) h k = elim (cases_lt i j) [
 -- bounds
 pub if_none : {A : Type 0} (b : Bool) (x : A) (o : Option A) → (if b then Some x else o) ≡ None → (b ≡ false)
     × (o ≡ None)
-if_none true x o h = absurd (cc)
-if_none false x o h = (refl, h)
+if_none b x o h = none_if b x o h
 
 pub not_false : (b : Bool) → not b ≡ false → b ≡ true
 not_false true h = refl
@@ -100,27 +99,20 @@ module _ (iterate : ℕ → BoundedResult Iterated) where
       → list_any (λ (b : Block). not (stands_in whole b)) blocks ≡ false →
       (k : ℕ) (b : Block) → block_numbered k blocks ≡ Some b → Stands whole (least_of blocks) k b
   found whole [] runs there k b h = absurd (cc)
-  found whole (c ∷ blocks) runs there k b h =
-      go (c.number == k) refl h (found whole blocks runs.1 (or_false_right (not (stands_in whole c)) _ there) k b)
-    where
-      this : (c.number ≡ k) → Stands whole (lesser (break_from c.first c.ran) (least_of blocks)) k c
-      this same =
-          let bounds = bounds_are whole c (or_false_left (not (stands_in whole c)) _ there) in
-          record {
-            first_is = rw same at bounds.0;
-            past_is = rw same at bounds.1;
-            run = runs.0;
-            least_at_most = at_most_left (break_from c.first c.ran) (least_of blocks);
-          }
-
-      go : (here : Bool) → (c.number == k) ≡ here → cond here (Some c) (block_numbered k blocks) ≡ Some b →
-          (block_numbered k blocks ≡ Some b → Stands whole (least_of blocks) k b)
-          → Stands whole (lesser (break_from c.first c.ran) (least_of blocks)) k b
-      go true same h later =
-          let e : c ≡ b = cc in
-          subst (λ (d : Block). Stands whole (lesser (break_from c.first c.ran) (least_of blocks)) k d) e
-          (this (eqb-true c.number k same))
-      go false same h later = stands_more whole (break_from c.first c.ran) (least_of blocks) k b (later h)
+  found whole (c ∷ blocks) runs there k b h = elim (cases_Bool (c.number == k)) [
+    | inl same ↦
+        let here : Some c ≡ Some b = rw same at h in
+        let is : c ≡ b = cc in
+        let bounds = bounds_are whole c (or_false_left (not (stands_in whole c)) _ there) in
+        subst (Stands whole (lesser (break_from c.first c.ran) (least_of blocks)) k) is (record {
+          first_is = rw (eqb-true c.number k same) at bounds.0;
+          past_is = rw (eqb-true c.number k same) at bounds.1;
+          run = runs.0;
+          least_at_most = at_most_left (break_from c.first c.ran) (least_of blocks);
+        })
+    | inr other ↦ stands_more whole (break_from c.first c.ran) (least_of blocks) k b
+        (found whole blocks runs.1 (or_false_right (not (stands_in whole c)) _ there) k b (rw other at h))
+  ]
 
   first_real : (n first past : ℕ) (o : Option ℕ) → past ≤ n → FirstIs (breaking iterate) first (first + (past - first)) o
       → IsReal (breaking iterate) n o

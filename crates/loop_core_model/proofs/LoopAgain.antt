@@ -8,13 +8,14 @@ use Rattle.bpf_insn_types.specs.Program.{Program}
 use Rattle.bpf_step_model.specs.{State.{LoopCall}, Run.{BoundedResult, Ended, Stuck, Unfinished, mapped, followed}}
 use Rattle.bpf_step_model.{specs.Iteration.{Iterated, iteration}, proofs.Endings.{mapped_from}}
 use Rattle.bpf_step_model.specs.LoopInOrder.{Looped, behind, loop_from, loop_in_order}
-use Rattle.loop_core_model.specs.{declared.loop_test.Test.{Test, TheVariants.{Lrpd, Flow}}, Scan.{up_to_break, scan}}
+use Rattle.loop_core_model.specs.{declared.loop_test.Test.{Test, TheVariants.{Lrpd, Flow}}, Scan.{scan}}
 use Rattle.loop_core_model.specs.{Actions.{joined, only_operator}, Committed.{committed_words}, Law.{LoopLaw}}
 use Rattle.loop_core_model.specs.Conflict.{fails_lrpd, fails_flow, conflicts, at_element, conflicting}
 use Rattle.loop_core_model.specs.LeastBreak.{counted, counted_iterations, all_ended, accesses_of_each, in_front_of}
-use Rattle.loop_core_model.proofs.{OneElement.{and_false, Unharmed, fails_flow-fails_lrpd}, Turns.{all_committed}}
+use Rattle.loop_core_model.proofs.{FlowLaws.{narrower}, OneElement.{Unharmed}, Turns.{all_committed}}
 use Rattle.loop_core_model.proofs.Turns.{Saws, InTurn, UnharmedEach, words_after_all-append, in_turn_at_start}
 use Rattle.loop_core_model.proofs.{RunAgain.{iteration_local}, Least.{filter_none}, ScanLaws.{counted_are_scanned}}
+use Rattle.loop_core_model.proofs.BlockLaws.{of_scan}
 
 -- as many ended
 ended_length : {A : Type 0} (endings : List (BoundedResult A)) (all : List A) → all_ended endings ≡ Ended all
@@ -36,10 +37,8 @@ module _ (program : Program) (bound : ℕ) (call : LoopCall) (start : List ℕ) 
 
   -- what is claimed of a scan that ended: its iterations saw the start words; and the loop in order, from words that
   -- fit them in turn, does the same
-  abbrev pub GoesAgain : (left index : ℕ) → BoundedResult (List Iterated) → Type 0
-  GoesAgain left index Stuck = Unit {0}
-  GoesAgain left index Unfinished = Unit {0}
-  GoesAgain left index (Ended its) = AllByRecursion (λ accesses. Saws accesses start) (accesses_of_each its)
+  abbrev pub GoesAgain : (left index : ℕ) → List Iterated → Type 0
+  GoesAgain left index its = AllByRecursion (λ accesses. Saws accesses start) (accesses_of_each its)
       × ((now : List ℕ) → length now ≡ length start → InTurn (accesses_of_each its) now
       → loop_from program bound call left index now
       ≡ loop_end (index + length its) (words_after_all (joined (accesses_of_each its)) now))
@@ -54,11 +53,9 @@ module _ (program : Program) (bound : ℕ) (call : LoopCall) (start : List ℕ) 
       ap (followed (behind (loop_from program bound call left (index + 1)) index))
       ((iteration_local program bound call index).again start now it same long saws) ∙ rw ret refl
 
-  goes_on : (left index : ℕ) (it : Iterated) → speculated index ≡ Ended it → (it.ret == 1) ≡ false
-      → (e : BoundedResult (List Iterated)) → GoesAgain left (index + 1) e → GoesAgain (suc left) index (in_front_of e it)
-  goes_on left index it same on Stuck rest = tt
-  goes_on left index it same on Unfinished rest = tt
-  goes_on left index it same on (Ended its) rest = (
+  goes_on : (left index : ℕ) (it : Iterated) (its : List Iterated) → speculated index ≡ Ended it
+      → (it.ret == 1) ≡ false → GoesAgain left (index + 1) its → GoesAgain (suc left) index (it ∷ its)
+  goes_on left index it its same on rest = (
     ((iteration_local program bound call index).saw start it same, rest.0),
     λ now long turns.
         let answer : index + 1 + length its ≡ index + suc (length its) = omega arith in
@@ -67,32 +64,20 @@ module _ (program : Program) (bound : ℕ) (call : LoopCall) (start : List ℕ) 
         ∙ ap₂ loop_end answer (sym (words_after_all-append it.accesses (joined (accesses_of_each its)) now)),
   )
 
-  loop_again : (left index : ℕ) → GoesAgain left index (scan speculated left index)
-  loop_again zero index = (tt, λ now long turns. ap (λ answer. loop_end answer now) (sym (add-zero index)))
-  loop_again (suc left) index = first (speculated index) refl (loop_again left (index + 1))
-    where
-      by_return : (it : Iterated) → speculated index ≡ Ended it → (one : Bool) → (it.ret == 1) ≡ one
-          → GoesAgain left (index + 1) (scan speculated left (index + 1)) → GoesAgain (suc left) index
-          (if one then Ended (it ∷ []) else in_front_of (scan speculated left (index + 1)) it)
-      by_return it same true one rest = (
+  loop_again : (left index : ℕ) (its : List Iterated) → scan speculated left index ≡ Ended its
+      → GoesAgain left index its
+  loop_again = of_scan speculated GoesAgain
+      (λ index. (tt, λ now long turns. ap (λ answer. loop_end answer now) (sym (add-zero index))))
+      (λ left index it same one. (
         ((iteration_local program bound call index).saw start it same, tt),
         λ now long turns. step_again left index now it true same one long turns.0
             ∙ ap (λ accesses. loop_end (index + 1) (words_after_all accesses now)) (sym (append-nil it.accesses)),
-      )
-      by_return it same false on rest = goes_on left index it same on (scan speculated left (index + 1)) rest
-
-      first : (e : BoundedResult Iterated) → speculated index ≡ e
-          → GoesAgain left (index + 1) (scan speculated left (index + 1))
-          → GoesAgain (suc left) index (followed (up_to_break (scan speculated left (index + 1))) e)
-      first Stuck same rest = tt
-      first Unfinished same rest = tt
-      first (Ended it) same rest = by_return it same (it.ret == 1) refl rest
+      ))
+      goes_on
 
 -- what doesn't conflict by either test is unharmed
 not_harmed : (test : Test) (iterations : List (List Action)) → conflicts test iterations ≡ false → Unharmed iterations
-not_harmed Lrpd iterations h =
-    and_false (is_none (only_operator (joined iterations))) (fails_lrpd iterations) (fails_flow iterations)
-    (fails_flow-fails_lrpd iterations) h
+not_harmed Lrpd iterations h = narrower iterations h
 not_harmed Flow iterations h = h
 
 -- what passes is unharmed
@@ -107,9 +92,8 @@ loop_law test program bound call words runs same none =
     let iterations : List (BoundedResult Iterated) = counted_iterations program bound call words in
     let parts = mapped_from accesses_of_each (all_ended iterations) runs same in
     let its : List Iterated = parts.0 in
-    let again : GoesAgain program bound call words call.n 0 (Ended its) =
-    subst (GoesAgain program bound call words call.n 0)
-    (sym (counted_are_scanned program bound call words) ∙ parts.1) (loop_again program bound call words call.n 0) in
+    let again : GoesAgain program bound call words call.n 0 its = loop_again program bound call words call.n 0 its
+    (sym (counted_are_scanned program bound call words) ∙ parts.1) in
     let all : 0 + length its ≡ length its = omega arith in
     let answer : 0 + length its ≡ counted program bound call words =
     all ∙ ended_length iterations its parts.1 ∙ length-map-range_with_len (speculated program bound call words) 0 _ in

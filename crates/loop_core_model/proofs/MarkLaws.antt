@@ -189,9 +189,8 @@ two_write-append [] ys = go (two_write ys) (list_any writes ys)
     go : (m w : Bool) → m ≡ ((false || m) || (false && w))
     go m w = grind (arith, nat_tests)
 two_write-append (x ∷ xs) ys =
-    ap (λ b. (writes x && b) || two_write (xs ++ ys)) (list_any-append writes xs ys)
-    ∙ ap (λ b. (writes x && (list_any writes xs || list_any writes ys)) || b) (two_write-append xs ys)
-    ∙ go (writes x) (list_any writes xs) (list_any writes ys) (two_write xs) (two_write ys)
+    rw (list_any-append writes xs ys, two_write-append xs ys) (go (writes x) (list_any writes xs) (list_any writes ys)
+    (two_write xs) (two_write ys))
   where
     go : (W w1 w2 m1 m2 : Bool) → ((W && (w1 || w2)) || ((m1 || m2) || (w1 && w2))) ≡ ((((W && w1) || m1) || m2)
         || ((W || w1) && w2))

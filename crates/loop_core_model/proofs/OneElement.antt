@@ -96,11 +96,9 @@ pub holds_saw : (start word : ℕ) (first : List Action) (rest : List (List Acti
     → Holds start word (first ∷ rest) → SawEach first word
 holds_saw start word first rest saw (inl reduced) =
     reduces_saw reduced.0 first word (all_parts (reduces_by reduced.0) first (joined rest) reduced.1).0
-holds_saw start word first rest saw (inr calm) = go calm.1
-  where
-    go : Calm start word (first ∷ rest) → SawEach first word
-    go (inl same) = subst (SawEach first) (sym same) saw
-    go (inr none) = sealed_saw first start word (or_false_left (exposed first) _ none) saw
+holds_saw start word first rest saw (inr (unharmed, inl same)) = rw same saw
+holds_saw start word first rest saw (inr (unharmed, inr none)) =
+    sealed_saw first start word (or_false_left (exposed first) _ none) saw
 
 calm_next : (start word : ℕ) (first : List Action) (rest : List (List Action)) (writing : Bool) → writes first ≡ writing
     →

@@ -21,16 +21,13 @@ filter-moved : (p q : ℕ → Bool) (k from count : ℕ) → ((e : ℕ) → p (k
 filter-moved p q k from zero same = refl
 filter-moved p q k from (suc count) same =
     let there : k + from + 1 ≡ k + (from + 1) = omega arith in
-    by_test (p (k + from)) (q from) (k + from) from (filter p (range_with_len (k + from + 1) count))
-    (filter q (range_with_len (from + 1) count)) (same from) refl
-    (ap (λ n. filter p (range_with_len n count)) there ∙ filter-moved p q k (from + 1) count same)
+    rw (same from, there, filter-moved p q k (from + 1) count same) (go (q from) (filter q (range_with_len (from + 1)
+    count)))
   where
-    by_test : (b c : Bool) (x y : ℕ) (xs ys : List ℕ) → b ≡ c → x ≡ k + y → xs ≡ map (λ e. k + e) ys →
-        cond b (x ∷ xs) xs ≡ map (λ e. k + e) (cond c (y ∷ ys) ys)
-    by_test true true x y xs ys e first rest = ap₂ (λ m ms. m ∷ ms) first rest
-    by_test true false x y xs ys e first rest = cc
-    by_test false true x y xs ys e first rest = cc
-    by_test false false x y xs ys e first rest = rest
+    go : (b : Bool) (ys : List ℕ) → cond b ((k + from) ∷ map (λ e. k + e) ys) (map (λ e. k + e) ys)
+        ≡ map (λ e. k + e) (cond b (from ∷ ys) ys)
+    go true ys = refl
+    go false ys = refl
 
 -- the elements of a plane: the bits of its first word, and those of the others 64 on
 elements-cons : (width : ℕ) → width ≡ 64 → (word : ℕ) (words : List ℕ) →

@@ -2,6 +2,7 @@
 use Rattle.std.proofs.Common.{◌≡◌, ℕ, Bool, true, false, not, ◌&&◌, ◌||◌, List, [], ◌∷◌, Some, None, refl, sym, ◌∙◌, ap}
 use Rattle.std.{proofs.Common.{subst, arith}, specs.Prelude.{if◌then◌else◌, ◌==◌, is_some}}
 use Rattle.std.{specs.List.{list_any, list_all, count_by}, proofs.lemmas.Bool.Decides.{nat_tests}}
+use Rattle.std.proofs.Math.Bool.{and-false}
 use Rattle.std.proofs.lemmas.{Bool.{or_left, and_right, not_from_true}, List.Folds.{list_any-append, list_any_at}}
 use Rattle.array_maps.specs.declared.access.Op.{Op, TheVariants.{Add, Or, And, Xor, AddH}}
 use Rattle.array_maps.specs.Accesses.{Action, Read, Write, ReadWrite, Reduce, operators}
@@ -50,11 +51,7 @@ and_not_true a b h = sym (and_right a (not b) (not_from_true b h))
 -- all reduce by an operator where none is plain and none reduces by another
 all_alone : (op : Op) (actions : List Action) → list_all (reduces_by op) actions ≡ (not (plain actions)
     && not (another op (has actions)))
-all_alone Add [] = refl
-all_alone Or [] = refl
-all_alone And [] = refl
-all_alone Xor [] = refl
-all_alone AddH [] = refl
+all_alone op [] = simp and-false
 all_alone op (Reduce other operand ∷ actions) = go (all_alone op actions) (is_same op other) refl
   where
     go : list_all (reduces_by op) actions ≡ (not (plain actions) && not (another op (has actions))) → (b : Bool)

@@ -20,12 +20,7 @@ saws_head : (access : Access) (accesses : List Access) (words : List ℕ) → ac
     → Saws (access ∷ accesses) words →
     Saw access.action (slice_index words access.element)
 saws_head access accesses words inside saws =
-    let here : (access.element == access.element) ≡ true = eq-eqb access.element access.element refl in
-    let both : SawEach (access.action ∷ actions_at access.element accesses) (slice_index words access.element) =
-    subst (λ (b : Bool). SawEach (if b then access.action ∷ actions_at access.element accesses
-    else actions_at access.element accesses) (slice_index words access.element))
-    here (saws access.element inside) in
-    both.0
+    (rw (eq-eqb access.element access.element refl) at (saws access.element inside)).0
 
 -- the others saw what was there after it
 saws_tail : (access : Access) (accesses : List Access) (words : List ℕ) → Saws (access ∷ accesses) words

@@ -9,7 +9,7 @@ use Rattle.bpf_step_model.proofs.Endings.{mapped_from}
 use Rattle.loop_core_model.specs.{LeastBreak.{is_break, lesser, in_front_of}, Scan.{up_to_break, scan}}
 use Rattle.loop_core_model.specs.{Block.{break_from}, Gather.{is_bound, stands_in}}
 use Rattle.loop_core_model.specs.Gather.{Block, starts_late, block_numbered, least_of, lacks_block, lacks_some, twice}
-use Rattle.loop_core_model.specs.Intervals.{blocks_of, start_of, end_of}
+use Rattle.loop_core_model.{specs.Intervals.{blocks_of, start_of, end_of}, proofs.BlockLaws.{of_scan}}
 use Rattle.loop_core_model.proofs.Steps.{bit, times, first_break, break_of, least_break_of}
 
 -- the numbers of blocks
@@ -88,41 +88,13 @@ module _ (iterate : ℕ → BoundedResult Iterated) where
   abbrev breaking : ℕ → Bool
   breaking index = is_break (iterate index)
 
-  -- a scan that ended broke at this index
-  abbrev BreaksAt : (index : ℕ) → Option ℕ → BoundedResult (List Iterated) → Type 0
-  BreaksAt index o Stuck = Unit {0}
-  BreaksAt index o Unfinished = Unit {0}
-  BreaksAt index o (Ended ran) = break_from index ran ≡ o
-
-  -- which is the first that breaks
-  scan_breaks : (left index : ℕ) → BreaksAt index (first_break breaking left index) (scan iterate left index)
-  scan_breaks zero index = refl
-  scan_breaks (suc left) index = first (iterate index) (scan_breaks left (index + 1))
-    where
-      more : Option ℕ
-      more = first_break breaking left (index + 1)
-
-      goes_on : (it : Iterated) → (it.ret == 1) ≡ false → (e : BoundedResult (List Iterated))
-          → BreaksAt (index + 1) more e → BreaksAt index more (in_front_of e it)
-      goes_on it on Stuck rest = tt
-      goes_on it on Unfinished rest = tt
-      goes_on it on (Ended ran) rest = rw on rest
-
-      by_return : (it : Iterated) (b : Bool) → (it.ret == 1) ≡ b
-          → BreaksAt (index + 1) more (scan iterate left (index + 1)) → BreaksAt index (if b then Some index else more)
-          (if b then Ended (it ∷ []) else in_front_of (scan iterate left (index + 1)) it)
-      by_return it true one rest = rw one refl
-      by_return it false on rest = goes_on it on (scan iterate left (index + 1)) rest
-
-      first : (e : BoundedResult Iterated) → BreaksAt (index + 1) more (scan iterate left (index + 1))
-          → BreaksAt index (if is_break e then Some index else more) (followed (up_to_break (scan iterate left (index + 1))) e)
-      first Stuck rest = tt
-      first Unfinished rest = tt
-      first (Ended it) rest = by_return it (it.ret == 1) refl rest
-
+  -- a scan that ended broke at the first index that breaks
   pub scan_break : (left index : ℕ) (ran : List Iterated) → scan iterate left index ≡ Ended ran
       → break_from index ran ≡ first_break breaking left index
-  scan_break left index ran h = subst (BreaksAt index (first_break breaking left index)) h (scan_breaks left index)
+  scan_break = of_scan iterate (λ left index ran. break_from index ran ≡ first_break breaking left index)
+      (λ index. refl)
+      (λ left index it same one. rw (same, one) refl)
+      (λ left index it its same on rest. rw (same, on) rest)
 
   -- so the least break of blocks that were run is known from their numbers
   break_is : (bounds : List ℕ) (b : Block) → stands_in bounds b ≡ true → scan iterate (b.past - b.first) b.first

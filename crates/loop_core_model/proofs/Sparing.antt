@@ -1,7 +1,7 @@
 -- What effects leave of an element, and of its halves.
 use Rattle.std.proofs.Common.{◌≡◌, ◌≢◌, ℕ, zero, suc, ◌+◌, ◌*◌, ◌%◌, ◌/◌, ◌^◌, ◌<◌, Bool, true, false, List, length}
 use Rattle.std.proofs.Common.{inl, inr, [], ◌∷◌, set, get_or, refl, sym, ◌∙◌, ap, subst, arith}
-use Rattle.std.{specs.List.{AllByRecursion}, proofs.lemmas.{Bool.{cases_eq}, List.{get_or-set_other, set-get_or}}}
+use Rattle.std.{specs.List.{AllByRecursion}, proofs.lemmas.{Bool.{cases_eq, cases_Bool}, List.{get_or-set_other, set-get_or}}}
 use Rattle.array_maps.specs.{declared.access.{Half.{Half, TheVariants.{Low, High}}, Part.{Part}}, MapList.{AreWords}}
 use Rattle.array_maps.specs.{declared.access.Part.TheVariants.{Whole, Half as Of}, Halves.{half_of, with_half, part_of}}
 use Rattle.array_maps.{specs.Accesses.{left_by, words_after_all}, proofs.ElementLaws.{length-words_after_all}}
@@ -38,12 +38,10 @@ LeavesAlone element effect = kind_leaves (kind_of_deed effect.deed) ≡ true →
 
 still_one : (effect : Effect) (words : List ℕ) (element : ℕ) → LeavesAlone element effect
     → get_or (words_after_effect effect words) element 0 ≡ get_or words element 0
-still_one effect words element alone = go (kind_leaves (kind_of_deed effect.deed)) refl
-  where
-    go : (leaves : Bool) → kind_leaves (kind_of_deed effect.deed) ≡ leaves
-        → get_or (words_after_effect effect words) element 0 ≡ get_or words element 0
-    go false none = ap (λ (ws : List ℕ). get_or ws element 0) (keeps effect none words)
-    go true leaves = get_or-set_other words effect.element element _ 0 (λ same. alone leaves (sym same))
+still_one effect words element alone = elim (cases_Bool (kind_leaves (kind_of_deed effect.deed))) [
+  | inl leaves ↦ get_or-set_other words effect.element element _ 0 (λ same. alone leaves (sym same))
+  | inr none ↦ ap (λ (ws : List ℕ). get_or ws element 0) (keeps effect none words)
+]
 
 pub still_after : (effects : List Effect) (words : List ℕ) (element : ℕ)
     → AllByRecursion (LeavesAlone element) effects

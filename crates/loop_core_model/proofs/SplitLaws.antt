@@ -1,6 +1,6 @@
 -- Bounds without a fault are a partition.
 use Rattle.std.proofs.Common.{◌≡◌, ℕ, zero, suc, ◌+◌, ◌<◌, ◌≤◌, Bool, true, false, ◌⊎◌, inl, inr, List, [], ◌∷◌, length}
-use Rattle.std.proofs.Common.{Some, None, refl, sym, ◌∙◌, ap, subst, arith}
+use Rattle.std.proofs.Common.{Option, Some, None, refl, sym, ◌∙◌, ap, subst, arith}
 use Rattle.std.specs.Prelude.{not, ◌||◌, ◌==◌, nat_lt, slice_index, if◌then◌else◌}
 use Rattle.std.proofs.lemmas.Bool.{ltb-false, eqb-true, not-false, cases_lt, cases_order, or_parts}
 use Rattle.loop_core_model.specs.{declared.faults.SplitFault.TheVariants.{Falling, Number, Ends}, Intervals.{blocks_of}}
@@ -31,22 +31,16 @@ met_ends n (first ∷ bounds) several rises ends =
           n (not-false (last_bound first bounds == n) parts.1));
     }
 
-faultless_by : (n : ℕ) (bounds : List ℕ) (falling number ends : Bool) → falls 0 bounds ≡ falling
-    → (nat_lt (length bounds) 2 || nat_lt 65 (length bounds)) ≡ number →
-    ends_amiss bounds n ≡ ends → (if falling then Some Falling else if number then Some Number else if ends
-    then Some Ends else None) ≡ None → Faultless n bounds
-faultless_by n bounds true number ends f c e h = absurd (cc)
-faultless_by n bounds false true ends f c e h = absurd (cc)
-faultless_by n bounds false false true f c e h = absurd (cc)
-faultless_by n bounds false false false f c e h =
-    let parts = or_parts (nat_lt (length bounds) 2) (nat_lt 65 (length bounds)) c in
-    let several = ltb-false (length bounds) 2 parts.0 in
-    met_ends n bounds (omega arith) f e
+pub none_if : {A : Type 0} (b : Bool) (x : A) (o : Option A) → (if b then Some x else o) ≡ None → (b ≡ false) × (o ≡ None)
+none_if true x o h = absurd (cc)
+none_if false x o h = (refl, h)
 
 pub faultless : (n : ℕ) (bounds : List ℕ) → split_fault bounds n ≡ None → Faultless n bounds
 faultless n bounds h =
-    faultless_by n bounds (falls 0 bounds) (nat_lt (length bounds) 2 || nat_lt 65 (length bounds)) (ends_amiss bounds n)
-    refl refl refl h
+    let falling = none_if (falls 0 bounds) _ _ h in
+    let number = none_if (nat_lt (length bounds) 2 || nat_lt 65 (length bounds)) _ _ falling.1 in
+    let several = ltb-false (length bounds) 2 (or_parts (nat_lt (length bounds) 2) _ number.0).0 in
+    met_ends n bounds (omega arith) falling.0 (none_if (ends_amiss bounds n) _ _ number.1).0
 
 -- no bound is below one before it
 falls_first : (before : ℕ) (bounds : List ℕ) → falls before bounds ≡ false → (k : ℕ) → k < length bounds
@@ -71,71 +65,40 @@ rising before (bound ∷ bounds) rises (suc j) (suc k) below h =
     rising bound bounds (or_parts (nat_lt bound before) (falls bound bounds) rises).1 j k (omega arith) (omega arith)
 
 -- an index between the first bound and the last lies between two neighbours
-pub record Between (bounds : List ℕ) (index : ℕ) : Type 0 where
-  pub block : ℕ
-  pub within : block + 1 < length bounds
-  pub started : slice_index bounds block ≤ index
-  pub not_ended : index < slice_index bounds (block + 1)
-
-one_on : (bound next : ℕ) (bounds : List ℕ) (index : ℕ) → Between (next ∷ bounds) index
-    → Between (bound ∷ next ∷ bounds) index
-one_on bound next bounds index b =
-    let same : suc (b.block + 1) ≡ suc b.block + 1 = omega arith in
-    record {
-      block = suc b.block;
-      within = (let h = b.within in omega arith);
-      started = b.started;
-      not_ended = subst (λ (k : ℕ). index < slice_index (bound ∷ next ∷ bounds) k) same b.not_ended;
-    }
-
 between : (bound : ℕ) (bounds : List ℕ) (index : ℕ) → bound ≤ index → index < slice_index (bound ∷ bounds)
-    (length bounds) → Between (bound ∷ bounds) index
+    (length bounds) → (block : ℕ) × HasIndex (bound ∷ bounds) block index
 between bound [] index low high = absurd (omega arith)
-between bound (next ∷ bounds) index low high = go (λ later. between next bounds index later high) (cases_lt index next)
-  where
-    go : (next ≤ index → Between (next ∷ bounds) index) → (index < next) ⊎ (next ≤ index)
-        → Between (bound ∷ next ∷ bounds) index
-    go on (inl here) = record { block = 0; within = omega arith; started = low; not_ended = here }
-    go on (inr later) = one_on bound next bounds index (on later)
+between bound (next ∷ bounds) index low high = elim (cases_lt index next) [
+  | inl here ↦ (0, record { block_within = omega arith; started = low; not_ended = here })
+  | inr later ↦
+      let b = between next bounds index later high in
+      let same : suc (b.0 + 1) ≡ suc b.0 + 1 = omega arith in (
+        suc b.0,
+        record {
+          block_within = (let h = b.1.block_within in omega arith);
+          started = b.1.started;
+          not_ended = subst (λ (k : ℕ). index < slice_index (bound ∷ next ∷ bounds) k) same b.1.not_ended;
+        },
+      )
+]
+
+each_has : (n : ℕ) (bounds : List ℕ) → Faultless n bounds → (index : ℕ) → index < n
+    → (block : ℕ) × HasIndex bounds block index
+each_has n [] sound index h = absurd (let several = sound.several in omega arith)
+each_has n (bound ∷ bounds) sound index h =
+    let begins : bound ≡ 0 = sound.first in
+    let count : blocks_of (bound ∷ bounds) ≡ length bounds = omega arith in
+    let ends : slice_index (bound ∷ bounds) (length bounds) ≡ n =
+    sym (ap (slice_index (bound ∷ bounds)) count) ∙ sound.last in
+    between bound bounds index (omega arith) (omega arith)
 
 module _ (n : ℕ) (bounds : List ℕ) (sound : Faultless n bounds) where
-  each_has : (index : ℕ) → index < n → (block : ℕ) × HasIndex bounds block index
-  each_has index h = go bounds refl
-    where
-      go : (xs : List ℕ) → bounds ≡ xs → (block : ℕ) × HasIndex bounds block index
-      go [] e = absurd (let several = sound.several in let same = ap length e in omega arith)
-      go (x ∷ xs) e =
-          let low : x ≤ index = (let first = sound.first in let same : slice_index bounds 0
-          ≡ x = ap (λ (ys : List ℕ). slice_index ys 0) e in omega arith) in
-          let here : blocks_of bounds ≡ length xs = (let same = ap length e in omega arith) in
-          let high : index < slice_index (x ∷ xs) (length xs) =
-          subst (λ (k : ℕ). index < slice_index (x ∷ xs) k) here
-          (subst (λ (ys : List ℕ). index < slice_index ys (blocks_of bounds)) e (let last = sound.last in
-          omega arith)) in
-          let found : Between bounds index = subst (λ (ys : List ℕ). Between ys index) (sym e)
-          (between x xs index low high) in (
-            found.block,
-            record {
-              block_within = (let w = found.within in omega arith);
-              started = found.started;
-              not_ended = found.not_ended;
-            },
-          )
-
-  has_once : (block other index : ℕ) → HasIndex bounds block index → HasIndex bounds other index → block ≡ other
-  has_once block other index one two = go (cases_order block other)
-    where
-      apart : (a b : ℕ) → HasIndex bounds a index → HasIndex bounds b index → a < b → ⊥
-      apart a b x y below =
-          let up = rising 0 bounds sound.rises (a + 1) b (omega arith) (let w = y.block_within in omega arith) in
-          let before = x.not_ended in
-          let behind = y.started in
-          omega arith
-
-      go : (block ≡ other) ⊎ ((block < other) ⊎ (other < block)) → block ≡ other
-      go (inl same) = same
-      go (inr (inl below)) = absurd (apart block other one two below)
-      go (inr (inr below)) = absurd (apart other block two one below)
+  apart : (a b index : ℕ) → HasIndex bounds a index → HasIndex bounds b index → a < b → ⊥
+  apart a b index x y below =
+      let up = rising 0 bounds sound.rises (a + 1) b (omega arith) (let w = y.block_within in omega arith) in
+      let before = x.not_ended in
+      let behind = y.started in
+      omega arith
 
   inside_has : (block index : ℕ) → HasIndex bounds block index → index < n
   inside_has block index has =
@@ -146,7 +109,12 @@ module _ (n : ℕ) (bounds : List ℕ) (sound : Faultless n bounds) where
       omega arith
 
   pub partition : Partition n bounds
-  partition = record { each = each_has; once = has_once; inside = inside_has }
+  partition = record {
+    each = each_has n bounds sound;
+    once = λ block other index one two.
+        (let no_less = apart block other index one two in let no_more = apart other block index two one in omega arith);
+    inside = inside_has;
+  }
 
 pub splits_partition : SplitsPartition
 splits_partition n bounds h = partition n bounds (faultless n bounds h)

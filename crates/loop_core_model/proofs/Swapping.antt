@@ -1,7 +1,7 @@
 -- Two changes of words that may change places.
 use Rattle.std.proofs.Common.{◌≡◌, ◌≢◌, ℕ, zero, suc, Bool, true, false, List, [], ◌∷◌, set, get_or, refl, sym, ◌∙◌, ap}
-use Rattle.std.{proofs.{Common.{subst, ◌+◌}, Math.Nat.{add_comm}}, specs.Prelude.{◌==◌, ◌%◌, ◌^◌}}
-use Rattle.std.proofs.lemmas.{Bool.{eqb-true, eqb-false}, Nat.{or_comm, and_comm, xor_comm}}
+use Rattle.std.{proofs.{Common.{inl, inr, subst, ◌+◌}, Math.Nat.{add_comm}}, specs.Prelude.{◌==◌, ◌%◌, ◌^◌}}
+use Rattle.std.proofs.lemmas.{Bool.{cases_eq}, Nat.{or_comm, and_comm, xor_comm}}
 use Rattle.std.proofs.lemmas.List.{get_or-set_other, set_comm}
 use Rattle.bpf_insn_types.specs.Words.{alu}
 use Rattle.array_maps.specs.{declared.access.Op.{Op, TheVariants.{Add, Or, And, Xor, AddH}}, Accesses.{combined}}
@@ -37,8 +37,7 @@ combined_comm Or a b = or_comm (a % 2 ^ 64) (b % 2 ^ 64)
 combined_comm And a b = and_comm (a % 2 ^ 64) (b % 2 ^ 64)
 combined_comm Xor a b = xor_comm (a % 2 ^ 64) (b % 2 ^ 64)
 combined_comm AddH a b =
-    ap (λ (low : ℕ). of_halves low (half_of High a + half_of High b)) (add_comm (half_of Low a) (half_of Low b))
-    ∙ ap (λ (high : ℕ). of_halves (half_of Low b + half_of Low a) high) (add_comm (half_of High a) (half_of High b))
+    rw (add_comm (half_of Low a) (half_of Low b), add_comm (half_of High a) (half_of High b)) refl
 
 in_either_order : OperatorsAssociate → (op : Op) (word x y : ℕ) → combined op (combined op word x) y ≡ combined op
     (combined op word y) x
@@ -48,17 +47,8 @@ in_either_order laws op word x y = laws.each op word x y ∙ ap (combined op wor
 pub reduces_swap : OperatorsAssociate → (op : Op) (d e x y : ℕ) (words : List ℕ)
     → changed_at (λ (word : ℕ). combined op word x) d (changed_at (λ (word : ℕ). combined op word y) e words)
     ≡ changed_at (λ (word : ℕ). combined op word y) e (changed_at (λ (word : ℕ). combined op word x) d words)
-reduces_swap laws op d e x y words = go (d == e) refl
-  where
-    go : (same : Bool) → (d == e) ≡ same →
-        changed_at (λ (word : ℕ). combined op word x) d (changed_at (λ (word : ℕ). combined op word y) e words)
-        ≡ changed_at (λ (word : ℕ). combined op word y) e (changed_at (λ (word : ℕ). combined op word x) d words)
-    go false other = other_place (λ (word : ℕ). combined op word x) (λ (word : ℕ). combined op word y) words d e
-        (eqb-false d e other)
-    go true same =
-        subst (λ (k : ℕ). changed_at (λ (word : ℕ). combined op word x) d (changed_at (λ (word : ℕ). combined op word y)
-        k words)
-        ≡ changed_at (λ (word : ℕ). combined op word y) k (changed_at (λ (word : ℕ). combined op word x) d words))
-        (eqb-true d e same)
-        (same_place (λ (word : ℕ). combined op word x) (λ (word : ℕ). combined op word y)
-        (λ word. in_either_order laws op word y x) words d)
+reduces_swap laws op d e x y words = elim (cases_eq d e) [
+  | inl same ↦ rw same (same_place (λ (word : ℕ). combined op word x) (λ (word : ℕ). combined op word y)
+      (λ word. in_either_order laws op word y x) words e)
+  | inr other ↦ other_place (λ (word : ℕ). combined op word x) (λ (word : ℕ). combined op word y) words d e other
+]

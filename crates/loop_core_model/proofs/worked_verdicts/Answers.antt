@@ -7,40 +7,18 @@ use Rattle.loop_core_model.specs.declared.verdict.Verdict.TheVariants.{Parallel,
 use Rattle.loop_core_model.specs.VerdictRows.{ParallelRows, ConflictVerdictRows, AheadRows, HalfElementRows, CallRows}
 use Rattle.loop_core_model.proofs.worked_verdicts.Goals as goal
 
-parallel : (test : Test) → ParallelRows test
+each : (test : Test) → ParallelRows test × ConflictVerdictRows test × HalfElementRows test × CallRows test
 unfolding program_in_order iteration step alu holds combined half_of with_half halves_added
-parallel Lrpd = assumption
-parallel Flow = assumption
-
-conflict : (test : Test) → ConflictVerdictRows test
-unfolding program_in_order iteration step alu holds combined half_of with_half halves_added
-conflict Lrpd = assumption
-conflict Flow = assumption
-
-ahead_by_lrpd : AheadRows Lrpd (Conflict 3 1) (Conflict 1 0)
-unfolding program_in_order iteration step alu holds combined half_of with_half halves_added
-ahead_by_lrpd = assumption
-
-ahead_by_flow : AheadRows Flow Parallel Parallel
-unfolding program_in_order iteration step alu holds combined half_of with_half halves_added
-ahead_by_flow = assumption
-
-halves : (test : Test) → HalfElementRows test
-unfolding program_in_order iteration step alu holds combined half_of with_half halves_added
-halves Lrpd = assumption
-halves Flow = assumption
-
-calls : (test : Test) → CallRows test
-unfolding program_in_order iteration step alu holds combined half_of with_half halves_added
-calls Lrpd = assumption
-calls Flow = assumption
+each Lrpd = (assumption, assumption, assumption, assumption)
+each Flow = (assumption, assumption, assumption, assumption)
 
 pub returns : goal.returns
+unfolding program_in_order iteration step alu holds combined half_of with_half halves_added
 returns c = record {
-  parallel = parallel;
-  conflict = conflict;
-  ahead_by_lrpd = ahead_by_lrpd;
-  ahead_by_flow = ahead_by_flow;
-  halves = halves;
-  calls = calls;
+  parallel = λ test. (each test).0;
+  conflict = λ test. (each test).1;
+  ahead_by_lrpd = assumption;
+  ahead_by_flow = assumption;
+  halves = λ test. (each test).2;
+  calls = λ test. (each test).3;
 }
