@@ -1,6 +1,6 @@
 -- Scans that end, and the scan of adjacent intervals.
-use Rattle.std.proofs.Common.{◌≡◌, ℕ, zero, suc, ◌+◌, Bool, true, false, List, [], ◌∷◌, ◌++◌, refl, sym, ◌∙◌, ap, arith}
-use Rattle.std.{specs.Prelude.{if◌then◌else◌, ◌==◌}, proofs.{Common.{inl, inr}, lemmas.Bool.{cases_Bool}}}
+use Rattle.std.proofs.Common.{◌≡◌, ℕ, zero, suc, ◌+◌, true, false, List, [], ◌∷◌, ◌++◌, refl, sym, ◌∙◌, ap, arith}
+use Rattle.std.{specs.Prelude.{◌==◌}, proofs.{Common.{inl, inr}, lemmas.Bool.{cases_Bool}}}
 use Rattle.bpf_step_model.specs.{Run.{BoundedResult, Ended, Stuck, Unfinished, mapped, followed}, Iteration.{Iterated}}
 use Rattle.loop_core_model.specs.{LeastBreak.{in_front_of}, Scan.{up_to_break, scan}}
 use Rattle.loop_core_model.specs.Block.{has_break, unless_break, ScansFollow}
@@ -59,36 +59,28 @@ more_followed : (it : Iterated) (near far : BoundedResult (List Iterated)) → (
     in_front_of (followed (unless_break far) near) it ≡ followed (unless_break far) (in_front_of near it)
 more_followed it Stuck far on = refl
 more_followed it Unfinished far on = refl
-more_followed it (Ended iterations) far on = rw on (go (has_break iterations))
-  where
-    go : (b : Bool) → in_front_of (if b then Ended iterations else mapped (λ others. iterations ++ others) far) it
-        ≡ (if b then Ended (it ∷ iterations) else mapped (λ others. (it ∷ iterations) ++ others) far)
-    go true = refl
-    go false = mapped_twice it iterations far
+more_followed it (Ended iterations) far on = elim (cases_Bool (has_break iterations)) [
+  | inl breaks ↦ rw (on, breaks) refl
+  | inr ends ↦ rw (on, ends) (mapped_twice it iterations far)
+]
 
 one_followed : (near far : BoundedResult (List Iterated)) (e : BoundedResult Iterated) →
     followed (up_to_break (followed (unless_break far) near)) e ≡ followed (unless_break far)
     (followed (up_to_break near) e)
 one_followed near far Stuck = refl
 one_followed near far Unfinished = refl
-one_followed near far (Ended it) = go (it.ret == 1) refl
-  where
-    go : (b : Bool) → (it.ret == 1) ≡ b →
-        (if b then Ended (it ∷ []) else in_front_of (followed (unless_break far) near) it)
-        ≡ followed (unless_break far) (if b then Ended (it ∷ []) else in_front_of near it)
-    go true breaks = rw breaks refl
-    go false on = more_followed it near far on
+one_followed near far (Ended it) = elim (cases_Bool (it.ret == 1)) [
+  | inl breaks ↦ rw breaks (rw breaks refl)
+  | inr on ↦ rw on (more_followed it near far on)
+]
 
 pub scans_follow : ScansFollow
 scans_follow iterate zero more index =
     let none : zero + more ≡ more = omega arith in
     let here : index + zero ≡ index = omega arith in
-    ap (λ n. scan iterate n index) none ∙ sym (mapped_same (scan iterate more index))
-    ∙ ap (λ i. followed (unless_break (scan iterate more i)) (Ended [])) (sym here)
+    rw (none, here) (sym (mapped_same (scan iterate more index)))
 scans_follow iterate (suc few) more index =
     let one_more : suc few + more ≡ suc (few + more) = omega arith in
-    let there : index + 1 + few ≡ index + suc few = omega arith in
-    ap (λ n. scan iterate n index) one_more
-    ∙ ap (λ rest. followed (up_to_break rest) (iterate index)) (scans_follow iterate few more (index + 1))
-    ∙ one_followed (scan iterate few (index + 1)) (scan iterate more (index + 1 + few)) (iterate index)
-    ∙ ap (λ i. followed (unless_break (scan iterate more i)) (scan iterate (suc few) index)) there
+    let there : index + suc few ≡ index + 1 + few = omega arith in
+    rw (one_more, scans_follow iterate few more (index + 1), there)
+    (one_followed (scan iterate few (index + 1)) (scan iterate more (index + 1 + few)) (iterate index))

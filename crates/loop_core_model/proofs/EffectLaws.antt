@@ -10,7 +10,7 @@ use Rattle.bpf_step_model.specs.{State.{LoopCall}, Run.{Ended, followed}, LoopIn
 use Rattle.loop_core_model.{proofs.{OneElement.{same_op}, RunAgain.{iteration_local}}, specs.Kept.{OperatorsAssociate}}
 use Rattle.loop_core_model.specs.{Kinds.{kind_leaves, by_one_operator}, Effects.{words_after_each_lane, LoadsSame}}
 use Rattle.loop_core_model.specs.Effects.{Deed, Apply, action_on, kind_of_deed, deed_part, Effect, words_after_effect}
-use Rattle.loop_core_model.specs.Effects.{accesses_on, words_after_effects, EffectLog, with_effect, effects_of}
+use Rattle.loop_core_model.specs.Effects.{words_after_effects, EffectLog, with_effect, effects_of}
 use Rattle.loop_core_model.specs.Effects.{words_after_any_effect, words_after_lane_effects, words_after_site_effects}
 use Rattle.loop_core_model.specs.LoopByEffects.{GoesOn, Leaves, LeavesInZero, LoopByEachLane}
 use Rattle.loop_core_model.proofs.Swapping.{other_place, same_place, reduces_swap}
@@ -189,9 +189,8 @@ module _ (program : Program) (bound : ℕ) (call : LoopCall) (first lanes : ℕ)
         ≡ loop_from program bound call left (first + lane) (words_after_each_lane log lane words)
     lanes_done zero left within =
         let all : 0 + left ≡ left = omega arith in
-        let here : first ≡ first + 0 = omega arith in
-        ap (λ (n : ℕ). loop_from program bound call n first words) all
-        ∙ ap (λ (index : ℕ). loop_from program bound call left index words) here
+        let here : first + 0 ≡ first = omega arith in
+        rw (all, here) refl
     lanes_done (suc lane) left within =
         let one_less : suc lane + left ≡ lane + suc left = omega arith in
         let next : first + lane + 1 ≡ first + suc lane = omega arith in

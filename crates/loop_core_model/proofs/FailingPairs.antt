@@ -1,5 +1,5 @@
 -- A test fails exactly where there is a pair of iterations that fails it.
-use Rattle.std.proofs.Common.{◌≡◌, ℕ, zero, suc, ◌<◌, Bool, true, false, ◌&&◌, ◌||◌, ◌⊎◌, inl, inr, List, [], ◌∷◌}
+use Rattle.std.proofs.Common.{◌≡◌, ℕ, zero, suc, ◌<◌, Bool, true, false, ◌&&◌, ◌||◌, inl, inr, List, [], ◌∷◌}
 use Rattle.std.{proofs.Common.{length, refl, arith}, specs.{Prelude.{slice_index_or}, List.{list_any}}}
 use Rattle.std.proofs.lemmas.{Bool.{and_from, and_parts, or_cases, or_left, or_right}, List.Folds.{list_any_at}}
 use Rattle.array_maps.specs.Accesses.{Action}

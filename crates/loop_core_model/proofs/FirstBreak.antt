@@ -1,7 +1,7 @@
 -- Where a scan breaks: at the first index of its interval whose iteration returns 1.
-use Rattle.std.proofs.Common.{◌≡◌, ℕ, zero, suc, ◌+◌, ◌≤◌, ◌<◌, Bool, true, false, ◌||◌, ◌⊎◌, inl, inr, List, [], ◌∷◌}
-use Rattle.std.proofs.{Common.{Option, Some, None, refl, ◌∙◌, ap, subst, arith}, lemmas.Bool.{cases_lt}}
-use Rattle.std.specs.Prelude.{if◌then◌else◌, ◌==◌, is_some}
+use Rattle.std.proofs.Common.{◌≡◌, ℕ, zero, suc, ◌+◌, ◌≤◌, ◌<◌, Bool, true, false, inl, inr, List, [], ◌∷◌}
+use Rattle.std.proofs.{Common.{Option, Some, None, refl, ◌∙◌, ap, arith}, lemmas.Bool.{cases_Bool, cases_lt}}
+use Rattle.std.specs.Prelude.{◌==◌, is_some}
 use Rattle.bpf_step_model.specs.{Run.{BoundedResult, Ended}, Iteration.{Iterated}}
 use Rattle.loop_core_model.specs.{LeastBreak.{is_break}, Scan.{scan}, Block.{has_break, break_from}}
 use Rattle.loop_core_model.proofs.{Least.{LeastIs}, Steps.{first_break}, RunBlocks.{scan_break}}
@@ -43,18 +43,17 @@ widened test index middle past (Some i) order none first = record {
 pub first_is : (test : ℕ → Bool) (left index past : ℕ) → index + left ≡ past
     → FirstIs test index past (first_break test left index)
 first_is test zero index past end = λ j low high. absurd (omega arith)
-first_is test (suc left) index past end = go (test index) refl (first_is test left (index + 1) past (omega arith))
-  where
-    go : (b : Bool) → test index ≡ b → FirstIs test (index + 1) past (first_break test left (index + 1))
-        → FirstIs test index past (if b then Some index else first_break test left (index + 1))
-    go true on rest = record {
-      from = omega arith;
-      within = omega arith;
-      passes = on;
-      below = λ j low high. absurd (omega arith);
-    }
-    go false on rest = widened test index (index + 1) past (first_break test left (index + 1)) (omega arith)
-        (λ j low high. (let same : j ≡ index = omega arith in ap test same ∙ on)) rest
+first_is test (suc left) index past end = elim (cases_Bool (test index)) [
+  | inl on ↦ rw on (record {
+    from = omega arith;
+    within = omega arith;
+    passes = on;
+    below = λ j low high. absurd (omega arith);
+  })
+  | inr off ↦ rw off (widened test index (index + 1) past (first_break test left (index + 1)) (omega arith)
+      (λ j low high. (let same : j ≡ index = omega arith in ap test same ∙ off))
+      (first_is test left (index + 1) past (omega arith)))
+]
 
 -- there is one first index
 pub one_first : (test : ℕ → Bool) (n : ℕ) (a b : Option ℕ) → FirstIs test 0 n a → LeastIs test n b → a ≡ b
@@ -74,12 +73,10 @@ one_first test n (Some i) (Some j) first least =
 -- a scan has a break where it broke
 pub break_there : (index : ℕ) (ran : List Iterated) → has_break ran ≡ is_some (break_from index ran)
 break_there index [] = refl
-break_there index (it ∷ ran) = go (it.ret == 1) (break_there (index + 1) ran)
-  where
-    go : (b : Bool) → has_break ran ≡ is_some (break_from (index + 1) ran) → (b || has_break ran) ≡ is_some (if b
-        then Some index else break_from (index + 1) ran)
-    go true rest = refl
-    go false rest = rest
+break_there index (it ∷ ran) = elim (cases_Bool (it.ret == 1)) [
+  | inl here ↦ rw here refl
+  | inr on ↦ rw on (break_there (index + 1) ran)
+]
 
 module _ (iterate : ℕ → BoundedResult Iterated) where
   abbrev pub breaking : ℕ → Bool

@@ -1,10 +1,10 @@
 -- Each action changes an iteration's flags by its kind alone.
-use Rattle.std.proofs.Common.{◌≡◌, Bool, true, false, not, ◌&&◌, ◌||◌, List, [], ◌∷◌, ◌++◌, refl, ◌∙◌, ap}
-use Rattle.std.{specs.List.{list_any}, proofs.lemmas.List.Folds.{list_any-append}}
+use Rattle.std.proofs.Common.{◌≡◌, not, ◌&&◌, ◌||◌, List, [], ◌∷◌, ◌++◌, refl}
+use Rattle.std.{proofs.lemmas.List.Folds.{list_any-append}}
 use Rattle.std.proofs.Math.Bool.{or-true, or-false, and-true, and-false}
-use Rattle.array_maps.specs.{declared.access.Op.{Op}, Accesses.{Action, Read, Write, ReadWrite, Reduce}}
-use Rattle.loop_core_model.specs.Actions.{is_write, writes, is_plain_write, exposed, reduces_by}
-use Rattle.loop_core_model.specs.Flags.{kind_of, is_plain, Flags, flags_of, flagged, FlagsFollowKinds}
+use Rattle.array_maps.specs.{declared.access.Op.{Op}, Accesses.{Action, Read, Reduce}}
+use Rattle.loop_core_model.specs.Actions.{writes, is_plain_write, exposed}
+use Rattle.loop_core_model.specs.Flags.{kind_of, Flags, flags_of, flagged, FlagsFollowKinds}
 
 -- flags that agree are the same
 pub record FlagsAgree (a b : Flags) : Type 0 where

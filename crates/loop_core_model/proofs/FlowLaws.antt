@@ -1,5 +1,5 @@
 -- What conflicts by the flow test conflicts by the other too.
-use Rattle.std.{proofs.Common.{◌≡◌, ℕ, Bool, true, false, List, [], ◌∷◌, refl, ◌∙◌, ap}, specs.Prelude.{is_none, cond}}
+use Rattle.std.{proofs.Common.{◌≡◌, ℕ, Bool, false, List, [], ◌∷◌, refl, ◌∙◌, ap}, specs.Prelude.{is_none}}
 use Rattle.std.{specs.List.{filter, range_with_len}, proofs.{Common.{inl, inr}, lemmas.Bool.{cases_Bool}}}
 use Rattle.array_maps.specs.Accesses.{Action, Access}
 use Rattle.loop_core_model.specs.{declared.loop_test.Test.TheVariants.{Lrpd, Flow}, Actions.{joined, only_operator}}

@@ -1,7 +1,7 @@
 -- Blocks of a split without a fault give the least break and the counted iterations.
-use Rattle.std.proofs.Common.{◌≡◌, ℕ, zero, suc, ◌+◌, ◌-◌, ◌≤◌, ◌<◌, Bool, true, false, not, ◌&&◌, ◌||◌, ◌⊎◌, inl, inr}
+use Rattle.std.proofs.Common.{◌≡◌, ℕ, suc, ◌+◌, ◌-◌, ◌≤◌, ◌<◌, Bool, true, false, not, ◌&&◌, ◌||◌, inl, inr}
 use Rattle.std.proofs.Common.{List, [], ◌∷◌, ◌++◌, map, length, Option, Some, None, refl, sym, ◌∙◌, ap, subst, arith}
-use Rattle.std.specs.Prelude.{if◌then◌else◌, ◌==◌, nat_lt, min, cond, is_none, is_some, slice_get}
+use Rattle.std.specs.Prelude.{if◌then◌else◌, ◌==◌, nat_lt, min, is_none, is_some, slice_get}
 use Rattle.std.{specs.List.{list_any, AllByRecursion}, proofs.lemmas.List.{append-nil}}
 use Rattle.std.proofs.lemmas.{Bool.{cases_Bool, cases_lt, eqb-true, ltb-false, le-ltb, lt-ltb, and_parts}}
 use Rattle.std.proofs.lemmas.Option.{slice_get_within, get_or_from_slice_get}

@@ -4,7 +4,7 @@ use Rattle.std.{proofs.Common.{subst, append_assoc}, specs.{Prelude.{if◌then�
 use Rattle.std.{specs.Option.{option_or, option_map, unwrap_or}, proofs.lemmas.List.Sums.{fold-append}}
 use Rattle.std.proofs.lemmas.List.Elements.{filter_map-append}
 use Rattle.array_maps.specs.declared.access.Op.{Op}
-use Rattle.array_maps.specs.Accesses.{Action, Read, Write, ReadWrite, Reduce, combined, left_by_all}
+use Rattle.array_maps.specs.Accesses.{Action, Reduce, combined, left_by_all}
 use Rattle.loop_core_model.specs.Actions.{writes, is_same, reduces_by, joined, only_operator, operand_of, operands}
 use Rattle.loop_core_model.specs.{Committed.{last_that, last_value, committed_by}, Kept.{CommitsOfKept}}
 use Rattle.loop_core_model.proofs.OneElement.{and_true_left, and_true_right, same_op, all_parts, only_reduces}
@@ -38,12 +38,9 @@ all_applied op (block ∷ blocks) start word h =
     let parts : joined (block ++ joined blocks) ≡ joined block ++ joined (joined blocks) =
     joined-append block (joined blocks) in
     let all = all_parts (reduces_by op) (joined block) (joined (joined blocks)) (rw parts at h) in
-    ap (λ actions. fold (combined op) word (operands actions)) parts
-    ∙ ap (fold (combined op) word) (filter_map-append operand_of (joined block) (joined (joined blocks)))
-    ∙ fold-append (combined op) word (operands (joined block)) (operands (joined (joined blocks)))
-    ∙ ap (λ w. fold (combined op) w (operands (joined (joined blocks))))
-    (sym (partial_applied op (joined block) word all.0))
-    ∙ all_applied op blocks start (applied word (partial block)) all.1
+    rw (parts, filter_map-append operand_of (joined block) (joined (joined blocks)),
+    fold-append (combined op) word (operands (joined block)) (operands (joined (joined blocks))),
+    ← partial_applied op (joined block) word all.0) (all_applied op blocks start (applied word (partial block)) all.1)
 
 -- last writers
 pub last_that-append : (test : List Action → Bool) (xs ys : List (List Action)) → last_that test (xs ++ ys)

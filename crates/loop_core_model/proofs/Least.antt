@@ -1,6 +1,6 @@
 -- The least number that passes a test, and what a filter of a range keeps.
 use Rattle.std.proofs.Common.{◌≡◌, ℕ, zero, suc, ◌+◌, ◌<◌, ◌≤◌, Bool, true, false, ◌⊎◌, inl, inr, List, [], ◌∷◌, Option}
-use Rattle.std.{proofs.Common.{Some, None, refl, sym, ◌∙◌, ap, subst, arith, eqb}, specs.Prelude.{if◌then◌else◌, cond, min}}
+use Rattle.std.{proofs.Common.{Some, None, refl, sym, ◌∙◌, ap, arith}, specs.Prelude.{if◌then◌else◌, cond, min}}
 use Rattle.std.{specs.{Option.{option_or}, List.{filter, range_with_len}}, proofs.lemmas.Bool.{cases_eq}}
 use Rattle.loop_core_model.specs.LeastBreak.{least_below, count_to, lesser}
 

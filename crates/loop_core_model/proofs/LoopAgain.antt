@@ -1,17 +1,17 @@
 -- The loop in order does again what the counted iterations did on the start words.
-use Rattle.std.proofs.Common.{◌≡◌, ℕ, zero, suc, ◌+◌, Bool, true, false, List, [], ◌∷◌, ◌++◌, map, length, refl, sym, ◌∙◌}
-use Rattle.std.{proofs.Common.{ap, ap₂, subst, arith, add-zero}, specs.Prelude.{if◌then◌else◌, ◌==◌, is_none}}
-use Rattle.std.{specs.List.{AllByRecursion, range_with_len}, proofs.lemmas.List.{append-nil}}
+use Rattle.std.proofs.Common.{◌≡◌, ℕ, suc, ◌+◌, Bool, true, false, List, [], ◌∷◌, length, refl, sym, ◌∙◌}
+use Rattle.std.{proofs.Common.{ap, ap₂, arith, add-zero}, specs.Prelude.{if◌then◌else◌, ◌==◌}}
+use Rattle.std.{specs.List.{AllByRecursion}, proofs.lemmas.List.{append-nil}}
 use Rattle.std.proofs.lemmas.List.FromFn.{length-map-range_with_len}
 use Rattle.array_maps.{specs.Accesses.{Action, Access, words_after_all}, proofs.ElementLaws.{length-words_after_all}}
 use Rattle.bpf_insn_types.specs.Program.{Program}
-use Rattle.bpf_step_model.specs.{State.{LoopCall}, Run.{BoundedResult, Ended, Stuck, Unfinished, mapped, followed}}
+use Rattle.bpf_step_model.specs.{State.{LoopCall}, Run.{BoundedResult, Ended, followed}}
 use Rattle.bpf_step_model.{specs.Iteration.{Iterated, iteration}, proofs.Endings.{mapped_from}}
-use Rattle.bpf_step_model.specs.LoopInOrder.{Looped, behind, loop_from, loop_in_order}
+use Rattle.bpf_step_model.specs.LoopInOrder.{Looped, behind, loop_from}
 use Rattle.loop_core_model.specs.{declared.loop_test.Test.{Test, TheVariants.{Lrpd, Flow}}, Scan.{scan}}
-use Rattle.loop_core_model.specs.{Actions.{joined, only_operator}, Committed.{committed_words}, Law.{LoopLaw}}
-use Rattle.loop_core_model.specs.Conflict.{fails_lrpd, fails_flow, conflicts, at_element, conflicting}
-use Rattle.loop_core_model.specs.LeastBreak.{counted, counted_iterations, all_ended, accesses_of_each, in_front_of}
+use Rattle.loop_core_model.specs.{Actions.{joined}, Law.{LoopLaw}}
+use Rattle.loop_core_model.specs.Conflict.{conflicts, at_element, conflicting}
+use Rattle.loop_core_model.specs.LeastBreak.{counted, counted_iterations, all_ended, accesses_of_each}
 use Rattle.loop_core_model.proofs.{FlowLaws.{narrower}, OneElement.{Unharmed}, Turns.{all_committed}}
 use Rattle.loop_core_model.proofs.Turns.{Saws, InTurn, UnharmedEach, words_after_all-append, in_turn_at_start}
 use Rattle.loop_core_model.proofs.{RunAgain.{iteration_local}, Least.{filter_none}, ScanLaws.{counted_are_scanned}}

@@ -1,9 +1,9 @@
 -- What the marks of a set of iterations tell, and how they come about.
 use Rattle.std.proofs.Common.{◌≡◌, ℕ, ◌+◌, ◌-◌, ◌≤◌, Bool, true, false, not, ◌&&◌, ◌||◌, ◌⊎◌, inl, inr, List, [], ◌∷◌}
-use Rattle.std.{proofs.Common.{◌++◌, Option, Some, None, refl, sym, ◌∙◌, ap, arith}, specs.List.{list_any, count_by}}
+use Rattle.std.{proofs.Common.{◌++◌, Option, Some, None, refl, sym, ◌∙◌, ap, arith}, specs.List.{list_any}}
 use Rattle.std.{specs.Prelude.{if◌then◌else◌, ◌==◌, nat_lt, min, max, is_some}, proofs.lemmas.Bool.Decides.{nat_tests}}
-use Rattle.std.proofs.{Math.Bool.{or_assoc, or_comm, or-false}, lemmas.List.{map-append, Folds.{list_any-append}}}
-use Rattle.array_maps.specs.{declared.access.Op.{Op}, Accesses.{Action, operators}}
+use Rattle.std.proofs.{Math.Bool.{or_assoc, or_comm, or-false, and-false}, lemmas.List.{map-append, Folds.{list_any-append}}}
+use Rattle.array_maps.specs.{declared.access.Op.{Op}, Accesses.{Action}}
 use Rattle.loop_core_model.specs.{declared.loop_test.Test.{Test, TheVariants.{Lrpd, Flow}}, LeastBreak.{lesser}}
 use Rattle.loop_core_model.specs.Actions.{writes, exposed, reduces_by, joined, only_operator}
 use Rattle.loop_core_model.specs.{Conflict.{fails_lrpd, fails_flow, fails, conflicts}, Flags.{is_plain, flags_of}}
@@ -165,14 +165,10 @@ pub first_is_number : FirstIsNumber
 first_is_number = record { before = first_before; lesser_is = first_lesser }
 
 -- merging
-one_writes_once : (b : Bool) → ((b && false) || false) ≡ false
-one_writes_once true = refl
-one_writes_once false = refl
-
 one : (visit : Visit) → marks_of (visit ∷ []) ≡ marks_of_one visit.index (flags_of visit.actions)
 one visit = same_marks _ _ (record {
   written = or-false (writes visit.actions);
-  written_by_two = one_writes_once (writes visit.actions);
+  written_by_two = simp (and-false);
   read_only = or-false _;
   read_and_written = or-false _;
   first = lesser_none (if writes visit.actions then Some visit.index else None);
@@ -196,13 +192,6 @@ two_write-append (x ∷ xs) ys =
         || ((W || w1) && w2))
     go W w1 w2 m1 m2 = grind (arith, nat_tests)
 
-actions_of-append : (xs ys : List Visit) → actions_of (xs ++ ys) ≡ actions_of xs ++ actions_of ys
-actions_of-append xs ys = map-append (λ (visit : Visit). visit.actions) xs ys
-
-any-actions : (p : List Action → Bool) (xs ys : List Visit) →
-    list_any p (actions_of (xs ++ ys)) ≡ (list_any p (actions_of xs) || list_any p (actions_of ys))
-any-actions p xs ys = ap (list_any p) (actions_of-append xs ys) ∙ list_any-append p (actions_of xs) (actions_of ys)
-
 first-append : (xs ys : List Visit) → first_writer (xs ++ ys) ≡ lesser (first_writer xs) (first_writer ys)
 first-append [] ys = refl
 first-append (x ∷ xs) ys =
@@ -219,27 +208,20 @@ last-append (x ∷ xs) ys =
 
 both : (xs ys : List Visit) → marks_of (xs ++ ys) ≡ merged (marks_of xs) (marks_of ys)
 both xs ys = same_marks _ _ (record {
-  written = any-actions writes xs ys;
-  written_by_two = ap two_write (actions_of-append xs ys) ∙ two_write-append (actions_of xs) (actions_of ys);
-  read_only = any-actions (λ actions. exposed actions && not (writes actions)) xs ys;
-  read_and_written = any-actions (λ actions. exposed actions && writes actions) xs ys;
+  written = simp (map-append, list_any-append);
+  written_by_two = simp (map-append, two_write-append);
+  read_only = simp (map-append, list_any-append);
+  read_and_written = simp (map-append, list_any-append);
   first = first-append xs ys;
   last = last-append xs ys;
-  plain = any-actions (λ actions. list_any is_plain actions) xs ys;
-  by = λ op. any-actions (λ actions. list_any (reduces_by op) actions) xs ys;
+  plain = simp (map-append, list_any-append);
+  by = λ op. simp (map-append, list_any-append);
 })
-
-two_comm : (m n v w : Bool) → ((m || n) || (v && w)) ≡ ((n || m) || (w && v))
-two_comm m n v w = grind (arith, nat_tests)
-
-two_assoc : (m n k v w x : Bool) → ((((m || n) || (v && w)) || k) || ((v || w) && x)) ≡ ((m || ((n || k) || (w && x)))
-    || (v && (w || x)))
-two_assoc m n k v w x = grind (arith, nat_tests)
 
 either_first : (a b : Marks) → merged a b ≡ merged b a
 either_first a b = same_marks _ _ (record {
   written = or_comm a.written b.written;
-  written_by_two = two_comm a.written_by_two b.written_by_two a.written b.written;
+  written_by_two = grind (arith, nat_tests);
   read_only = or_comm a.read_only b.read_only;
   read_and_written = or_comm a.read_and_written b.read_and_written;
   first = lesser_comm a.first b.first;
@@ -251,7 +233,7 @@ either_first a b = same_marks _ _ (record {
 any_grouping : (a b c : Marks) → merged (merged a b) c ≡ merged a (merged b c)
 any_grouping a b c = same_marks _ _ (record {
   written = or_assoc a.written b.written c.written;
-  written_by_two = two_assoc a.written_by_two b.written_by_two c.written_by_two a.written b.written c.written;
+  written_by_two = grind (arith, nat_tests);
   read_only = or_assoc a.read_only b.read_only c.read_only;
   read_and_written = or_assoc a.read_and_written b.read_and_written c.read_and_written;
   first = lesser_assoc a.first b.first c.first;

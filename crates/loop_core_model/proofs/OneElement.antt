@@ -5,7 +5,7 @@ use Rattle.std.{proofs.Common.{None, refl, sym, ◌∙◌, ap, subst}, specs.Pre
 use Rattle.std.specs.{Option.{option_or, option_map, unwrap_or}, List.{list_any, list_all, fold}}
 use Rattle.std.proofs.lemmas.{Bool.{and_parts, or_parts, or_from}, List.Folds.{list_all-append}}
 use Rattle.array_maps.specs.declared.access.Op.{Op, TheVariants.{Add, Or, And, Xor, AddH}}
-use Rattle.array_maps.specs.Accesses.{Action, Read, Write, ReadWrite, Reduce, combined, left_by, left_by_all, SawEach}
+use Rattle.array_maps.specs.Accesses.{Action, Read, Write, Reduce, combined, left_by, left_by_all, SawEach}
 use Rattle.loop_core_model.specs.Actions.{writes, exposed, is_same, reduces_by, joined, only_operator, operands}
 use Rattle.loop_core_model.specs.{Conflict.{fails_lrpd, fails_flow}, Committed.{last_that, committed_by, committed}}
 
@@ -114,10 +114,10 @@ pub holds_next : (start word : ℕ) (first : List Action) (rest : List (List Act
 holds_next start word first rest (inl reduced) =
     inl (reduced.0, (all_parts (reduces_by reduced.0) first (joined rest) reduced.1).1)
 holds_next start word first rest (inr calm) =
+    let parts = or_parts (writes first && list_any exposed rest) _ calm.0 in
     inr (
-      or_false_right (writes first && list_any exposed rest) _ calm.0,
-      calm_next start word first rest (writes first) refl (or_false_left (writes first && list_any exposed rest) _
-          calm.0) calm.1,
+      parts.1,
+      calm_next start word first rest (writes first) refl parts.0 calm.1,
     )
 
 pub left_by_all-append : (xs ys : List Action) (word : ℕ) → left_by_all (xs ++ ys) word ≡ left_by_all ys
@@ -148,13 +148,12 @@ pub last_left : (start word : ℕ) (iterations : List (List Action)) → fails_f
     left_by_all (joined iterations) word ≡ picked (last_that writes iterations) start word
 last_left start word [] unharmed calm = refl
 last_left start word (first ∷ rest) unharmed calm =
+    let parts = or_parts (writes first && list_any exposed rest) _ unharmed in
     left_by_all-append first (joined rest) word
-    ∙ last_left start (left_by_all first word) rest (or_false_right (writes first && list_any exposed rest) _ unharmed)
-    (calm_next start word first rest (writes first) refl (or_false_left (writes first && list_any exposed rest) _
-    unharmed) calm)
+    ∙ last_left start (left_by_all first word) rest parts.1 (calm_next start word first rest (writes first) refl parts.0
+    calm)
     ∙ picked-option_or (last_that writes rest) (if writes first then Some first else None) start word
-    (left_by_all first word)
-    (first_left start word first rest (writes first) refl calm)
+    (left_by_all first word) (first_left start word first rest (writes first) refl calm)
 
 picked_at_start : (o : Option (List Action)) (start : ℕ)
     → picked o start start ≡ unwrap_or (option_map (λ actions. left_by_all actions start) o) start

@@ -1,19 +1,15 @@
 -- Each operator is associative.
-use Rattle.std.proofs.Common.{◌≡◌, ℕ, zero, suc, ◌+◌, ◌*◌, ◌<◌, ◌⊎◌, inl, inr, List, [], ◌∷◌, refl, sym, ◌∙◌, ap, arith}
-use Rattle.std.specs.{Prelude.{◌/◌, ◌%◌, ◌^◌, bit_and, bit_or, bit_xor}, List.{fold}, Int.Bits.{xor_assoc, or_zero_l}}
-use Rattle.std.proofs.Math.Nat.{mod-mod, add-mod-mod, mod-add-mod, add_assoc}
+use Rattle.std.proofs.Common.{◌≡◌, ℕ, List, [], ◌∷◌, refl, sym, ◌∙◌, ap, arith}
+use Rattle.std.specs.{Prelude.{◌%◌, ◌^◌, bit_and, bit_or, bit_xor}, List.{fold}, Int.Bits.{xor_assoc}}
+use Rattle.std.proofs.Math.Nat.{mod-mod}
 use Rattle.std.proofs.lemmas.{Nat.{and_assoc, and_mod, or_mod, xor_mod}, Nat.Bits.{bit_at_or, same_from_bits}}
 use Rattle.bpf_insn_types.specs.Words.{alu}
 use Rattle.array_maps.specs.{declared.access.Op.{Op, TheVariants.{Add, Or, And, Xor, AddH}}, Accesses.{combined}}
-use Rattle.array_maps.specs.Halves.{of_halves, half_of, halves_added}
+use Rattle.array_maps.specs.Halves.{half_of, halves_added}
 use Rattle.loop_core_model.specs.Kept.{combined_from_first, applied, OperatorsAssociate}
 
 or_assoc : (a b c : ℕ) → bit_or (bit_or a b) c ≡ bit_or a (bit_or b c)
 or_assoc a b c = same_from_bits _ _ (λ i. simp bit_at_or (omega arith))
-
--- sums that wrap
-wrapped_assoc : (a b c m : ℕ) → ((a + b) % m + c) % m ≡ (a + (b + c) % m) % m
-wrapped_assoc a b c m = mod-add-mod (a + b) m c ∙ ap (λ n. n % m) (add_assoc a b c) ∙ sym (add-mod-mod a (b + c) m)
 
 -- an operator on the low 64 bits, whose results keep to them
 low_assoc : (f : ℕ → ℕ → ℕ) → ((a b : ℕ) → f a b % 2 ^ 64 ≡ f (a % 2 ^ 64) (b % 2 ^ 64))
@@ -27,35 +23,13 @@ low_assoc f fits assoc a b c =
     kept x y = fits (x % 2 ^ 64) (y % 2 ^ 64) ∙ ap (λ n. f n (y % 2 ^ 64 % 2 ^ 64)) (mod-mod x (2 ^ 64))
         ∙ ap (f (x % 2 ^ 64)) (mod-mod y (2 ^ 64))
 
--- the halves of a word of two halves
-low_half : (low high : ℕ) → of_halves low high % 2 ^ 32 ≡ low % 2 ^ 32
-low_half low high = omega arith
-
-high_half : (low high : ℕ) → of_halves low high / 2 ^ 32 ≡ high % 2 ^ 32
-high_half low high = omega arith
-
 halves_assoc : (a b c : ℕ) → halves_added (halves_added a b) c ≡ halves_added a (halves_added b c)
 unfolding halves_added half_of
-halves_assoc a b c =
-    ap (λ n. of_halves (n + c % 2 ^ 32) (halves_added a b / 2 ^ 32 + c / 2 ^ 32)) (low_half (a % 2 ^ 32 + b % 2 ^ 32)
-    (a / 2 ^ 32 + b / 2 ^ 32))
-    ∙ ap (λ n. of_halves ((a % 2 ^ 32 + b % 2 ^ 32) % 2 ^ 32 + c % 2 ^ 32) (n + c / 2 ^ 32))
-    (high_half (a % 2 ^ 32 + b % 2 ^ 32) (a / 2 ^ 32 + b / 2 ^ 32))
-    ∙ ap (λ n. n + 2 ^ 32 * (((a / 2 ^ 32 + b / 2 ^ 32) % 2 ^ 32 + c / 2 ^ 32) % 2 ^ 32))
-    (wrapped_assoc (a % 2 ^ 32) (b % 2 ^ 32) (c % 2 ^ 32) (2 ^ 32))
-    ∙ ap (λ n. (a % 2 ^ 32 + (b % 2 ^ 32 + c % 2 ^ 32) % 2 ^ 32) % 2 ^ 32 + 2 ^ 32 * n)
-    (wrapped_assoc (a / 2 ^ 32) (b / 2 ^ 32) (c / 2 ^ 32) (2 ^ 32))
-    ∙ sym (ap (λ n. of_halves (a % 2 ^ 32 + n) (a / 2 ^ 32 + halves_added b c / 2 ^ 32))
-    (low_half (b % 2 ^ 32 + c % 2 ^ 32) (b / 2 ^ 32 + c / 2 ^ 32))
-    ∙ ap (λ n. of_halves (a % 2 ^ 32 + (b % 2 ^ 32 + c % 2 ^ 32) % 2 ^ 32) (a / 2 ^ 32 + n))
-    (high_half (b % 2 ^ 32 + c % 2 ^ 32) (b / 2 ^ 32 + c / 2 ^ 32)))
+halves_assoc a b c = omega arith
 
 each_associates : (op : Op) (a b c : ℕ) → combined op (combined op a b) c ≡ combined op a (combined op b c)
 unfolding combined alu halves_added
-each_associates Add a b c =
-    ap (λ n. (n + c % 2 ^ 64) % 2 ^ 64) (mod-mod (a % 2 ^ 64 + b % 2 ^ 64) (2 ^ 64))
-    ∙ wrapped_assoc (a % 2 ^ 64) (b % 2 ^ 64) (c % 2 ^ 64) (2 ^ 64)
-    ∙ ap (λ n. (a % 2 ^ 64 + n) % 2 ^ 64) (sym (mod-mod (b % 2 ^ 64 + c % 2 ^ 64) (2 ^ 64)))
+each_associates Add a b c = omega arith
 each_associates Or a b c = low_assoc bit_or (λ x y. or_mod x y 64) or_assoc a b c
 each_associates And a b c = low_assoc bit_and (λ x y. and_mod x y 64) (λ x y z. and_assoc z x y) a b c
 each_associates Xor a b c = low_assoc bit_xor (λ x y. xor_mod x y 64) xor_assoc a b c

@@ -1,5 +1,5 @@
 -- The outcome of a loop by a test, from the law of speculation.
-use Rattle.std.proofs.Common.{◌≡◌, ℕ, List, length, ◌∙◌, ap}
+use Rattle.std.proofs.Common.{◌≡◌, ℕ, List, length, refl}
 use Rattle.array_maps.specs.Accesses.{Access}
 use Rattle.bpf_insn_types.specs.Program.{Program}
 use Rattle.bpf_step_model.specs.{State.{LoopCall}, Run.{BoundedResult, Ended, mapped, followed}}
@@ -17,12 +17,7 @@ outcome_is : (test : Test) (program : Program) (bound : ℕ) (call : LoopCall) (
       answer = looped.answer;
       words = looped.words;
     })
-outcome_is test program bound call words runs elements looped r c l =
-    let told : verdict test program bound call words ≡ Ended (judged elements) =
-    ap (mapped (λ (rs : List (List Access)). judged (conflicting test rs (length words)))) r
-    ∙ ap (λ (es : List ℕ). Ended (judged es)) c in
-    ap (followed (judged_as (verdict test program bound call words))) l
-    ∙ ap (λ (v : BoundedResult Verdict). judged_as v looped) told
+outcome_is test program bound call words runs elements looped r c l = rw (r, c, l) refl
 
 pub outcome_by_test : OutcomeByTest
 outcome_by_test = record {

@@ -1,11 +1,12 @@
 -- The elements of a plane are counted by the bits of its words.
 use Rattle.std.proofs.Common.{◌≡◌, ℕ, zero, suc, ◌+◌, ◌*◌, ◌/◌, ◌%◌, ◌^◌, ◌≤◌, ◌<◌, Bool, true, false, cond, List, []}
 use Rattle.std.proofs.Common.{◌∷◌, ◌++◌, length, map, refl, sym, ◌∙◌, ap, ap₂, subst, arith, Option, Some, None}
-use Rattle.std.specs.{Prelude.{◌==◌, count_ones, slice_index_or, if◌then◌else◌}, Int.{w64, bit_at, trailing_zeros}}
+use Rattle.std.specs.{Prelude.{◌==◌, count_ones, slice_index_or}, Int.{w64, bit_at, trailing_zeros}}
 use Rattle.std.specs.{Int.Count.{ones_step}, List.{filter, range_with_len}, Option.{option_map}}
 use Rattle.std.proofs.{Math.Nat.{pow-suc}, lemmas.{Bool.Decides.{nat_tests}, List.{length-map, length-append}}}
 use Rattle.std.proofs.lemmas.{List.Elements.{filter-append}, Nat.{ones_le_self}}
 use Rattle.std.proofs.lemmas.Nat.Bits.{bit_at_lowest, bit_at-suc, bit_at-zero, bit_at-trailing_zeros}
+use Rattle.std.proofs.{Common.{inl, inr}, lemmas.Bool.{cases_Bool, eqb-true, eqb-false}}
 use Rattle.array_maps.specs.MapList.{AreWords}
 use Rattle.loop_core_model.specs.{declared.verdict.Verdict.TheVariants.{Conflict}, Report.{judged}}
 use Rattle.loop_core_model.specs.Planes.{bit_of, elements_in_plane, least_element_in, judged_by, set_bits, least_bit}
@@ -66,32 +67,22 @@ bits_in-count zero word h =
     no_ones = let few : count_ones 0 ≤ 0 = ones_le_self 0 in omega arith
 bits_in-count (suc width) word h =
     let half : word / 2 < 2 ^ width = halved (2 ^ width) (subst (λ (n : ℕ). word < n) (pow-suc 2 width) h) in
-    by_test (bit_at word 0 == 1) (filter (λ i. bit_at word i == 1) (range_with_len 1 width)) refl
-    (ap length (filter-moved (λ i. bit_at word i == 1) (λ i. bit_at (word / 2) i == 1) 1 0 width (λ e. next e))
+    let rest : length (filter (λ i. bit_at word i == 1) (range_with_len 1 width)) ≡ count_ones (word / 2) =
+    ap length (filter-moved (λ i. bit_at word i == 1) (λ i. bit_at (word / 2) i == 1) 1 0 width (λ e. next e))
     ∙ length-map (filter (λ i. bit_at (word / 2) i == 1) (range_with_len 0 width)) (λ e. 1 + e)
-    ∙ bits_in-count width (word / 2) half)
+    ∙ bits_in-count width (word / 2) half in
+    let low : bit_at word 0 ≡ word % 2 = bit_at_lowest word in
+    let step : count_ones word ≡ word % 2 + count_ones (word / 2) = ones_step word in
+    elim (cases_Bool (bit_at word 0 == 1)) [
+      | inl one ↦ (let is : bit_at word 0 ≡ 1 = eqb-true (bit_at word 0) 1 one in rw one (omega arith))
+      | inr none ↦ (let other = eqb-false (bit_at word 0) 1 none in rw none (omega arith))
+    ]
   where
     halved : (n : ℕ) → word < n * 2 → word / 2 < n
     halved n less = omega arith
 
     next : (e : ℕ) → (bit_at word (1 + e) == 1) ≡ (bit_at (word / 2) e == 1)
     next e = let on : 1 + e ≡ suc e = omega arith in ap (λ n. n == 1) (ap (bit_at word) on ∙ bit_at-suc word e)
-
-    by_test : (b : Bool) (rest : List ℕ) → (bit_at word 0 == 1) ≡ b → length rest ≡ count_ones (word / 2)
-        → length (cond b (0 ∷ rest) rest) ≡ count_ones word
-    by_test true rest e count =
-        let low : bit_at word 0 ≡ word % 2 = bit_at_lowest word in
-        let is : bit_at word 0 ≡ 1 = grind (arith, nat_tests) in
-        let step : count_ones word ≡ word % 2 + count_ones (word / 2) = ones_step word in
-        omega arith
-    by_test false rest e count =
-        let low : bit_at word 0 ≡ word % 2 = bit_at_lowest word in
-        let is : bit_at word 0 < 1 = none_at (bit_at word 0) (omega arith) e in
-        let step : count_ones word ≡ word % 2 + count_ones (word / 2) = ones_step word in
-        omega arith
-      where
-        none_at : (n : ℕ) → n < 2 → (n == 1) ≡ false → n < 1
-        none_at n less not_one = grind (arith, nat_tests)
 
 -- the least number that passes
 least-filter : (p : ℕ → Bool) (from count at : ℕ) → at < count → p (from + at) ≡ true
@@ -100,16 +91,14 @@ least-filter : (p : ℕ → Bool) (from count at : ℕ) → at < count → p (fr
 least-filter p from zero at h here below = absurd (omega arith)
 least-filter p from (suc count) zero h here below =
     let at_first : from + 0 ≡ from = omega arith in
-    ap (λ b. least_element_in (cond b (from ∷ filter p (range_with_len (from + 1) count))
-    (filter p (range_with_len (from + 1) count)))) (ap p (sym at_first) ∙ here) ∙ ap Some (sym at_first)
+    let on : p from ≡ true = rw at_first at here in
+    rw (on, at_first) refl
 least-filter p from (suc count) (suc at) h here below =
     let at_first : from ≡ from + 0 = omega arith in
-    let on : from + 1 + at ≡ from + suc at = omega arith in
-    ap (λ b. least_element_in (cond b (from ∷ filter p (range_with_len (from + 1) count))
-    (filter p (range_with_len (from + 1) count)))) (ap p at_first ∙ below 0 (omega arith))
-    ∙ least-filter p (from + 1) count at (omega arith) (ap p on ∙ here)
-    (λ i less. let on_i : from + 1 + i ≡ from + suc i = omega arith in ap p on_i ∙ below (suc i) (omega arith))
-    ∙ ap Some on
+    let off : p from ≡ false = ap p at_first ∙ below 0 (omega arith) in
+    let on : (i : ℕ) → from + 1 + i ≡ from + suc i = λ i. omega arith in
+    rw off (least-filter p (from + 1) count at (omega arith) (ap p (on at) ∙ here)
+    (λ i less. ap p (on i) ∙ below (suc i) (omega arith)) ∙ ap Some (on at))
 
 bits_in-least : (width word : ℕ) → width ≡ 64 → word < 2 ^ 64 → 0 < word → least_element_in (bits_in width word)
     ≡ Some (trailing_zeros w64 word)
@@ -155,24 +144,16 @@ elements-least : (width : ℕ) → width ≡ 64 → (k : ℕ) (words : List ℕ)
 elements-least width wide k [] are = refl
 elements-least width wide k (word ∷ words) are =
     ap (λ es. option_map (λ e. 64 * k + e) (least_element_in es)) (elements-cons width wide word words)
-    ∙ by_word (word == 0) refl (elements-least width wide (k + 1) words are.1)
-  where
-    by_word : (b : Bool) → (word == 0) ≡ b → option_map (λ e. 64 * (k + 1) + e)
-        (least_element_in (elements_in_plane words)) ≡ least_bit (k + 1) words →
-        option_map (λ e. 64 * k + e) (least_element_in (bits_in width word
-        ++ map (λ e. width + e) (elements_in_plane words)))
-        ≡ (if b then least_bit (k + 1) words else Some (64 * k + trailing_zeros w64 word))
-    by_word true is behind =
-        let zero_is : word ≡ 0 = grind (arith, nat_tests) in
-        ap (λ bits. option_map (λ e. 64 * k + e)
-        (least_element_in (bits ++ map (λ e. width + e) (elements_in_plane words)))) (ap (bits_in width) zero_is
-        ∙ bits_in-none width)
-        ∙ least-moved width k wide (elements_in_plane words) ∙ behind
-    by_word false is behind =
-        let some : 0 < word = grind (arith, nat_tests) in
-        ap (option_map (λ e. 64 * k + e))
-        (least-append (bits_in width word) (map (λ e. width + e) (elements_in_plane words)) (trailing_zeros w64 word)
-        (bits_in-least width word wide are.0 some))
+    ∙ elim (cases_Bool (word == 0)) [
+      | inl is ↦
+          let zero_is : word ≡ 0 = grind (arith, nat_tests) in
+          rw (is, zero_is, bits_in-none width) (least-moved width k wide (elements_in_plane words)
+          ∙ elements-least width wide (k + 1) words are.1)
+      | inr is ↦
+          let some : 0 < word = grind (arith, nat_tests) in
+          rw is (ap (option_map (λ e. 64 * k + e)) (least-append (bits_in width word) (map (λ e. width + e)
+          (elements_in_plane words)) (trailing_zeros w64 word) (bits_in-least width word wide are.0 some)))
+    ]
 
 from_zero : (o : Option ℕ) → option_map (λ e. 64 * 0 + e) o ≡ o
 from_zero None = refl

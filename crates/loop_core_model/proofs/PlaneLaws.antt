@@ -8,30 +8,26 @@ pub range-append : (from few more : ℕ) → range_with_len from (few + more) �
     ++ range_with_len (from + few) more
 range-append from zero more =
     let none : zero + more ≡ more = omega arith in
-    let here : from ≡ from + zero = omega arith in
-    ap (range_with_len from) none ∙ ap (λ n. range_with_len n more) here
+    let here : from + zero ≡ from = omega arith in
+    rw (none, here) refl
 range-append from (suc few) more =
     let one_more : suc few + more ≡ suc (few + more) = omega arith in
     let there : from + 1 + few ≡ from + suc few = omega arith in
-    ap (range_with_len from) one_more ∙ ap (λ rest. from ∷ rest) (range-append (from + 1) few more
-    ∙ ap (λ n. range_with_len (from + 1) few ++ range_with_len n more) there)
+    rw (one_more, range-append (from + 1) few more, there) refl
 
 pub filter-same : (p q : ℕ → Bool) (from count : ℕ) → ((e : ℕ) → from ≤ e → e < from + count → p e ≡ q e)
     → filter p (range_with_len from count) ≡ filter q (range_with_len from count)
 filter-same p q from zero same = refl
 filter-same p q from (suc count) same =
-    ap (λ b. cond b (from ∷ filter p (range_with_len (from + 1) count)) (filter p (range_with_len (from + 1) count)))
-    (same from (omega arith) (omega arith))
-    ∙ ap (λ rest. cond (q from) (from ∷ rest) rest) (filter-same p q (from + 1) count
-    (λ e low high. same e (omega arith) (omega arith)))
+    rw (same from (omega arith) (omega arith),
+    filter-same p q (from + 1) count (λ e low high. same e (omega arith) (omega arith))) refl
 
 pub filter-none : (p : ℕ → Bool) (from count : ℕ) → ((e : ℕ) → from ≤ e → e < from + count → p e ≡ false)
     → filter p (range_with_len from count) ≡ []
 filter-none p from zero none = refl
 filter-none p from (suc count) none =
-    ap (λ b. cond b (from ∷ filter p (range_with_len (from + 1) count)) (filter p (range_with_len (from + 1) count)))
-    (none from (omega arith) (omega arith))
-    ∙ filter-none p (from + 1) count (λ e low high. none e (omega arith) (omega arith))
+    rw (none from (omega arith) (omega arith))
+    (filter-none p (from + 1) count (λ e low high. none e (omega arith) (omega arith)))
 
 split_plane : (p test : ℕ → Bool) (elements all : ℕ) → elements ≤ all → ((e : ℕ) → e < elements → p e ≡ test e)
     → ((e : ℕ) → elements ≤ e → e < all → p e ≡ false) →

@@ -1,11 +1,11 @@
 -- The marks of reductions tell which elements are reduction-only.
 use Rattle.std.proofs.Common.{◌≡◌, ℕ, Bool, true, false, not, ◌&&◌, ◌||◌, List, [], ◌∷◌, Some, None, refl, sym, ◌∙◌, ap}
-use Rattle.std.{proofs.Common.{subst, arith}, specs.Prelude.{if◌then◌else◌, ◌==◌, is_some}}
+use Rattle.std.{proofs.Common.{inl, inr, arith}, specs.Prelude.{if◌then◌else◌, ◌==◌, is_some}}
 use Rattle.std.{specs.List.{list_any, list_all, count_by}, proofs.lemmas.Bool.Decides.{nat_tests}}
 use Rattle.std.proofs.Math.Bool.{and-false}
-use Rattle.std.proofs.lemmas.{Bool.{or_left, and_right, not_from_true}, List.Folds.{list_any-append, list_any_at}}
+use Rattle.std.proofs.lemmas.{Bool.{cases_Bool, or_left, and_right, not_from_true}, List.Folds.{list_any-append, list_any_at}}
 use Rattle.array_maps.specs.declared.access.Op.{Op, TheVariants.{Add, Or, And, Xor, AddH}}
-use Rattle.array_maps.specs.Accesses.{Action, Read, Write, ReadWrite, Reduce, operators}
+use Rattle.array_maps.specs.Accesses.{Action, Reduce, operators}
 use Rattle.loop_core_model.specs.{Actions.{is_same, reduces_by, joined, only_operator}, Flags.{is_plain}}
 use Rattle.loop_core_model.proofs.OneElement.{same_op, is_same-refl}
 
@@ -52,20 +52,12 @@ and_not_true a b h = sym (and_right a (not b) (not_from_true b h))
 all_alone : (op : Op) (actions : List Action) → list_all (reduces_by op) actions ≡ (not (plain actions)
     && not (another op (has actions)))
 all_alone op [] = simp and-false
-all_alone op (Reduce other operand ∷ actions) = go (all_alone op actions) (is_same op other) refl
-  where
-    go : list_all (reduces_by op) actions ≡ (not (plain actions) && not (another op (has actions))) → (b : Bool)
-        → is_same op other ≡ b →
-        (b && list_all (reduces_by op) actions) ≡ (not (plain actions)
-        && not (another op (has (Reduce other operand ∷ actions))))
-    go rest true same =
-        subst (λ (o : Op). list_all (reduces_by op) actions ≡ (not (plain actions)
-        && not (another op (has (Reduce o operand ∷ actions))))) (same_op op other same)
-        (rest ∙ ap (λ b. not (plain actions) && not b) (sym (another_same op operand actions)))
-    go rest false apart =
-        and_not_true (not (plain actions)) (another op (has (Reduce other operand ∷ actions)))
-        (any_operator (λ o. not (is_same op o) && has (Reduce other operand ∷ actions) o) other
-        (not_and (is_same op other) (is_same other other) (has actions other) apart (is_same-refl other)))
+all_alone op (Reduce other operand ∷ actions) = elim (cases_Bool (is_same op other)) [
+  | inl same ↦ rw (same, ← same_op op other same, another_same op operand actions) (all_alone op actions)
+  | inr apart ↦ rw apart (and_not_true (not (plain actions)) (another op (has (Reduce other operand ∷ actions)))
+      (any_operator (λ o. not (is_same op o) && has (Reduce other operand ∷ actions) o) other
+      (not_and (is_same op other) (is_same other other) (has actions other) apart (is_same-refl other))))
+]
 all_alone op (_ ∷ actions) = refl
 
 -- where an operator passes, exactly one does if no other passes

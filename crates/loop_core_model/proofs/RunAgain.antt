@@ -1,17 +1,17 @@
 -- A run knows the maps by what it sees alone: over other words where each of its accesses sees the same, it is the
 -- same.
-use Rattle.std.proofs.Common.{◌≡◌, ℕ, zero, suc, ◌<◌, Bool, true, false, List, [], ◌∷◌, length, Option, Some, None}
-use Rattle.std.{proofs.Common.{refl, sym, ◌∙◌, ap, subst}, specs.Prelude.{slice_get, slice_index, if◌then◌else◌, ◌==◌}}
-use Rattle.std.proofs.lemmas.Bool.{eqb-true, eq-eqb}
+use Rattle.std.proofs.Common.{◌≡◌, ℕ, zero, suc, ◌<◌, List, [], ◌∷◌, length, Option, Some, None}
+use Rattle.std.{proofs.Common.{inl, inr, refl, sym, ◌∙◌, ap, subst}, specs.Prelude.{slice_get, slice_index, ◌==◌}}
+use Rattle.std.proofs.lemmas.Bool.{cases_Bool, eqb-true, eq-eqb}
 use Rattle.std.proofs.lemmas.Option.{slice_get_within, slice_get-get_or, get_or_from_slice_get}
-use Rattle.array_maps.specs.Accesses.{Action, Access, Saw, SawEach, actions_at, words_after, words_after_all}
+use Rattle.array_maps.specs.Accesses.{Access, Saw, SawEach, actions_at, words_after, words_after_all}
 use Rattle.array_maps.proofs.ElementLaws.{length-words_after, element_after_all}
 use Rattle.bpf_insn_types.specs.Program.{Program}
-use Rattle.bpf_step_model.specs.{State.{Machine, LoopCall, callback_entry}, Step.{Loops, Refuses, Exits, step}}
+use Rattle.bpf_step_model.specs.{State.{Machine, LoopCall, callback_entry}, Step.{step}}
 use Rattle.bpf_step_model.specs.Step.{Request, Load, Store, StoreHalf, Update, Fetch, StepOutcome, NoStep, Next, Asks}
-use Rattle.bpf_step_model.specs.Run.{BoundedResult, Ended, Stuck, Unfinished, StopReason, Exit, Loop, Refused}
-use Rattle.bpf_step_model.specs.Run.{RunSegment, action_of, after_request, mapped, followed, with_first_step, ended_by}
-use Rattle.bpf_step_model.{specs.Run.{after_access, after_step, run}, proofs.Endings.{mapped_from, ended_same}}
+use Rattle.bpf_step_model.specs.Run.{BoundedResult, Ended, Stuck, Unfinished, StopReason, Exit}
+use Rattle.bpf_step_model.specs.Run.{RunSegment, action_of, after_request, mapped, followed, with_first_step}
+use Rattle.bpf_step_model.{specs.Run.{after_access, after_step, run}, proofs.Endings.{ended_same}}
 use Rattle.bpf_step_model.specs.Iteration.{Iterated, exited_by, exited, iteration}
 use Rattle.loop_core_model.proofs.Turns.{Saws}
 
@@ -27,15 +27,12 @@ saws_tail : (access : Access) (accesses : List Access) (words : List ℕ) → Sa
     → Saws accesses (words_after access words)
 saws_tail access accesses words saws e inside =
     let within : e < length words = subst (λ (n : ℕ). e < n) (length-words_after access words) inside in
+    let saw = saws e within in
     subst (SawEach (actions_at e accesses)) (sym (element_after_all (access ∷ []) words e within))
-    (go (access.element == e) (saws e within))
-  where
-    go : (here : Bool) → SawEach (if here then access.action ∷ actions_at e accesses else actions_at e accesses)
-        (slice_index words e) →
-        SawEach (actions_at e accesses) (Rattle.array_maps.specs.Accesses.left_by_all (if here then access.action ∷ []
-        else []) (slice_index words e))
-    go true saw = saw.1
-    go false saw = saw
+    (elim (cases_Bool (access.element == e)) [
+      | inl here ↦ rw here (rw here at saw).1
+      | inr other ↦ rw other (rw other at saw)
+    ])
 
 -- and the other way round
 saws_cons : (access : Access) (accesses : List Access) (words : List ℕ)
@@ -44,19 +41,16 @@ saws_cons : (access : Access) (accesses : List Access) (words : List ℕ)
 saws_cons access accesses words saw saws e inside =
     let within : e < length (words_after access words) =
     subst (λ (n : ℕ). e < n) (sym (length-words_after access words)) inside in
-    go (access.element == e) refl (subst (SawEach (actions_at e accesses)) (element_after_all (access ∷ []) words e
-    inside) (saws e within))
-  where
-    go : (here : Bool) → (access.element == e) ≡ here →
-        SawEach (actions_at e accesses) (Rattle.array_maps.specs.Accesses.left_by_all (if here then access.action ∷ []
-        else []) (slice_index words e)) →
-        SawEach (if here then access.action ∷ actions_at e accesses else actions_at e accesses) (slice_index words e)
-    go true same later = (
-      subst (λ (k : ℕ). Saw access.action (slice_index words k)) (eqb-true access.element e same)
-          saw,
-      later,
-    )
-    go false other later = later
+    let later = subst (SawEach (actions_at e accesses)) (element_after_all (access ∷ []) words e inside)
+    (saws e within) in
+    elim (cases_Bool (access.element == e)) [
+      | inl same ↦ rw same (
+        subst (λ (k : ℕ). Saw access.action (slice_index words k)) (eqb-true access.element e same)
+            saw,
+        rw same at later,
+      )
+      | inr other ↦ rw other (rw other at later)
+    ]
 
 -- a request at a word saw that word
 action_saw : (request : Request) (word : ℕ) → Saw (action_of request word) word
@@ -188,9 +182,11 @@ exit_local again words (Ended s) it h ended = by_turn s.turn refl ended
   where
     by_turn : (turn : StopReason) → s.turn ≡ turn → exited_by turn s ≡ Ended it → LocalIteration again words it
     by_turn (Exit ret) turns ended =
-        subst (LocalIteration again words) (ended_same _ it ended)
-        (h.0, λ others same saws. ap (followed exited) (h.1 others same saws)
-        ∙ ap (λ turn. exited_by turn (over others s)) turns)
+        subst (LocalIteration again words) (ended_same _ it ended) (
+          h.0,
+          λ others same saws. ap (followed exited) (h.1 others same saws)
+              ∙ ap (λ turn. exited_by turn (over others s)) turns,
+        )
     by_turn _ turns ended = absurd (cc)
 
 pub iteration_local : (program : Program) (bound : ℕ) (call : LoopCall) (index : ℕ)

@@ -1,12 +1,11 @@
 -- Blocks of a split that were run, and their numbers.
 use Rattle.std.proofs.Common.{◌≡◌, ℕ, zero, suc, ◌+◌, ◌-◌, ◌<◌, ◌≤◌, Bool, true, false, ◌⊎◌, inl, inr, List, [], ◌∷◌}
-use Rattle.std.proofs.Common.{Option, Some, None, refl, sym, ◌∙◌, ap, subst, arith}
-use Rattle.std.specs.Prelude.{not, ◌&&◌, ◌==◌, map, length, cond, is_none, slice_get, slice_index, if◌then◌else◌}
+use Rattle.std.proofs.Common.{Option, refl, sym, ◌∙◌, ap, subst, arith}
+use Rattle.std.specs.Prelude.{not, ◌&&◌, ◌==◌, map, length, is_none, slice_get, slice_index}
 use Rattle.std.specs.List.{list_any, AllByRecursion}
 use Rattle.std.proofs.lemmas.Bool.{eqb-true, eq-eqb, cases_Bool, and_parts, and_left, and_right, not_from_true, or_from}
-use Rattle.bpf_step_model.specs.{Run.{BoundedResult, Ended, Stuck, Unfinished, followed}, Iteration.{Iterated}}
-use Rattle.bpf_step_model.proofs.Endings.{mapped_from}
-use Rattle.loop_core_model.specs.{LeastBreak.{is_break, lesser, in_front_of}, Scan.{up_to_break, scan}}
+use Rattle.bpf_step_model.specs.{Run.{BoundedResult, Ended}, Iteration.{Iterated}}
+use Rattle.loop_core_model.specs.{LeastBreak.{is_break, lesser}, Scan.{scan}}
 use Rattle.loop_core_model.specs.{Block.{break_from}, Gather.{is_bound, stands_in}}
 use Rattle.loop_core_model.specs.Gather.{Block, starts_late, block_numbered, least_of, lacks_block, lacks_some, twice}
 use Rattle.loop_core_model.{specs.Intervals.{blocks_of, start_of, end_of}, proofs.BlockLaws.{of_scan}}

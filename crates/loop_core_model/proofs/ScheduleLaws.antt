@@ -1,19 +1,18 @@
 -- Every ended list of events leaves a complete list of blocks.
 use Rattle.std.proofs.Common.{◌≡◌, ℕ, zero, suc, ◌+◌, ◌<◌, ◌≤◌, Bool, true, false, ◌⊎◌, inl, inr, List, [], ◌∷◌, Option}
 use Rattle.std.{proofs.Common.{Some, None, refl, sym, ◌∙◌, ap, subst, arith}, specs.Prelude.{Err, if◌then◌else◌}}
-use Rattle.std.specs.Prelude.{not, ◌==◌, nat_lt, is_none, map, length, replicate, slice_index_or, slice_set, Result, Ok}
+use Rattle.std.specs.Prelude.{not, ◌==◌, nat_lt, map, length, replicate, slice_index_or, slice_set, Result, Ok}
 use Rattle.std.{specs.List.{list_all, list_any}, proofs.lemmas.Bool.{or_cases}}
 use Rattle.std.proofs.lemmas.Bool.{both_ways, ltb-false, eqb-true, eq-eqb, cases_eq, cases_Bool, and_parts, or_parts}
 use Rattle.std.proofs.lemmas.List.{length-set, get_or-set_same, get_or-set_other}
 use Rattle.bpf_insn_types.specs.Program.{Program}
 use Rattle.bpf_step_model.specs.{State.{LoopCall}, Iteration.{iteration}}
-use Rattle.loop_core_model.specs.{LeastBreak.{lesser}, declared.faults.GatherFault.{GatherFault}, Gather.{gather_fault}}
-use Rattle.loop_core_model.specs.declared.faults.GatherFault.TheVariants.{Missing, Twice, Foreign}
+use Rattle.loop_core_model.specs.{LeastBreak.{lesser}, Gather.{gather_fault}}
 use Rattle.loop_core_model.{specs.{Split.{falls, split_fault}, Events.{transition}}, proofs.GatherLaws.{blocks_gather}}
-use Rattle.loop_core_model.specs.Gather.{Block, starts_late, block_numbered, least_of, lacks_some, twice, stands_in}
+use Rattle.loop_core_model.specs.Gather.{Block, starts_late, least_of, lacks_some, twice, stands_in}
 use Rattle.loop_core_model.specs.declared.{event.Event.{Event}, replay_fault.ReplayFault.{ReplayFault}}
 use Rattle.loop_core_model.{specs.{Intervals.{blocks_of, start_of}, Outcome.{breaks_at}}, proofs.SplitLaws.{faultless}}
-use Rattle.loop_core_model.specs.Events.{Worker, Idle, Holding, Running, Posting, Drained, Stopped, Shared, Moved}
+use Rattle.loop_core_model.specs.Events.{Worker, Idle, Stopped, Shared, Moved}
 use Rattle.loop_core_model.specs.Schedule.{ScheduleState, at_first, worker_of, if_enabled, after_event, and_then}
 use Rattle.loop_core_model.specs.Schedule.{after_events, is_stopped, has_ended, if_ended}
 use Rattle.loop_core_model.specs.ScheduleLaw.{AreRun, Complete, EndedSchedulesComplete}
@@ -61,17 +60,12 @@ module _ (breaks : ℕ → Bool) (bounds : List ℕ) (rises : falls 0 bounds ≡
           (sound.fits w))
     ];
     counts = λ k.
-        subst (λ (t : ℕ). CountsTo bounds after.next after.least k (times k after.runs + t))
-        (sym (changed ℕ (λ a b. a + b) 0 (holds k) add_swap state.workers number new there))
+        rw (changed ℕ (λ a b. a + b) 0 (holds k) add_swap state.workers number new there)
         (kept.counts k (others ℕ (λ a b. a + b) 0 (holds k) state.workers number)
-        (subst (λ (t : ℕ). CountsTo bounds state.shared.next state.shared.least k (times k state.shared.runs + t))
-        (one_and_others ℕ (λ a b. a + b) 0 (holds k) add_swap state.workers number there) (sound.counts k)));
-    least =
-        kept.least (others (Option ℕ) lesser None to_post state.workers number)
-        (sound.least ∙ ap (lesser state.shared.least) (one_and_others (Option ℕ) lesser None to_post lesser_swap
-        state.workers number there))
-        ∙ ap (lesser after.least) (sym (changed (Option ℕ) lesser None to_post lesser_swap state.workers number new
-        there));
+        (rw (one_and_others ℕ (λ a b. a + b) 0 (holds k) add_swap state.workers number there) at (sound.counts k)));
+    least = rw (changed (Option ℕ) lesser None to_post lesser_swap state.workers number new there)
+        (kept.least (others (Option ℕ) lesser None to_post state.workers number)
+        (rw (one_and_others (Option ℕ) lesser None to_post lesser_swap state.workers number there) at sound.least));
   }
     where
       there : number < length state.workers
@@ -248,18 +242,15 @@ ended_by : (breaks : ℕ → Bool) (bounds : List ℕ) (rises : falls 0 bounds �
     (r : Result ScheduleState ReplayFault) → AllOk breaks bounds rises events at_first r → and_then (if_ended events) r
     ≡ Ok state → AtEnd breaks bounds state.shared
 ended_by breaks bounds rises events state (Err fault) ok h = absurd (cc)
-ended_by breaks bounds rises events state (Ok last) ok h = go (has_ended events last) refl h
-  where
-    go : (ended : Bool) → has_ended events last ≡ ended
-        → (if ended then Ok last else Err (faults.NotEnded (length events))) ≡ Ok state
-        → AtEnd breaks bounds state.shared
-    go true e h =
-        let parts = and_parts (nat_lt 0 (length events)) (list_all (λ (e : Event). is_stopped (worker_of last e.worker))
-        events) e in
-        let same : last ≡ state = cc in
-        subst (λ (s : ScheduleState). AtEnd breaks bounds s.shared) same
-        (at_end breaks bounds rises events last ok.0 ok.1 parts.0 parts.1)
-    go false e h = absurd (cc)
+ended_by breaks bounds rises events state (Ok last) ok h = elim (cases_Bool (has_ended events last)) [
+  | inl e ↦
+      let parts = and_parts (nat_lt 0 (length events)) _ e in
+      let is : Ok last ≡ Ok state = rw e at h in
+      let same : last ≡ state = cc in
+      subst (λ (s : ScheduleState). AtEnd breaks bounds s.shared) same
+      (at_end breaks bounds rises events last ok.0 ok.1 parts.0 parts.1)
+  | inr other ↦ (let none : Err (faults.NotEnded (length events)) ≡ Ok state = rw other at h in absurd (cc))
+]
 
 module _ (program : Program) (bound : ℕ) (call : LoopCall) (words : List ℕ) (bounds : List ℕ) (shared : Shared)
     (fine : split_fault bounds call.n ≡ None)

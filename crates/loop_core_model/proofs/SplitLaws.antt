@@ -1,9 +1,9 @@
 -- Bounds without a fault are a partition.
-use Rattle.std.proofs.Common.{◌≡◌, ℕ, zero, suc, ◌+◌, ◌<◌, ◌≤◌, Bool, true, false, ◌⊎◌, inl, inr, List, [], ◌∷◌, length}
+use Rattle.std.proofs.Common.{◌≡◌, ℕ, zero, suc, ◌+◌, ◌<◌, ◌≤◌, Bool, true, false, inl, inr, List, [], ◌∷◌, length}
 use Rattle.std.proofs.Common.{Option, Some, None, refl, sym, ◌∙◌, ap, subst, arith}
 use Rattle.std.specs.Prelude.{not, ◌||◌, ◌==◌, nat_lt, slice_index, if◌then◌else◌}
-use Rattle.std.proofs.lemmas.Bool.{ltb-false, eqb-true, not-false, cases_lt, cases_order, or_parts}
-use Rattle.loop_core_model.specs.{declared.faults.SplitFault.TheVariants.{Falling, Number, Ends}, Intervals.{blocks_of}}
+use Rattle.std.proofs.lemmas.Bool.{ltb-false, eqb-true, not-false, cases_lt, or_parts}
+use Rattle.loop_core_model.specs.{Intervals.{blocks_of}}
 use Rattle.loop_core_model.specs.Split.{falls, last_bound, ends_amiss, split_fault}
 use Rattle.loop_core_model.specs.SplitLaw.{HasIndex, Partition, SplitsPartition}
 

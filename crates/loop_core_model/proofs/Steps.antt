@@ -1,13 +1,13 @@
 -- What one event keeps.
 use Rattle.std.proofs.Common.{◌≡◌, ℕ, zero, suc, ◌+◌, ◌-◌, ◌<◌, ◌≤◌, Bool, true, false, ◌⊎◌, inl, inr, List, [], ◌∷◌}
-use Rattle.std.proofs.{Common.{Option, Some, None, refl, sym, ◌∙◌, ap, subst, arith}, Math.Nat.{min-le_right, min_comm}}
+use Rattle.std.proofs.{Common.{Option, Some, None, refl, sym, ◌∙◌, ap, subst, arith}, Math.Nat.{min-le_right}}
 use Rattle.std.specs.Prelude.{◌==◌, nat_lt, min, if◌then◌else◌}
 use Rattle.std.proofs.lemmas.Bool.{ltb-false, ltb-true, eqb-true, eqb-false, lt-ltb, eq-eqb, ne_eqb, cases_eq}
 use Rattle.loop_core_model.{specs.{LeastBreak.{lesser}, Split.{falls}, Gather.{starts_late}}, proofs.SplitLaws.{rising}}
 use Rattle.loop_core_model.specs.declared.event.EventKind.{EventKind, TheVariants.{Claim, Look, Turn, Post, Stop}}
 use Rattle.loop_core_model.specs.Intervals.{blocks_of, start_of, end_of}
 use Rattle.loop_core_model.specs.Events.{Worker, Idle, Holding, Running, Posting, Drained, Stopped, Shared, Moved}
-use Rattle.loop_core_model.specs.Events.{becomes, having_run, claims, looks, iterates, posts, transition}
+use Rattle.loop_core_model.specs.Events.{having_run, claims, looks, iterates, posts, transition}
 use Rattle.loop_core_model.proofs.Least.{lesser_swap, lesser_assoc}
 
 abbrev pub bit : Bool → ℕ
@@ -115,12 +115,9 @@ module _ (breaks : ℕ → Bool) (bounds : List ℕ) (rises : falls 0 bounds ≡
 
   fit_next : (next : ℕ) → next < blocks_of bounds → (w : Worker) → Fits breaks bounds next w
       → Fits breaks bounds (next + 1) w
-  fit_next next below Idle h = tt
-  fit_next next below (Holding block) h = h
-  fit_next next below (Running block index) h = h
-  fit_next next below (Posting index) h = tt
   fit_next next below Drained h = absurd (omega arith)
   fit_next next below Stopped h = absurd (omega arith)
+  fit_next next below _ h = h
 
   -- a block more is taken
   taken_one : (next : ℕ) (least : Option ℕ) (k t rest : ℕ) → CountsTo bounds next least k (t + (0 + rest))
@@ -208,23 +205,14 @@ module _ (breaks : ℕ → Bool) (bounds : List ℕ) (rises : falls 0 bounds ≡
       stays (Holding block) (Running block (start_of bounds block)) shared within
       (record { within = below; before_end = omega arith; no_break = refl }) (λ k. refl) refl)))
 
-  -- the first of the indices that are left
-  first_of_left : (left index : ℕ) → 0 < left → first_break breaks left index ≡ (if breaks index then Some index
-      else first_break breaks (left - 1) (index + 1))
-  first_of_left zero index h = absurd (omega arith)
-  first_of_left (suc left) index h = ap (λ (l : ℕ). if breaks index then Some index
-      else first_break breaks l (index + 1)) (omega arith)
-
+  -- the break of a block from an index on
   break_here : (block index : ℕ) (b : Bool) → RunsFrom breaks bounds block index → breaks index ≡ b →
       break_of breaks bounds block ≡ (if b then Some index else first_break breaks (end_of bounds block - (index + 1))
       (index + 1))
   break_here block index b from e =
       let high = from.before_end in
-      let one_less : end_of bounds block - index - 1 ≡ end_of bounds block - (index + 1) = omega arith in
-      from.no_break
-      ∙ (first_of_left (end_of bounds block - index) index (omega arith)
-      ∙ (ap (λ (c : Bool). if c then Some index else first_break breaks (end_of bounds block - index - 1) (index + 1)) e
-      ∙ ap (λ (left : ℕ). if b then Some index else first_break breaks left (index + 1)) one_less))
+      let one_more : end_of bounds block - index ≡ suc (end_of bounds block - (index + 1)) = omega arith in
+      from.no_break ∙ rw (one_more, e) refl
 
   turned : (shared : Shared) (block index : ℕ) → shared.next ≤ blocks_of bounds → RunsFrom breaks bounds block index
       → KeptBy breaks bounds (Running block index) shared (iterates breaks bounds block index shared)

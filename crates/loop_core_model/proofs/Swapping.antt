@@ -1,11 +1,11 @@
 -- Two changes of words that may change places.
-use Rattle.std.proofs.Common.{◌≡◌, ◌≢◌, ℕ, zero, suc, Bool, true, false, List, [], ◌∷◌, set, get_or, refl, sym, ◌∙◌, ap}
-use Rattle.std.{proofs.{Common.{inl, inr, subst, ◌+◌}, Math.Nat.{add_comm}}, specs.Prelude.{◌==◌, ◌%◌, ◌^◌}}
+use Rattle.std.proofs.Common.{◌≡◌, ◌≢◌, ℕ, zero, suc, List, [], ◌∷◌, set, get_or, refl, sym, ◌∙◌, ap}
+use Rattle.std.{proofs.{Common.{inl, inr}, Math.Nat.{add_comm}}, specs.Prelude.{◌%◌, ◌^◌}}
 use Rattle.std.proofs.lemmas.{Bool.{cases_eq}, Nat.{or_comm, and_comm, xor_comm}}
 use Rattle.std.proofs.lemmas.List.{get_or-set_other, set_comm}
 use Rattle.bpf_insn_types.specs.Words.{alu}
 use Rattle.array_maps.specs.{declared.access.Op.{Op, TheVariants.{Add, Or, And, Xor, AddH}}, Accesses.{combined}}
-use Rattle.array_maps.specs.{Halves.{of_halves, half_of, halves_added}, declared.access.Half.TheVariants.{Low, High}}
+use Rattle.array_maps.specs.{Halves.{half_of, halves_added}, declared.access.Half.TheVariants.{Low, High}}
 use Rattle.loop_core_model.specs.Kept.{OperatorsAssociate}
 
 -- a word of a list changed

@@ -1,8 +1,8 @@
 -- Any chains of accesses, one after the other. Nothing is known of what made them: each access says what it saw and
 -- left, and a chain fits words where each saw what was there.
-use Rattle.std.proofs.Common.{◌≡◌, ℕ, ◌<◌, Bool, true, false, List, [], ◌∷◌, ◌++◌, length, refl, sym, ◌∙◌, ap, subst}
-use Rattle.std.specs.{Prelude.{slice_index, if◌then◌else◌, ◌==◌}, List.{AllByRecursion}}
-use Rattle.std.proofs.lemmas.List.FromFn.{fill_by_all}
+use Rattle.std.proofs.Common.{◌≡◌, ℕ, ◌<◌, List, [], ◌∷◌, ◌++◌, length, refl, sym, ◌∙◌, ap, subst}
+use Rattle.std.specs.{Prelude.{slice_index, ◌==◌}, List.{AllByRecursion}}
+use Rattle.std.proofs.{Common.{inl, inr}, lemmas.{Bool.{cases_Bool}, List.FromFn.{fill_by_all}}}
 use Rattle.array_maps.specs.Accesses.{Access, left_by_all, SawEach, actions_at, words_after_all}
 use Rattle.array_maps.proofs.ElementLaws.{element_after_all, length-words_after_all}
 use Rattle.loop_core_model.specs.{Actions.{joined}, Conflict.{at_element}, Committed.{committed, committed_words}}
@@ -19,13 +19,10 @@ InTurn (accesses ∷ runs) words = Saws accesses words × InTurn runs (words_aft
 
 pub actions_at-append : (e : ℕ) (xs ys : List Access) → actions_at e (xs ++ ys) ≡ actions_at e xs ++ actions_at e ys
 actions_at-append e [] ys = refl
-actions_at-append e (x ∷ xs) ys = go (x.element == e) (actions_at-append e xs ys)
-  where
-    go : (here : Bool) → actions_at e (xs ++ ys) ≡ actions_at e xs ++ actions_at e ys →
-        (if here then x.action ∷ actions_at e (xs ++ ys) else actions_at e (xs ++ ys)) ≡ (if here then x.action
-        ∷ actions_at e xs else actions_at e xs) ++ actions_at e ys
-    go true same = ap (λ actions. x.action ∷ actions) same
-    go false same = same
+actions_at-append e (x ∷ xs) ys = elim (cases_Bool (x.element == e)) [
+  | inl here ↦ rw here (ap (λ actions. x.action ∷ actions) (actions_at-append e xs ys))
+  | inr other ↦ rw other (actions_at-append e xs ys)
+]
 
 actions_at-joined : (e : ℕ) (runs : List (List Access)) → actions_at e (joined runs) ≡ joined (at_element e runs)
 actions_at-joined e [] = refl

@@ -1,8 +1,9 @@
 -- With a greater bound a verdict that is there stays the same.
-use Rattle.std.proofs.Common.{ℕ, zero, suc, ◌+◌, ◌≤◌, Bool, true, false, inr, List, [], ◌∷◌, map, length, Option, Some}
-use Rattle.std.{proofs.Common.{None, refl, sym, subst}, specs.Prelude.{if◌then◌else◌, ◌==◌}}
+use Rattle.std.proofs.Common.{ℕ, zero, suc, ◌+◌, ◌≤◌, inr, List, [], ◌∷◌, map, length, Option, Some}
+use Rattle.std.{proofs.Common.{None, refl, sym, subst}, specs.Prelude.{◌==◌}}
+use Rattle.std.proofs.{Common.{inl}, lemmas.Bool.{cases_Bool}}
 use Rattle.bpf_insn_types.specs.Program.{Program}
-use Rattle.bpf_step_model.specs.{State.{LoopCall}, Run.{BoundedResult, Ended}, Iteration.{Iterated, iteration}}
+use Rattle.bpf_step_model.specs.{State.{LoopCall}, Run.{BoundedResult}, Iteration.{Iterated, iteration}}
 use Rattle.bpf_step_model.specs.{ProgramInOrder.{LoopMade, Finished, program_in_order}, Bounds.{Extends}}
 use Rattle.bpf_step_model.proofs.BoundLaws.{mapped_extends, followed_extends, iteration_extends, program_extends}
 use Rattle.loop_core_model.specs.declared.{loop_test.Test.{Test}, verdict.LoopReport.{LoopReport}}
@@ -15,12 +16,10 @@ use Rattle.loop_core_model.proofs.ScanLaws.{counted_are_scanned}
 -- a scan that is there stays the same
 breaking_extends : (low high : BoundedResult (List Iterated)) → Extends low high → (it : Iterated)
     → Extends (up_to_break low it) (up_to_break high it)
-breaking_extends low high ext it = go (it.ret == 1)
-  where
-    go : (one : Bool) → Extends (if one then Ended (it ∷ []) else in_front_of low it) (if one then Ended (it ∷ [])
-        else in_front_of high it)
-    go true = inr refl
-    go false = mapped_extends (λ others. it ∷ others) ext
+breaking_extends low high ext it = elim (cases_Bool (it.ret == 1)) [
+  | inl one ↦ rw one (inr refl)
+  | inr on ↦ rw on (mapped_extends (λ others. it ∷ others) ext)
+]
 
 scan_extends : (few many : ℕ → BoundedResult Iterated) → ((index : ℕ) → Extends (few index) (many index))
     → (left index : ℕ) → Extends (scan few left index) (scan many left index)
@@ -35,13 +34,9 @@ pub runs_extend : (program : Program) (low high : ℕ) → low ≤ high → (cal
 runs_extend program low high h call words =
     let few : ℕ → BoundedResult Iterated = λ index. iteration program low call index words in
     let many : ℕ → BoundedResult Iterated = λ index. iteration program high call index words in
-    let scans : Extends (scan few call.n 0) (scan many call.n 0) =
-    scan_extends few many (λ index. iteration_extends program low high h call index words) call.n 0 in
-    mapped_extends accesses_of_each
-    (subst (λ (g : BoundedResult (List Iterated)). Extends g (all_ended (counted_iterations program high call words)))
-    (sym (counted_are_scanned program low call words))
-    (subst (λ (g : BoundedResult (List Iterated)). Extends (scan few call.n 0) g)
-    (sym (counted_are_scanned program high call words)) scans))
+    mapped_extends accesses_of_each (rw (counted_are_scanned program low call words,
+    counted_are_scanned program high call words) (scan_extends few many (λ index. iteration_extends program low high h
+    call index words) call.n 0))
 
 pub verdict_extends : (test : Test) (program : Program) (low high : ℕ) → low ≤ high → (call : LoopCall) (words : List ℕ)
     →

@@ -1,9 +1,7 @@
 -- Each row is computed.
-use Rattle.std.proofs.Common.{refl}
 use Rattle.bpf_insn_types.specs.Words.{alu, holds}
 use Rattle.array_maps.specs.{Accesses.{combined}, Halves.{half_of, with_half, halves_added}}
 use Rattle.bpf_step_model.specs.{Step.{step}, Iteration.{iteration}}
-use Rattle.loop_core_model.specs.BlockRows.{RightRows, ShiftLeftRows, MixedRows, WriterRows, PartialRows, HalfBlockRows}
 use Rattle.loop_core_model.proofs.worked_blocks.Goals as goal
 
 pub returns : goal.returns

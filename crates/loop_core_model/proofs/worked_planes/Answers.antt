@@ -1,9 +1,8 @@
 -- Each row is computed.
-use Rattle.std.{proofs.Common.{refl}, specs.Int.Count.{ones_in, ones, count_trailing_zeros}}
+use Rattle.std.{specs.Int.Count.{ones_in, ones, count_trailing_zeros}}
 use Rattle.bpf_insn_types.specs.Words.{alu, holds}
 use Rattle.array_maps.specs.Accesses.{combined}
 use Rattle.bpf_step_model.specs.{Step.{step}, Iteration.{iteration}}
-use Rattle.loop_core_model.specs.PlaneRows.{MarkRows, ConflictPlaneRows}
 use Rattle.loop_core_model.proofs.worked_planes.Goals as goal
 
 pub returns : goal.returns

@@ -1,10 +1,9 @@
 -- Each row is computed.
-use Rattle.std.proofs.Common.{refl}
 use Rattle.bpf_insn_types.specs.Words.{alu, holds}
 use Rattle.array_maps.specs.Accesses.{combined}
 use Rattle.bpf_step_model.specs.{Step.{step}, Iteration.{iteration}}
 use Rattle.loop_core_model.specs.declared.loop_test.Test.{Test, TheVariants.{Lrpd, Flow}}
-use Rattle.loop_core_model.specs.ReplayRows.{EndedRows, LeftStateRows, RefusedEventRows}
+use Rattle.loop_core_model.specs.ReplayRows.{EndedRows}
 use Rattle.loop_core_model.proofs.worked_replays.Goals as goal
 
 ended : (test : Test) → EndedRows test

@@ -3,8 +3,7 @@ use Rattle.bpf_insn_types.specs.Words.{alu, holds}
 use Rattle.array_maps.specs.{Accesses.{combined}, Halves.{half_of, with_half, halves_added}}
 use Rattle.bpf_step_model.specs.{Step.{step}, Iteration.{iteration}, ProgramInOrder.{program_in_order}}
 use Rattle.loop_core_model.specs.declared.loop_test.Test.{Test, TheVariants.{Lrpd, Flow}}
-use Rattle.loop_core_model.specs.declared.verdict.Verdict.TheVariants.{Parallel, Conflict}
-use Rattle.loop_core_model.specs.VerdictRows.{ParallelRows, ConflictVerdictRows, AheadRows, HalfElementRows, CallRows}
+use Rattle.loop_core_model.specs.VerdictRows.{ParallelRows, ConflictVerdictRows, HalfElementRows, CallRows}
 use Rattle.loop_core_model.proofs.worked_verdicts.Goals as goal
 
 each : (test : Test) → ParallelRows test × ConflictVerdictRows test × HalfElementRows test × CallRows test
