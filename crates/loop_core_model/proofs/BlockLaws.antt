@@ -1,5 +1,5 @@
 -- Scans that end, and the scan of adjacent intervals.
-use Rattle.std.proofs.Common.{◌≡◌, ℕ, zero, suc, ◌+◌, true, false, List, [], ◌∷◌, ◌++◌, refl, sym, ◌∙◌, ap, arith}
+use Rattle.std.proofs.Common.{◌≡◌, ℕ, zero, suc, ◌+◌, true, false, List, [], ◌∷◌, ◌++◌, refl, sym, arith}
 use Rattle.std.{specs.Prelude.{◌==◌}, proofs.{Common.{inl, inr}, lemmas.Bool.{cases_Bool}}}
 use Rattle.bpf_step_model.specs.{Run.{BoundedResult, Ended, Stuck, Unfinished, mapped, followed}, Iteration.{Iterated}}
 use Rattle.loop_core_model.specs.{LeastBreak.{in_front_of}, Scan.{up_to_break, scan}}

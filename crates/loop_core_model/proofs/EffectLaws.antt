@@ -1,12 +1,12 @@
 -- The effects of lanes: one lane after another they are the loop in order, and sites that commute are applied one after
 -- another.
 use Rattle.std.proofs.Common.{◌≡◌, ◌≢◌, ℕ, zero, suc, ◌+◌, ◌<◌, ◌≤◌, true, false, List, [], ◌∷◌, refl, sym, ◌∙◌, ap}
-use Rattle.std.{proofs.Common.{subst, arith}, specs.Prelude.{Option, Some, None, IfSome, if◌then◌else◌, ◌==◌}}
+use Rattle.std.{proofs.Common.{subst, arith}, specs.Prelude.{Option, Some, None, IfSome, ◌==◌}}
 use Rattle.std.specs.List.{AllByRecursion}
 use Rattle.array_maps.specs.{declared.access.{Half.{Half}, Op.{Op}, Part.TheVariants.{Half as Of}}, MapList.{AreWords}}
 use Rattle.array_maps.specs.Accesses.{Access, left_by, words_after_all}
 use Rattle.bpf_insn_types.specs.Program.{Program}
-use Rattle.bpf_step_model.specs.{State.{LoopCall}, Run.{Ended, followed}, LoopInOrder.{behind, loop_from}}
+use Rattle.bpf_step_model.specs.{State.{LoopCall}, LoopInOrder.{loop_from}}
 use Rattle.loop_core_model.{proofs.{OneElement.{same_op}, RunAgain.{iteration_local}}, specs.Kept.{OperatorsAssociate}}
 use Rattle.loop_core_model.specs.{Kinds.{kind_leaves, by_one_operator}, Effects.{words_after_each_lane, LoadsSame}}
 use Rattle.loop_core_model.specs.Effects.{Deed, Apply, action_on, kind_of_deed, deed_part, Effect, words_after_effect}
@@ -14,6 +14,7 @@ use Rattle.loop_core_model.specs.Effects.{words_after_effects, EffectLog, with_e
 use Rattle.loop_core_model.specs.Effects.{words_after_any_effect, words_after_lane_effects, words_after_site_effects}
 use Rattle.loop_core_model.specs.LoopByEffects.{GoesOn, Leaves, LeavesInZero, LoopByEachLane}
 use Rattle.loop_core_model.proofs.Swapping.{other_place, same_place, reduces_swap}
+use Rattle.loop_core_model.proofs.LoopAgain.{step_again}
 use Rattle.loop_core_model.proofs.Sparing.{keeps, accesses_leave, deeds_exchange}
 
 -- two effects leave the same in either order
@@ -138,12 +139,8 @@ one_iteration : (program : Program) (bound : ℕ) (call : LoopCall) (left index 
     → LeavesInZero program bound call index now after
     → loop_from program bound call (suc left) index now ≡ loop_from program bound call left (index + 1) after
 one_iteration program bound call left index now after on =
-    let local = iteration_local program bound call index in
-    ap (followed (behind (loop_from program bound call left (index + 1)) index))
-    (local.again now now on.iterated on.ended refl (local.saw now on.iterated on.ended))
-    ∙ ap (λ (ret : ℕ). if ret == 1
-    then Ended (record { answer = index + 1; words = words_after_all on.iterated.accesses now })
-    else loop_from program bound call left (index + 1) (words_after_all on.iterated.accesses now)) on.returned
+    step_again program bound call now left index now on.iterated false on.ended (ap (λ ret. ret == 1) on.returned) refl
+    ((iteration_local program bound call index).saw now on.iterated on.ended)
     ∙ ap (loop_from program bound call left (index + 1)) on.leaves
 
 -- one that goes on with effects leaves what they leave
@@ -175,15 +172,6 @@ module _ (program : Program) (bound : ℕ) (call : LoopCall) (first lanes : ℕ)
     fit_before zero within = fit
     fit_before (suc lane) within = (goes lane (omega arith) (fit_before lane (omega arith))).fit
 
-    -- one lane more
-    one_lane : (lane left : ℕ) → lane < lanes →
-        loop_from program bound call (suc left) (first + lane) (words_after_each_lane log lane words)
-        ≡ loop_from program bound call left (first + lane + 1) (words_after_each_lane log (suc lane) words)
-    one_lane lane left within =
-        let now : List ℕ = words_after_each_lane log lane words in
-        one_iteration program bound call left (first + lane) now (words_after_each_lane log (suc lane) words)
-        (goes lane within (fit_before lane (omega arith))).ends
-
     lanes_done : (lane left : ℕ) → lane ≤ lanes →
         loop_from program bound call (lane + left) first words
         ≡ loop_from program bound call left (first + lane) (words_after_each_lane log lane words)
@@ -196,7 +184,8 @@ module _ (program : Program) (bound : ℕ) (call : LoopCall) (first lanes : ℕ)
         let next : first + lane + 1 ≡ first + suc lane = omega arith in
         ap (λ (n : ℕ). loop_from program bound call n first words) one_less
         ∙ lanes_done lane (suc left) (omega arith)
-        ∙ one_lane lane left (omega arith)
+        ∙ one_iteration program bound call left (first + lane) (words_after_each_lane log lane words)
+        (words_after_each_lane log (suc lane) words) (goes lane (omega arith) (fit_before lane (omega arith))).ends
         ∙ ap (λ (index : ℕ). loop_from program bound call left index (words_after_each_lane log (suc lane) words)) next
 
 pub loop_by_each_lane : LoopByEachLane

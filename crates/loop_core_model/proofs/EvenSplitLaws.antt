@@ -1,6 +1,6 @@
 -- An even split is a split.
-use Rattle.std.proofs.Common.{◌≡◌, ℕ, zero, suc, ◌+◌, ◌*◌, ◌≤◌, ◌<◌, true, false, not, ◌||◌, List, map, length, Some}
-use Rattle.std.{proofs.Common.{None, refl, sym, ◌∙◌, ap, subst, arith}, specs.Prelude.{◌==◌, ◌/◌, nat_lt}}
+use Rattle.std.proofs.Common.{◌≡◌, ℕ, zero, suc, ◌+◌, ◌*◌, ◌≤◌, ◌<◌, true, false, not, ◌||◌, map, length, Some}
+use Rattle.std.{proofs.Common.{None, refl, ◌∙◌, ap, arith}, specs.Prelude.{◌==◌, ◌/◌, nat_lt}}
 use Rattle.std.{specs.List.{range_with_len}, proofs.lemmas.{Bool.{le-ltb, Decides.{nat_tests}}, Nat.{le-div}}}
 use Rattle.std.proofs.Math.Nat.{mul-div_cancel_left, zero-mul, zero-div, div-mul-le_self, add-mul}
 use Rattle.std.proofs.lemmas.List.FromFn.{length-map-range_with_len}
@@ -19,19 +19,11 @@ last_is f zero k before = let here : k ≡ k + 0 = omega arith in ap f here
 last_is f (suc count) k before = let there : k + 1 + count ≡ k + suc count = omega arith in
     last_is f count (k + 1) (f k) ∙ ap f there
 
-split_is : (bounds : List ℕ) (n : ℕ) → falls 0 bounds ≡ false → (nat_lt (length bounds) 2 || nat_lt 65 (length bounds))
-    ≡ false → ends_amiss bounds n ≡ false → split_fault bounds n ≡ None
-split_is bounds n a b c = rw (a, b, c) refl
-
 quotient_rises : (k n blocks : ℕ) → 1 ≤ blocks → k * n / blocks ≤ (k + 1) * n / blocks
 quotient_rises k n blocks h =
     let less : k * n / blocks * blocks ≤ k * n = div-mul-le_self (k * n) blocks in
     let more : (k + 1) * n ≡ k * n + 1 * n = add-mul k 1 n in
-    le-div (k * n / blocks) ((k + 1) * n) blocks h (subst (λ (m : ℕ). k * n / blocks * blocks ≤ m) (sym more)
-    (let one : k * n ≤ k * n + 1 * n = omega arith in omega arith))
-
-few : (m : ℕ) → 2 ≤ m → m ≤ 65 → (nat_lt m 2 || nat_lt 65 m) ≡ false
-few m h k = grind (arith, nat_tests)
+    le-div (k * n / blocks) ((k + 1) * n) blocks h (rw more (omega arith))
 
 both_meet : (first last n : ℕ) → first ≡ 0 → last ≡ n → (not (first == 0) || not (last == n)) ≡ false
 both_meet first last n a b = grind (arith, nat_tests)
@@ -57,26 +49,22 @@ even_long n blocks = length-map-range_with_len (λ k. k * n / blocks) 0 (blocks 
 
 even_split : (n blocks : ℕ) → 1 ≤ blocks → blocks ≤ 64 → split_fault (even_bounds n blocks) n ≡ None
 even_split n blocks some small =
+    let long = even_long n blocks in
+    let number : (nat_lt (length (even_bounds n blocks)) 2 || nat_lt 65 (length (even_bounds n blocks))) ≡ false =
+    grind (arith, nat_tests) in
     let count : blocks + 1 ≡ suc blocks = omega arith in
-    split_is (even_bounds n blocks) n (even_rises n blocks some)
-    (ap (λ m. nat_lt m 2 || nat_lt 65 m) (even_long n blocks) ∙ few (blocks + 1) (omega arith) (omega arith))
-    (ap (λ m. ends_amiss (map (λ k. k * n / blocks) (range_with_len 0 m)) n) count ∙ ends_meet n blocks some)
+    let ends : ends_amiss (even_bounds n blocks) n ≡ false = rw count (ends_meet n blocks some) in
+    rw (even_rises n blocks some, number, ends) refl
 
-number_is : (bounds : List ℕ) (n : ℕ) → falls 0 bounds ≡ false → (nat_lt (length bounds) 2 || nat_lt 65 (length bounds))
-    ≡ true → split_fault bounds n ≡ Some Number
-number_is bounds n a b = rw (a, b) refl
+too_many : (n blocks : ℕ) → 64 < blocks → split_fault (even_bounds n blocks) n ≡ Some Number
+too_many n blocks many =
+    let long = even_long n blocks in
+    let number : (nat_lt (length (even_bounds n blocks)) 2 || nat_lt 65 (length (even_bounds n blocks))) ≡ true =
+    grind (arith, nat_tests) in
+    rw (even_rises n blocks (omega arith), number) refl
 
-many : (m : ℕ) → 65 < m → (nat_lt m 2 || nat_lt 65 m) ≡ true
-many m h = grind (arith, nat_tests)
-
-not_below_zero : (m : ℕ) → (nat_lt m 0 || false) ≡ false
-not_below_zero m = grind (arith, nat_tests)
+none : (n : ℕ) → split_fault (even_bounds n 0) n ≡ Some Number
+none n = let rises : (nat_lt (0 * n / 0) 0 || false) ≡ false = grind (arith, nat_tests) in rw rises refl
 
 pub even_is_split : EvenIsSplit
-even_is_split = record {
-  split = even_split;
-  none = λ n. number_is (even_bounds n 0) n (not_below_zero (0 * n / 0)) refl;
-  more = λ n blocks many_blocks.
-      number_is (even_bounds n blocks) n (even_rises n blocks (omega arith)) (ap (λ m. nat_lt m 2 || nat_lt 65 m)
-      (even_long n blocks) ∙ many (blocks + 1) (omega arith));
-}
+even_is_split = record { split = even_split; none = none; more = too_many }

@@ -38,9 +38,12 @@ all_applied op (block ∷ blocks) start word h =
     let parts : joined (block ++ joined blocks) ≡ joined block ++ joined (joined blocks) =
     joined-append block (joined blocks) in
     let all = all_parts (reduces_by op) (joined block) (joined (joined blocks)) (rw parts at h) in
-    rw (parts, filter_map-append operand_of (joined block) (joined (joined blocks)),
-    fold-append (combined op) word (operands (joined block)) (operands (joined (joined blocks))),
-    ← partial_applied op (joined block) word all.0) (all_applied op blocks start (applied word (partial block)) all.1)
+    rw (
+      parts,
+      filter_map-append operand_of (joined block) (joined (joined blocks)),
+      fold-append (combined op) word (operands (joined block)) (operands (joined (joined blocks))),
+      ← partial_applied op (joined block) word all.0,
+    ) (all_applied op blocks start (applied word (partial block)) all.1)
 
 -- last writers
 pub last_that-append : (test : List Action → Bool) (xs ys : List (List Action)) → last_that test (xs ++ ys)
@@ -67,9 +70,12 @@ last_kept : (blocks : List (List (List Action))) (word : ℕ) → last_value (jo
     ≡ last_of (map (λ (k : Kept). k.last_value) (map (λ iterations. kept iterations word) blocks))
 last_kept [] word = refl
 last_kept (block ∷ blocks) word =
-    ap (option_map (λ actions. left_by_all actions word)) (last_that-append writes block (joined blocks))
-    ∙ map_or (λ actions. left_by_all actions word) (last_that writes (joined blocks)) (last_that writes block)
-    ∙ ap (λ o. option_or o (last_value block word)) (last_kept blocks word)
+    rw (
+      last_that-append writes block (joined blocks),
+      map_or (λ actions. left_by_all actions word)
+          (last_that writes (joined blocks)) (last_that writes block),
+      last_kept blocks word,
+    ) refl
 
 pub commits_of_kept : CommitsOfKept
 commits_of_kept blocks word = go (only_operator (joined (joined blocks))) refl

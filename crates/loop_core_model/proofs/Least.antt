@@ -1,7 +1,7 @@
 -- The least number that passes a test, and what a filter of a range keeps.
-use Rattle.std.proofs.Common.{◌≡◌, ℕ, zero, suc, ◌+◌, ◌<◌, ◌≤◌, Bool, true, false, ◌⊎◌, inl, inr, List, [], ◌∷◌, Option}
-use Rattle.std.{proofs.Common.{Some, None, refl, sym, ◌∙◌, ap, arith}, specs.Prelude.{if◌then◌else◌, cond, min}}
-use Rattle.std.{specs.{Option.{option_or}, List.{filter, range_with_len}}, proofs.lemmas.Bool.{cases_eq}}
+use Rattle.std.proofs.Common.{◌≡◌, ℕ, zero, suc, ◌+◌, ◌<◌, ◌≤◌, Bool, true, false, ◌⊎◌, inl, inr, [], ◌∷◌, Option}
+use Rattle.std.{proofs.Common.{Some, None, refl, sym, ◌∙◌, ap, arith}, specs.Prelude.{if◌then◌else◌, min}}
+use Rattle.std.{specs.{Option.{option_or}, List.{filter, range_with_len}}, proofs.lemmas.Bool.{cases_Bool, cases_eq}}
 use Rattle.loop_core_model.specs.LeastBreak.{least_below, count_to, lesser}
 
 -- below which nothing passes
@@ -56,19 +56,16 @@ pub counts_to : (test : ℕ → Bool) (n : ℕ) → CountsTo test n (count_to n 
 counts_to test n = counts_by test n (least_below test n) (least_is test n)
 
 -- where a filter of a range keeps nothing, no number of it passes
-kept_none : (b : Bool) (x : ℕ) (xs : List ℕ) → cond b (x ∷ xs) xs ≡ [] → (b ≡ false) × (xs ≡ [])
-kept_none true x xs h = absurd (cc)
-kept_none false x xs h = (refl, h)
-
 pub filter_none : (test : ℕ → Bool) (from count : ℕ) → filter test (range_with_len from count) ≡ [] → (e : ℕ) → from ≤ e
     → e < from + count → test e ≡ false
 filter_none test from zero h e low high = absurd (omega arith)
-filter_none test from (suc count) h e low high =
-    let parts = kept_none (test from) from (filter test (range_with_len (from + 1) count)) h in
-    elim (cases_eq e from) [
-      | inl same ↦ ap test same ∙ parts.0
-      | inr other ↦ filter_none test (from + 1) count parts.1 e (omega arith) (omega arith)
-    ]
+filter_none test from (suc count) h e low high = elim (cases_Bool (test from)) [
+  | inl on ↦ (let some : from ∷ filter test (range_with_len (from + 1) count) ≡ [] = rw on at h in absurd (cc))
+  | inr off ↦ elim (cases_eq e from) [
+    | inl same ↦ ap test same ∙ off
+    | inr other ↦ filter_none test (from + 1) count (rw off at h) e (omega arith) (omega arith)
+  ]
+]
 
 -- the lesser of several
 pub lesser_none : (a : Option ℕ) → lesser a None ≡ a

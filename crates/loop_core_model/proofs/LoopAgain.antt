@@ -44,7 +44,7 @@ module _ (program : Program) (bound : ℕ) (call : LoopCall) (start : List ℕ) 
       ≡ loop_end (index + length its) (words_after_all (joined (accesses_of_each its)) now))
 
   -- one iteration of the loop in order, where it sees the same
-  step_again : (left index : ℕ) (now : List ℕ) (it : Iterated) (one : Bool) → speculated index ≡ Ended it
+  pub step_again : (left index : ℕ) (now : List ℕ) (it : Iterated) (one : Bool) → speculated index ≡ Ended it
       → (it.ret == 1) ≡ one → length now ≡ length start → Saws it.accesses now
       → loop_from program bound call (suc left) index now
       ≡ (if one then loop_end (index + 1) (words_after_all it.accesses now)

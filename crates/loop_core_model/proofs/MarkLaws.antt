@@ -5,8 +5,8 @@ use Rattle.std.{specs.Prelude.{if◌then◌else◌, ◌==◌, nat_lt, min, max, 
 use Rattle.std.proofs.{Math.Bool.{or_assoc, or_comm, or-false, and-false}, lemmas.List.{map-append, Folds.{list_any-append}}}
 use Rattle.array_maps.specs.{declared.access.Op.{Op}, Accesses.{Action}}
 use Rattle.loop_core_model.specs.{declared.loop_test.Test.{Test, TheVariants.{Lrpd, Flow}}, LeastBreak.{lesser}}
-use Rattle.loop_core_model.specs.Actions.{writes, exposed, reduces_by, joined, only_operator}
-use Rattle.loop_core_model.specs.{Conflict.{fails_lrpd, fails_flow, fails, conflicts}, Flags.{is_plain, flags_of}}
+use Rattle.loop_core_model.specs.Actions.{writes, exposed, joined, only_operator}
+use Rattle.loop_core_model.specs.{Conflict.{fails_lrpd, fails_flow, fails, conflicts}, Flags.{flags_of}}
 use Rattle.loop_core_model.specs.Marks.{Visit, actions_of, numbered, Marks, two_write, first_writer, last_reader}
 use Rattle.loop_core_model.specs.Marks.{marks_of, marked_reduction, stands_before, first_number, marked_fails}
 use Rattle.loop_core_model.specs.Marks.{marked_conflict, marks_of_one, merged}

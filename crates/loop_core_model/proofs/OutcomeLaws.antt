@@ -2,11 +2,11 @@
 use Rattle.std.proofs.Common.{◌≡◌, ℕ, List, length, refl}
 use Rattle.array_maps.specs.Accesses.{Access}
 use Rattle.bpf_insn_types.specs.Program.{Program}
-use Rattle.bpf_step_model.specs.{State.{LoopCall}, Run.{BoundedResult, Ended, mapped, followed}}
+use Rattle.bpf_step_model.specs.{State.{LoopCall}, Run.{Ended}}
 use Rattle.bpf_step_model.specs.LoopInOrder.{Looped, loop_in_order}
-use Rattle.loop_core_model.specs.{declared.{loop_test.Test.{Test}, verdict.Verdict.{Verdict}}, Conflict.{conflicting}}
-use Rattle.loop_core_model.{specs.{LeastBreak.{counted_runs}, Report.{judged, verdict}}, proofs.LoopAgain.{loop_law}}
-use Rattle.loop_core_model.specs.{Outcome.{judged_as, outcome}, OutcomeLaw.{OutcomeByTest}}
+use Rattle.loop_core_model.specs.{declared.{loop_test.Test.{Test}}, Conflict.{conflicting}}
+use Rattle.loop_core_model.{specs.{LeastBreak.{counted_runs}, Report.{judged}}, proofs.LoopAgain.{loop_law}}
+use Rattle.loop_core_model.specs.{Outcome.{outcome}, OutcomeLaw.{OutcomeByTest}}
 
 outcome_is : (test : Test) (program : Program) (bound : ℕ) (call : LoopCall) (words : List ℕ)
     (runs : List (List Access)) (elements : List ℕ) (looped : Looped) →

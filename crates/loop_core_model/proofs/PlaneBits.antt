@@ -61,10 +61,8 @@ bits_in-count : (width word : ℕ) → word < 2 ^ width → length (bits_in widt
 unfolding bits_in
 bits_in-count zero word h =
     let none : word ≡ 0 = omega arith in
-    sym (ap count_ones none ∙ no_ones)
-  where
-    no_ones : count_ones 0 ≡ 0
-    no_ones = let few : count_ones 0 ≤ 0 = ones_le_self 0 in omega arith
+    let few : count_ones 0 ≤ 0 = ones_le_self 0 in
+    rw none (omega arith)
 bits_in-count (suc width) word h =
     let half : word / 2 < 2 ^ width = halved (2 ^ width) (subst (λ (n : ℕ). word < n) (pow-suc 2 width) h) in
     let rest : length (filter (λ i. bit_at word i == 1) (range_with_len 1 width)) ≡ count_ones (word / 2) =

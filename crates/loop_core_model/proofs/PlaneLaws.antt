@@ -1,6 +1,6 @@
 -- A plane has just the elements that pass.
-use Rattle.std.proofs.Common.{◌≡◌, ℕ, zero, suc, ◌+◌, ◌-◌, ◌*◌, ◌≤◌, ◌<◌, Bool, false, [], ◌∷◌, ◌++◌, length, refl, ◌∙◌}
-use Rattle.std.{proofs.Common.{ap, arith}, specs.{Prelude.{cond}, List.{filter, range_with_len}}}
+use Rattle.std.proofs.Common.{◌≡◌, ℕ, zero, suc, ◌+◌, ◌-◌, ◌*◌, ◌≤◌, ◌<◌, Bool, false, [], ◌++◌, length, refl, ◌∙◌}
+use Rattle.std.{proofs.Common.{ap, arith}, specs.{List.{filter, range_with_len}}}
 use Rattle.std.proofs.lemmas.List.{append-nil, Elements.{filter-append}}
 use Rattle.loop_core_model.specs.Planes.{bit_of, PlaneHasElements}
 
@@ -19,8 +19,10 @@ pub filter-same : (p q : ℕ → Bool) (from count : ℕ) → ((e : ℕ) → fro
     → filter p (range_with_len from count) ≡ filter q (range_with_len from count)
 filter-same p q from zero same = refl
 filter-same p q from (suc count) same =
-    rw (same from (omega arith) (omega arith),
-    filter-same p q (from + 1) count (λ e low high. same e (omega arith) (omega arith))) refl
+    rw (
+      same from (omega arith) (omega arith),
+      filter-same p q (from + 1) count (λ e low high. same e (omega arith) (omega arith)),
+    ) refl
 
 pub filter-none : (p : ℕ → Bool) (from count : ℕ) → ((e : ℕ) → from ≤ e → e < from + count → p e ≡ false)
     → filter p (range_with_len from count) ≡ []

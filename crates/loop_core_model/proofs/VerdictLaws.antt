@@ -1,6 +1,6 @@
 -- With a greater bound a verdict that is there stays the same.
 use Rattle.std.proofs.Common.{ℕ, zero, suc, ◌+◌, ◌≤◌, inr, List, [], ◌∷◌, map, length, Option, Some}
-use Rattle.std.{proofs.Common.{None, refl, sym, subst}, specs.Prelude.{◌==◌}}
+use Rattle.std.{proofs.Common.{None, refl}, specs.Prelude.{◌==◌}}
 use Rattle.std.proofs.{Common.{inl}, lemmas.Bool.{cases_Bool}}
 use Rattle.bpf_insn_types.specs.Program.{Program}
 use Rattle.bpf_step_model.specs.{State.{LoopCall}, Run.{BoundedResult}, Iteration.{Iterated, iteration}}
@@ -8,7 +8,7 @@ use Rattle.bpf_step_model.specs.{ProgramInOrder.{LoopMade, Finished, program_in_
 use Rattle.bpf_step_model.proofs.BoundLaws.{mapped_extends, followed_extends, iteration_extends, program_extends}
 use Rattle.loop_core_model.specs.declared.{loop_test.Test.{Test}, verdict.LoopReport.{LoopReport}}
 use Rattle.loop_core_model.specs.{Conflict.{conflicting}, Report.{with_lines, with_each_line, reported_with}}
-use Rattle.loop_core_model.specs.LeastBreak.{in_front_of, all_ended, accesses_of_each, counted_iterations, counted_runs}
+use Rattle.loop_core_model.specs.LeastBreak.{in_front_of, all_ended, accesses_of_each, counted_runs}
 use Rattle.loop_core_model.specs.Report.{judged, verdict, verdict_if_valid, line, loop_report, loop_report_in_order}
 use Rattle.loop_core_model.specs.{Scan.{up_to_break, scan}, VerdictBounds.{VerdictsAgree}}
 use Rattle.loop_core_model.proofs.ScanLaws.{counted_are_scanned}
@@ -34,8 +34,10 @@ pub runs_extend : (program : Program) (low high : ℕ) → low ≤ high → (cal
 runs_extend program low high h call words =
     let few : ℕ → BoundedResult Iterated = λ index. iteration program low call index words in
     let many : ℕ → BoundedResult Iterated = λ index. iteration program high call index words in
-    mapped_extends accesses_of_each (rw (counted_are_scanned program low call words,
-    counted_are_scanned program high call words) (scan_extends few many (λ index. iteration_extends program low high h
+    mapped_extends accesses_of_each (rw (
+      counted_are_scanned program low call words,
+      counted_are_scanned program high call words,
+    ) (scan_extends few many (λ index. iteration_extends program low high h
     call index words) call.n 0))
 
 pub verdict_extends : (test : Test) (program : Program) (low high : ℕ) → low ≤ high → (call : LoopCall) (words : List ℕ)
