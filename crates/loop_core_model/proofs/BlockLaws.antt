@@ -5,8 +5,8 @@ use Rattle.bpf_step_model.specs.{Run.{BoundedResult, Ended, Stuck, Unfinished, m
 use Rattle.loop_core_model.specs.{LeastBreak.{in_front_of}, Scan.{up_to_break, scan}}
 use Rattle.loop_core_model.specs.Block.{has_break, unless_break, ScansFollow}
 
--- What holds of the iterations of every scan that ended: it holds of none, of one that breaks alone, and of one that
--- doesn't in front of those after it.
+-- An induction over scans that end: what holds of no iterations, of one that breaks alone, and of one that doesn't in
+-- front of others of which it holds, holds of the iterations of every scan that ended
 module _ (iterate : ℕ → BoundedResult Iterated) (P : (left index : ℕ) → List Iterated → Type 0)
     (none : (index : ℕ) → P zero index [])
     (last : (left index : ℕ) (it : Iterated) → iterate index ≡ Ended it → (it.ret == 1) ≡ true

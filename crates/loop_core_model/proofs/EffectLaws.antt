@@ -47,32 +47,26 @@ past_lanes : (a : Effect) (log : EffectLog) (lanes : ℕ)
     ≡ words_after_effect a (words_after_each_lane log lanes words)
 past_lanes a log zero each words = refl
 past_lanes a log (suc lanes) each words =
-    ap (words_after_effects (effects_of log lanes)) (past_lanes a log lanes (λ lane within. each lane (omega arith)) words)
+    ap (words_after_effects (effects_of log lanes))
+    (past_lanes a log lanes (λ lane within. each lane (omega arith)) words)
     ∙ past_all a (effects_of log lanes) (swap_each a log lanes (each lanes (omega arith))) (words_after_each_lane log
     lanes words)
 
 -- each later lane's effect at a site may change places with earlier lanes' at the sites after it
 abbrev pub GoesFirst : (ℕ → Option Effect) → EffectLog → ℕ → Type 0
 GoesFirst at log lanes = (later earlier : ℕ) → earlier < later → later < lanes
-    → IfSome (at later) (λ effect. AllByRecursion (λ (other : ℕ → Option Effect). IfSome (other earlier) (Exchange effect))
-    log)
+    → IfSome (at later) (λ effect.
+    AllByRecursion (λ (other : ℕ → Option Effect). IfSome (other earlier) (Exchange effect)) log)
 
 -- a lane's effect at a site, if it made one, goes before those of earlier lanes at the sites after it
 one_first : (made : Option Effect) (log : EffectLog) (lanes : ℕ)
-    → IfSome made (λ effect. (lane : ℕ) → lane < lanes
-    → AllByRecursion (λ (other : ℕ → Option Effect). IfSome (other lane) (Exchange effect)) log) → (words : List ℕ)
+    → ((lane : ℕ) → lane < lanes → IfSome made (λ effect.
+    AllByRecursion (λ (other : ℕ → Option Effect). IfSome (other lane) (Exchange effect)) log)) → (words : List ℕ)
     → words_after_effects (effects_of log lanes) (words_after_each_lane log lanes (words_after_any_effect made words))
     ≡ words_after_effects (with_effect made (effects_of log lanes)) (words_after_each_lane log lanes words)
 one_first None log lanes first words = refl
 one_first (Some effect) log lanes first words =
     ap (words_after_effects (effects_of log lanes)) (past_lanes effect log lanes first words)
-
--- what is so for each lane of an effect that may not be there
-for_each : (made : Option Effect) (lanes : ℕ) (P : Effect → ℕ → Type 0)
-    → ((lane : ℕ) → lane < lanes → IfSome made (λ effect. P effect lane))
-    → IfSome made (λ effect. (lane : ℕ) → lane < lanes → P effect lane)
-for_each None lanes P each = tt
-for_each (Some effect) lanes P each = each
 
 first_site : (at : ℕ → Option Effect) (log : EffectLog) (lanes : ℕ) → GoesFirst at log lanes → (words : List ℕ) →
     words_after_each_lane log lanes (words_after_lane_effects at lanes words)
@@ -80,9 +74,7 @@ first_site : (at : ℕ → Option Effect) (log : EffectLog) (lanes : ℕ) → Go
 first_site at log zero first words = refl
 first_site at log (suc lanes) first words =
     one_first (at lanes) log lanes
-    (for_each (at lanes) lanes (λ effect lane.
-    AllByRecursion (λ (other : ℕ → Option Effect). IfSome (other lane) (Exchange effect)) log)
-    (λ lane within. first lanes lane within (omega arith))) (words_after_lane_effects at lanes words)
+    (λ lane within. first lanes lane within (omega arith)) (words_after_lane_effects at lanes words)
     ∙ ap (words_after_effects (with_effect (at lanes) (effects_of log lanes)))
     (first_site at log lanes (λ later earlier order within. first later earlier order (omega arith)) words)
 
@@ -96,8 +88,8 @@ abbrev pub EachGoesFirst : EffectLog → ℕ → Type 0
 EachGoesFirst [] lanes = Unit {0}
 EachGoesFirst (at ∷ log) lanes = GoesFirst at log lanes × EachGoesFirst log lanes
 
-pub site_by_site : (log : EffectLog) (lanes : ℕ) → EachGoesFirst log lanes → (words : List ℕ) → words_after_site_effects log lanes words
-    ≡ words_after_each_lane log lanes words
+pub site_by_site : (log : EffectLog) (lanes : ℕ) → EachGoesFirst log lanes → (words : List ℕ)
+    → words_after_site_effects log lanes words ≡ words_after_each_lane log lanes words
 site_by_site [] lanes each words = nothing_left lanes words
 site_by_site (at ∷ log) lanes each words = site_by_site log lanes each.1 (words_after_lane_effects at lanes words)
     ∙ first_site at log lanes each.0 words
@@ -111,8 +103,8 @@ second_keeps a b h words = ap (words_after_effect a) (keeps b h words) ∙ sym (
 -- effects at different elements
 pub apart_exchange : (a b : Effect) → a.element ≢ b.element → Exchange a b
 apart_exchange a b apart words =
-    other_place (λ (word : ℕ). left_by (action_on a.deed word) word) (λ (word : ℕ). left_by (action_on b.deed word) word)
-    words a.element b.element apart
+    other_place (λ (word : ℕ). left_by (action_on a.deed word) word)
+    (λ (word : ℕ). left_by (action_on b.deed word) word) words a.element b.element apart
 
 -- two that replace different halves of one element
 pub halves_exchange : (a b : Effect) (half other : Half) → a.element ≡ b.element → half ≢ other

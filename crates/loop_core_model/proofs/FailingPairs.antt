@@ -1,6 +1,6 @@
 -- A test fails exactly where there is a pair of iterations that fails it.
 use Rattle.std.proofs.Common.{◌≡◌, ℕ, zero, suc, ◌<◌, Bool, true, false, ◌&&◌, ◌||◌, inl, inr, List, [], ◌∷◌}
-use Rattle.std.{proofs.Common.{length, refl, arith}, specs.{Prelude.{slice_index_or}, List.{list_any}}}
+use Rattle.std.{proofs.Common.{length, refl, arith}, specs.{Prelude.{◌↔◌, slice_index_or}, List.{list_any}}}
 use Rattle.std.proofs.lemmas.{Bool.{and_from, and_parts, or_cases, or_left, or_right}, List.Folds.{list_any_at}}
 use Rattle.array_maps.specs.Accesses.{Action}
 use Rattle.loop_core_model.specs.{declared.loop_test.Test.{Test, TheVariants.{Lrpd, Flow}}, Actions.{writes, exposed}}
@@ -23,7 +23,8 @@ any_at p (x ∷ xs) h = elim (or_cases (p x) (list_any p xs) h) [
   })
 ]
 
--- the first iteration fails the test as a writer with those after it, or as a reader, which the LRPD test minds
+-- the first iteration fails the test as a writer with those after it, or as a reader, which
+-- counts by the LRPD test alone
 abbrev pub writes_first : List Action → List (List Action) → Bool
 writes_first it its = writes it && list_any exposed its
 
@@ -44,14 +45,9 @@ opposed_first : (test : Test) (reader : ℕ) → Opposed test 0 (suc reader)
 opposed_first Lrpd reader = omega arith
 opposed_first Flow reader = omega arith
 
-opposed_later : (test : Test) (writer reader : ℕ) → Opposed test writer reader → Opposed test (suc writer) (suc reader)
-opposed_later Lrpd writer reader h = omega arith
-opposed_later Flow writer reader h = omega arith
-
-opposed_before : (test : Test) (writer reader : ℕ) → Opposed test (suc writer) (suc reader)
-    → Opposed test writer reader
-opposed_before Lrpd writer reader h = omega arith
-opposed_before Flow writer reader h = omega arith
+opposed_later : (test : Test) (writer reader : ℕ) → Opposed test writer reader ↔ Opposed test (suc writer) (suc reader)
+opposed_later Lrpd writer reader = (λ h. omega arith, λ h. omega arith)
+opposed_later Flow writer reader = (λ h. omega arith, λ h. omega arith)
 
 not_opposed : (test : Test) → Opposed test 0 0 → ⊥
 not_opposed Lrpd h = omega arith
@@ -99,7 +95,7 @@ both_behind test it its c =
       reader = suc c.reader;
       writer_within = (let k = c.writer_within in omega arith);
       reader_within = (let k = c.reader_within in omega arith);
-      opposed = opposed_later test c.writer c.reader c.opposed;
+      opposed = (opposed_later test c.writer c.reader).0 c.opposed;
       writing = c.writing;
       reading = c.reading;
     }
@@ -130,7 +126,7 @@ fails_at Lrpd (it ∷ its) (suc writer) zero inside inside' opposed w r =
 fails_at Flow (it ∷ its) (suc writer) zero inside inside' opposed w r = absurd (omega arith)
 fails_at test (it ∷ its) (suc writer) (suc reader) inside inside' opposed w r =
     rw (fails_more test it its) (or_right (writes_first it its) _ (or_right (reads_first test it its) _
-    (fails_at test its writer reader (omega arith) (omega arith) (opposed_before test writer reader opposed) w r)))
+    (fails_at test its writer reader (omega arith) (omega arith) ((opposed_later test writer reader).1 opposed) w r)))
 
 pub fails_by_pair : FailsByPair
 fails_by_pair test its = (

@@ -10,8 +10,8 @@ use Rattle.bpf_step_model.specs.{State.{LoopCall}, Run.{BoundedResult, Ended, ma
 use Rattle.bpf_step_model.specs.Iteration.{Iterated, iteration}
 use Rattle.loop_core_model.specs.{Actions.{joined}, LeastBreak.{is_break, least_below, lesser}, Scan.{scan}}
 use Rattle.loop_core_model.proofs.{Least.{least_is}, ScanLaws.{counted_are_scanned}, BlockLaws.{scans_follow}}
-use Rattle.loop_core_model.proofs.{OneElement.{or_false_left, or_false_right}}
-use Rattle.loop_core_model.{specs.Intervals.{blocks_of}, proofs.SplitLaws.{Faultless, none_if, faultless, rising as no_lower}}
+use Rattle.loop_core_model.{specs.Intervals.{blocks_of}, proofs.OneElement.{or_false_left, or_false_right}}
+use Rattle.loop_core_model.proofs.SplitLaws.{Faultless, none_if, faultless, rising as no_lower}
 use Rattle.loop_core_model.specs.{Block.{has_break, break_from, unless_break}, Split.{falls, last_bound, ends_amiss}}
 use Rattle.loop_core_model.specs.Gather.{Block, IsRunOf, least_of, starts_late, block_numbered, lacks_block, counting}
 use Rattle.loop_core_model.specs.Gather.{lacks_some, twice, is_bound, stands_in, gathered, Gathers, BlocksGather}
@@ -114,8 +114,8 @@ module _ (iterate : ℕ → BoundedResult Iterated) where
         (found whole blocks runs.1 (or_false_right (not (stands_in whole c)) _ there) k b (rw other at h))
   ]
 
-  first_real : (n first past : ℕ) (o : Option ℕ) → past ≤ n → FirstIs (breaking iterate) first (first + (past - first)) o
-      → IsReal (breaking iterate) n o
+  first_real : (n first past : ℕ) (o : Option ℕ) → past ≤ n
+      → FirstIs (breaking iterate) first (first + (past - first)) o → IsReal (breaking iterate) n o
   first_real n first past None small h = tt
   first_real n first past (Some i) small h = (h.passes, (let a = h.from in let b = h.within in omega arith))
 
@@ -260,7 +260,8 @@ module _ (iterate : ℕ → BoundedResult Iterated) (whole : List ℕ) (n : ℕ)
       let rises_next : falls past bounds ≡ false = or_false_right (nat_lt past first) (falls past bounds) rises in
       let next_place : (j : ℕ) → k + 1 + j ≡ k + suc j = λ j. omega arith in
       with_block k first past bounds b.0.ran (rising first past bounds rises) (small (k + 1) past at_past) rises_next
-      (rw (first_is, past_is) at stands.run) (rw first_is at stands.least_at_most) none (counts_more k first past bounds b.0 on_time b.1)
+      (rw (first_is, past_is) at stands.run) (rw first_is at stands.least_at_most) none
+      (counts_more k first past bounds b.0 on_time b.1)
       (from_bound (k + 1) past bounds (λ j. ap (slice_get whole) (next_place j) ∙ there (suc j)) rises_next ends
       (or_false_right (not (starts_late least first) && is_none (block_numbered k blocks)) _ complete))
 
@@ -283,10 +284,8 @@ split_from program bound call words (first ∷ bounds) blocks sound ends complet
     let up = no_lower 0 (first ∷ bounds) sound.rises k (blocks_of (first ∷ bounds)) (omega arith) (omega arith) in
     let here = get_or_from_slice_get (first ∷ bounds) k x 0 at in let last = sound.last in omega arith) in
     let same_place : (j : ℕ) → 0 + j ≡ j = λ j. omega arith in
-    let result : FromBound iterate (first ∷ bounds) call.n (least_of blocks) blocks (found iterate (first ∷ bounds)
-    blocks runs there) (real_least iterate call.n (first ∷ bounds) small blocks runs there) small 0 first bounds =
-    from_bound iterate (first ∷ bounds) call.n (least_of blocks) blocks (found iterate (first ∷ bounds) blocks runs
-    there) (real_least iterate call.n (first ∷ bounds) small blocks runs there) small 0 first bounds
+    let result = from_bound iterate (first ∷ bounds) call.n (least_of blocks) blocks (found iterate (first ∷ bounds)
+    blocks runs there) (real_least iterate call.n (first ∷ bounds) small blocks runs there) small 0 first bounds
     (λ j. ap (slice_get (first ∷ bounds)) (same_place j))
     (or_false_right (nat_lt first 0) (falls first bounds) sound.rises) n_last complete
     (λ j low high. absurd (omega arith)) in

@@ -2,7 +2,8 @@
 use Rattle.std.proofs.Common.{◌≡◌, ℕ, ◌+◌, ◌-◌, ◌≤◌, Bool, true, false, not, ◌&&◌, ◌||◌, ◌⊎◌, inl, inr, List, [], ◌∷◌}
 use Rattle.std.{proofs.Common.{◌++◌, Option, Some, None, refl, sym, ◌∙◌, ap, arith}, specs.List.{list_any}}
 use Rattle.std.{specs.Prelude.{if◌then◌else◌, ◌==◌, nat_lt, min, max, is_some}, proofs.lemmas.Bool.Decides.{nat_tests}}
-use Rattle.std.proofs.{Math.Bool.{or_assoc, or_comm, or-false, and-false}, lemmas.List.{map-append, Folds.{list_any-append}}}
+use Rattle.std.proofs.Math.Bool.{or_assoc, or_comm, or-false, and-false}
+use Rattle.std.proofs.lemmas.List.{map-append, Folds.{list_any-append}}
 use Rattle.array_maps.specs.{declared.access.Op.{Op}, Accesses.{Action}}
 use Rattle.loop_core_model.specs.{declared.loop_test.Test.{Test, TheVariants.{Lrpd, Flow}}, LeastBreak.{lesser}}
 use Rattle.loop_core_model.specs.Actions.{writes, exposed, joined, only_operator}

@@ -2,8 +2,8 @@
 use Rattle.std.proofs.Common.{◌≡◌, ℕ, Bool, true, false, not, ◌&&◌, ◌||◌, List, [], ◌∷◌, Some, None, refl, sym, ◌∙◌, ap}
 use Rattle.std.{proofs.Common.{inl, inr, arith}, specs.Prelude.{if◌then◌else◌, ◌==◌, is_some}}
 use Rattle.std.{specs.List.{list_any, list_all, count_by}, proofs.lemmas.Bool.Decides.{nat_tests}}
-use Rattle.std.proofs.Math.Bool.{and-false}
-use Rattle.std.proofs.lemmas.{Bool.{cases_Bool, or_left, and_right, not_from_true}, List.Folds.{list_any-append, list_any_at}}
+use Rattle.std.proofs.{Math.Bool.{and-false}, lemmas.Bool.{cases_Bool, or_left, and_right, not_from_true}}
+use Rattle.std.proofs.lemmas.List.Folds.{list_any-append, list_any_at}
 use Rattle.array_maps.specs.declared.access.Op.{Op, TheVariants.{Add, Or, And, Xor, AddH}}
 use Rattle.array_maps.specs.Accesses.{Action, Reduce, operators}
 use Rattle.loop_core_model.specs.{Actions.{is_same, reduces_by, joined, only_operator}, Flags.{is_plain}}

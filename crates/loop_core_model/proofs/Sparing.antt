@@ -1,7 +1,8 @@
 -- What effects leave of an element, and of its halves.
 use Rattle.std.proofs.Common.{◌≡◌, ◌≢◌, ℕ, zero, suc, ◌+◌, ◌*◌, ◌%◌, ◌/◌, ◌^◌, ◌<◌, true, false, List, length}
 use Rattle.std.proofs.Common.{inl, inr, [], ◌∷◌, set, get_or, refl, sym, ◌∙◌, ap, subst, arith}
-use Rattle.std.{specs.List.{AllByRecursion}, proofs.lemmas.{Bool.{cases_eq, cases_Bool}, List.{get_or-set_other, set-get_or}}}
+use Rattle.std.{specs.List.{AllByRecursion}, proofs.lemmas.Bool.{cases_eq, cases_Bool}}
+use Rattle.std.proofs.lemmas.List.{get_or-set_other, set-get_or}
 use Rattle.array_maps.specs.{declared.access.{Half.{Half, TheVariants.{Low, High}}, Part.{Part}}, MapList.{AreWords}}
 use Rattle.array_maps.specs.{declared.access.Part.TheVariants.{Whole, Half as Of}, Halves.{half_of, with_half, part_of}}
 use Rattle.array_maps.{specs.Accesses.{left_by, words_after_all}, proofs.ElementLaws.{length-words_after_all}}

@@ -31,7 +31,8 @@ met_ends n (first ∷ bounds) several rises ends =
           n (not-false (last_bound first bounds == n) parts.1));
     }
 
-pub none_if : {A : Type 0} (b : Bool) (x : A) (o : Option A) → (if b then Some x else o) ≡ None → (b ≡ false) × (o ≡ None)
+pub none_if : {A : Type 0} (b : Bool) (x : A) (o : Option A) → (if b then Some x else o) ≡ None → (b ≡ false)
+    × (o ≡ None)
 none_if true x o h = absurd (cc)
 none_if false x o h = (refl, h)
 

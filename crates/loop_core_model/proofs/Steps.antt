@@ -188,7 +188,8 @@ module _ (breaks : ℕ → Bool) (bounds : List ℕ) (rises : falls 0 bounds ≡
 
   looked : (shared : Shared) (block : ℕ) → shared.next ≤ blocks_of bounds → block < blocks_of bounds
       → KeptBy breaks bounds (Holding block) shared (looks bounds block shared)
-  looked shared block within below = by_test (Holding block) shared (starts_late shared.least (start_of bounds block)) _ _
+  looked shared block within below =
+      by_test (Holding block) shared (starts_late shared.least (start_of bounds block)) _ _
       (λ late. record {
         within = within;
         fits = tt;
@@ -244,7 +245,8 @@ module _ (breaks : ℕ → Bool) (bounds : List ℕ) (rises : falls 0 bounds ≡
         | inr past ↦ inr (late_lesser (start_of bounds k) index shared.least past)
       ];
     };
-    least = λ rest h. h ∙ lesser_swap shared.least (Some index) rest ∙ sym (lesser_assoc (Some index) shared.least rest);
+    least = λ rest h. h ∙ lesser_swap shared.least (Some index) rest
+        ∙ sym (lesser_assoc (Some index) shared.least rest);
   }
 
   abbrev pub KeptIfEnabled : Worker → Shared → Option Moved → Type 0

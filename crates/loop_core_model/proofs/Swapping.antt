@@ -20,8 +20,8 @@ same_place f g comm (word ∷ words) zero = ap (λ (w : ℕ). w ∷ words) (comm
 same_place f g comm (word ∷ words) (suc e) = ap (λ (ws : List ℕ). word ∷ ws) (same_place f g comm words e)
 
 -- two changes at different places
-pub other_place : (f g : ℕ → ℕ) (words : List ℕ) (d e : ℕ) → d ≢ e → changed_at f d (changed_at g e words) ≡ changed_at g e
-    (changed_at f d words)
+pub other_place : (f g : ℕ → ℕ) (words : List ℕ) (d e : ℕ) → d ≢ e
+    → changed_at f d (changed_at g e words) ≡ changed_at g e (changed_at f d words)
 other_place f g words d e apart =
     let x : ℕ = f (get_or words d 0) in
     let y : ℕ = g (get_or words e 0) in
