@@ -22,10 +22,7 @@ int-le-opposite (negsuc a) (pos b) = refl
 int-le-opposite (negsuc a) (negsuc b) = grind (arith, nat_tests)
 
 int-lt-opposite : (a b : ℤ) → int_lt a b ≡ not (int_le b a)
-int-lt-opposite (pos a) (pos b) = grind (arith, nat_tests)
-int-lt-opposite (pos a) (negsuc b) = refl
-int-lt-opposite (negsuc a) (pos b) = refl
-int-lt-opposite (negsuc a) (negsuc b) = grind (arith, nat_tests)
+int-lt-opposite a b = rw (int-le-opposite b a) (not-not (int_lt a b))
 
 pub opposite_says : (compare : Compare) (width : Width) (a b : ℕ) → says (opposite compare) width a b
     ≡ not (holds width compare a b)

@@ -4,8 +4,7 @@ pub mod ConditionLaws
 pub mod RefineSpans
 pub mod RefineContains
 pub mod RowBounds
-pub mod RowContains
+pub mod Rows
 pub mod AluContains
 pub mod RowSpans
-pub mod RefineLaws
-pub mod RowLaws
+pub mod Computed

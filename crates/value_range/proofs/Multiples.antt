@@ -1,5 +1,5 @@
 -- Multiples of powers of two, and rounding to them.
-use Rattle.std.proofs.Common.{◌≡◌, ◌∙◌, ℕ, zero, suc, ◌+◌, ◌-◌, ◌*◌, ◌/◌, ◌%◌, ◌^◌, ◌<◌, ◌≤◌, min, refl, sym, ap, subst}
+use Rattle.std.proofs.Common.{◌≡◌, ◌∙◌, ℕ, zero, suc, ◌+◌, ◌-◌, ◌*◌, ◌/◌, ◌%◌, ◌^◌, ◌<◌, ◌≤◌, min, refl, sym, subst}
 use Rattle.std.{proofs.{Common.{arith, ⊎_elim}, lemmas.Bool.{cases_lt}}, specs.Int.Count.{count_trailing_zeros, under}}
 use Rattle.std.specs.Int.{◌∣◌, w64, trailing_zeros, next_multiple_of}
 use Rattle.std.proofs.Math.Nat.{min-le_left, min-le_right, dvd-mul_right, dvd-mul_left, dvd_trans, dvd-add, dvd-sub}
@@ -45,8 +45,7 @@ multiple-sub z a b h k = mod-eq-zero_of_dvd (2 ^ z) (dvd-sub (2 ^ z) (dvd_of_mod
 
 pub multiple-mul : (i j a b : ℕ) → a % 2 ^ i ≡ 0 → b % 2 ^ j ≡ 0 → (a * b) % 2 ^ (i + j) ≡ 0
 multiple-mul i j a b h k =
-    subst (λ (p : ℕ). (a * b) % p ≡ 0) (sym (pow-add 2 i j))
-    (mod-eq-zero_of_dvd (2 ^ i * 2 ^ j) (mul-dvd-mul (2 ^ i) (2 ^ j) (dvd_of_mod-eq-zero (2 ^ i) h)
+    rw (pow-add 2 i j) (mod-eq-zero_of_dvd (2 ^ i * 2 ^ j) (mul-dvd-mul (2 ^ i) (2 ^ j) (dvd_of_mod-eq-zero (2 ^ i) h)
     (dvd_of_mod-eq-zero (2 ^ j) k)))
 
 -- a power is a multiple of itself
@@ -122,10 +121,8 @@ up-least z n = omega arith
 
 up-stays : (p n : ℕ) → 0 < p → n % p ≡ 0 → next_multiple_of n p ≡ n
 up-stays p n h e =
-    let f : next_multiple_of n p ≡ n + (p - 0) % p = ap (λ (r : ℕ). n + (p - r) % p) e in
     let whole : p - 0 ≡ p = omega arith in
-    let none : (p - 0) % p ≡ 0 = ap (λ (x : ℕ). x % p) whole ∙ mod_self p in
-    omega (arith, f, none)
+    rw (e, whole, mod_self p) (omega arith)
 
 up-moves : (p n : ℕ) → 0 < p → 0 < n % p → next_multiple_of n p ≡ n / p * p + p
 up-moves p n h k =
@@ -137,10 +134,9 @@ unfolding rounded_up
 up-multiple z n =
     let p = 2 ^ z in
     ⊎_elim
-    (λ (m : 0 < n % p).
-    subst (λ (x : ℕ). x % p ≡ 0) (sym (up-moves p n (pow_pos z) m))
+    (λ (m : 0 < n % p). rw (up-moves p n (pow_pos z) m)
     (multiple-add z (n / p * p) p (mod-eq-zero_of_dvd p (dvd-mul_left p (n / p))) (pow-multiple z)))
-    (λ (m : n % p ≤ 0). subst (λ (x : ℕ). x % p ≡ 0) (sym (up-stays p n (pow_pos z) (omega arith))) (omega arith))
+    (λ (m : n % p ≤ 0). let none : n % p ≡ 0 = omega arith in rw (up-stays p n (pow_pos z) none) none)
     (cases_lt 0 (n % p))
 
 pub up-most : (z n x : ℕ) → x % 2 ^ z ≡ 0 → n ≤ x → rounded_up z n ≤ x

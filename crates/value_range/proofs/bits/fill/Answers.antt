@@ -1,5 +1,5 @@
 -- All bits of a word, shifted to the right by its leading zeros.
-use Rattle.value_range.proofs.{RowBounds.{filled-least}, RowLaws.{filled-ones, filled-most, filled-zero}}
+use Rattle.value_range.proofs.{RowBounds.{filled-least}, Computed.{filled-ones, filled-most, filled-zero}}
 use Rattle.value_range.proofs.bits.fill.Goals as goal
 
 pub returns-then-word-eq0-clause-equal : goal.returns-then-word-eq0-clause-equal

@@ -1,5 +1,5 @@
 -- The bits of both least numbers lie between.
-use Rattle.value_range.proofs.RowBounds.{with_bits_some}
+use Rattle.value_range.proofs.{RowBounds.{some-between, or-between}, SpanLaws.{lo-with}}
 use Rattle.value_range.proofs.bits.with_bits.Goals as goal
 
 pub norm-requires-clause-some : goal.norm-requires-clause-some
@@ -15,4 +15,4 @@ norm-requires-clause-some c =
       c.hi.ensures.number,
       c.hi-2.ensures.number,
     )
-    (with_bits_some c.args.a c.args.b c.lo.ensures.span c.lo-2.ensures.span)
+    (some-between _ _ _ _ (or-between (lo-with c.args.a c.lo.ensures.span) (lo-with c.args.b c.lo-2.ensures.span)))

@@ -1,6 +1,6 @@
 -- Rounded inward, the bounds cross where nothing lies between.
 use Rattle.std.proofs.Common.{◌∙◌, min, max}
-use Rattle.value_range.proofs.RefineLaws.{equal-none, equal-some, equal-within}
+use Rattle.value_range.proofs.Computed.{equal-none, equal-some, equal-within}
 use Rattle.value_range.proofs.comparisons.equal.Goals as goal
 
 pub returns-then-hi-lo : goal.returns-then-hi-lo

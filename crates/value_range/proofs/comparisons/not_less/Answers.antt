@@ -1,16 +1,16 @@
 -- The first's greatest and the second's least number stay.
 use Rattle.std.proofs.Common.{arith, ◌≤◌}
-use Rattle.value_range.proofs.RefineSpans.{not_less-first, not_less-second}
+use Rattle.value_range.proofs.RefineSpans.{cut-first, cut-second}
 use Rattle.value_range.proofs.comparisons.not_less.Goals as goal
 
 pub norm-first-requires-clause-some : goal.norm-first-requires-clause-some
 norm-first-requires-clause-some c =
     let more : c.args.b.lo ≤ c.args.a.hi = omega (arith, c.if-hi-lo.false, c.hi.ensures.number, c.lo.ensures.number) in
     rw (c.zeros.ensures.number, c.max.ensures, c.lo-2.ensures.number, c.lo-3.ensures.number, c.hi-2.ensures.number)
-    (not_less-first c.args.a c.args.b.lo c.zeros.ensures.span more)
+    (cut-first c.args.a c.args.b.lo c.zeros.ensures.span more)
 
 pub norm-second-requires-clause-some : goal.norm-second-requires-clause-some
 norm-second-requires-clause-some c =
     let more : c.args.b.lo ≤ c.args.a.hi = omega (arith, c.if-hi-lo.false, c.hi.ensures.number, c.lo.ensures.number) in
     rw (c.zeros-2.ensures.number, c.lo-4.ensures.number, c.min.ensures, c.hi-3.ensures.number, c.hi-4.ensures.number)
-    (not_less-second c.args.b c.args.a.hi c.zeros-2.ensures.span more)
+    (cut-second c.args.b c.args.a.hi c.zeros-2.ensures.span more)

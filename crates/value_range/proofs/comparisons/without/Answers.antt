@@ -1,5 +1,5 @@
 -- A range of several words goes on a step past its least, and ends a step before its greatest.
-use Rattle.value_range.proofs.{RefineSpans.{without-least, without-greatest}, RefineLaws.{step-shifted}}
+use Rattle.value_range.proofs.{RefineSpans.{without-least, without-greatest}, Computed.{step-shifted}}
 use Rattle.value_range.proofs.comparisons.without.Goals as goal
 
 pub norm-requires-clause-some : goal.norm-requires-clause-some

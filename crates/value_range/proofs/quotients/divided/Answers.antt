@@ -1,6 +1,6 @@
 -- The least number's quotient lies between.
 use Rattle.std.proofs.Common.{arith, ◌<◌}
-use Rattle.value_range.proofs.RowBounds.{divided_some}
+use Rattle.value_range.proofs.{RowBounds.{some-between, quotient-between}, SpanLaws.{lo-in}}
 use Rattle.value_range.proofs.quotients.divided.Goals as goal
 
 pub norm-requires-else-lo-eq0-clause-some : goal.norm-requires-else-lo-eq0-clause-some
@@ -12,4 +12,5 @@ norm-requires-else-lo-eq0-clause-some c =
       c.hi-else-lo-eq0.ensures.number,
       c.lo-else-lo-eq0-3.ensures.number,
     )
-    (divided_some c.args.a c.args.b.lo positive c.lo-else-lo-eq0.ensures.span)
+    (some-between _ _ _ _ (quotient-between c.args.a c.args.b.lo c.args.a.lo positive
+    (lo-in c.args.a c.lo-else-lo-eq0.ensures.span)))

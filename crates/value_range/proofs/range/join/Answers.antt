@@ -5,17 +5,14 @@ use Rattle.value_range.proofs.range.join.Goals as goal
 pub invariant_of-result : goal.invariant_of-result
 invariant_of-result c =
     rw (c.min.ensures, c.max.ensures, c.min-2.ensures)
-    (join-span (record { lo = c.a.inside.lo; hi = c.a.inside.hi; zeros = c.a.inside.zeros })
-    (record { lo = c.b.inside.lo; hi = c.b.inside.hi; zeros = c.b.inside.zeros }) c.a.invariant c.b.invariant)
+    (join-span _ _ c.a.invariant c.b.invariant)
 
 pub returns-clause-first : goal.returns-clause-first
 returns-clause-first c =
     rw (c.min.ensures, c.max.ensures, c.min-2.ensures, ← c.a.view_is)
-    (join-first (record { lo = c.a.inside.lo; hi = c.a.inside.hi; zeros = c.a.inside.zeros })
-    (record { lo = c.b.inside.lo; hi = c.b.inside.hi; zeros = c.b.inside.zeros }))
+    (join-first _ _)
 
 pub returns-clause-second : goal.returns-clause-second
 returns-clause-second c =
     rw (c.min.ensures, c.max.ensures, c.min-2.ensures, ← c.b.view_is)
-    (join-second (record { lo = c.a.inside.lo; hi = c.a.inside.hi; zeros = c.a.inside.zeros })
-    (record { lo = c.b.inside.lo; hi = c.b.inside.hi; zeros = c.b.inside.zeros }))
+    (join-second _ _)
