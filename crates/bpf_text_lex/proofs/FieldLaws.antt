@@ -1,56 +1,33 @@
 -- The numbers of a line are of their field.
-use Rattle.std.proofs.Common.{◌≡◌, ℕ, zero, suc, ◌<◌, ◌≤◌, Bool, true, false, cond, List, [], ◌∷◌, length, get_or}
-use Rattle.std.{proofs.Common.{Result, Ok, Err, refl, ap, arith}, specs.{Prelude.{nat_le, IfOk}, List.{list_all}}}
-use Rattle.std.proofs.lemmas.Bool.{leb-true}
+use Rattle.std.proofs.Common.{◌≡◌, ℕ, ◌<◌, ◌≤◌, Bool, true, cond, List, [], ◌∷◌, length, get_or, Result, Ok, Err, refl}
+use Rattle.std.{proofs.Common.{subst, arith}, specs.{Prelude.{IfOk, All}, List.{list_all}}}
+use Rattle.std.proofs.lemmas.List.Elements.{All-nil, All-cons}
 use Rattle.bpf_text_lex.specs.declared.text_error.TextFault.{TextFault}
-use Rattle.bpf_text_lex.specs.Numbers.{is_numeral, is_negative, is_number, value_of, number_in}
-use Rattle.bpf_text_lex.specs.{Fields.{numbers_in, fields_of}, Refusals.{at_line, with_first_item}}
+use Rattle.bpf_text_lex.specs.{Numbers.{is_number, number_in}, Fields.{numbers_in, fields_of}}
+use Rattle.bpf_text_lex.{specs.Refusals.{at_line, with_first_item}, proofs.SpellingLaws.{read_as}}
 use Rattle.bpf_text_lex.specs.declared.text_error.TextFault.TheVariants as faults
 
--- ---- what is read lies in its field
+if_read : (limit : ℕ) (r : Result ℕ TextFault) → ((n : ℕ) → r ≡ Ok n → n ≤ limit) → IfOk r (λ n. n ≤ limit)
+if_read limit (Ok n) small = small n refl
+if_read limit (Err fault) small = tt
 
-field_small : (limit : ℕ) (r : Result ℕ TextFault) (n : ℕ) → IfOk r (λ m. m ≤ limit) → r ≡ Ok n → n ≤ limit
-field_small limit (Ok m) n le e = let same : m ≡ n = cc in rw (← same) le
-field_small limit (Err error) n le e = absurd cc
+both_small : (limit : ℕ) (first : Result ℕ TextFault) (others : Result (List ℕ) TextFault) → IfOk first (λ n. n ≤ limit)
+    → IfOk others (All (λ n. n ≤ limit)) → IfOk (with_first_item first others) (All (λ n. n ≤ limit))
+both_small limit (Ok n) (Ok ns) one more = All-cons (λ m. m ≤ limit) n ns one more
+both_small limit (Ok n) (Err fault) one more = tt
+both_small limit (Err fault) others one more = tt
 
-chosen_small : (limit : ℕ) (numeral small negative : Bool) (v : ℕ) → (small ≡ true → v ≤ limit)
-    → IfOk {E = TextFault} (cond numeral (cond small (Ok v) (Err faults.Field)) (cond negative (Err faults.Field)
-    (Err faults.Form))) (λ m. m ≤ limit)
-chosen_small limit true true negative v le = le refl
-chosen_small limit true false negative v le = tt
-chosen_small limit false small true v le = tt
-chosen_small limit false small false v le = tt
+numbers_small : (limit : ℕ) (words : List (List ℕ)) → IfOk (numbers_in limit words) (All (λ n. n ≤ limit))
+numbers_small limit [] = All-nil (λ n. n ≤ limit)
+numbers_small limit (word ∷ words) = both_small limit (number_in limit word) (numbers_in limit words)
+    (if_read limit (number_in limit word) (λ n e. (read_as limit word n e).2)) (numbers_small limit words)
 
-number_small : (limit : ℕ) (word : List ℕ) → IfOk (number_in limit word) (λ m. m ≤ limit)
-number_small limit word = chosen_small limit (is_numeral word) (nat_le (value_of word) limit) (is_negative word)
-    (value_of word) (λ e. leb-true _ _ e)
-
-front_small : (limit : ℕ) (first : Result ℕ TextFault) (others : Result (List ℕ) TextFault) (ns : List ℕ) →
-    ((n : ℕ) → first ≡ Ok n → n ≤ limit) → ((ms : List ℕ) → others ≡ Ok ms → (k d : ℕ) → k < length ms
-    → get_or ms k d ≤ limit) →
-    with_first_item first others ≡ Ok ns → (k d : ℕ) → k < length ns → get_or ns k d ≤ limit
-front_small limit (Ok n) (Ok ms) [] one more e k d lt = absurd cc
-front_small limit (Ok n) (Ok ms) (m ∷ rest) one more e zero d lt = let same : n ≡ m = cc in rw (← same) (one n refl)
-front_small limit (Ok n) (Ok ms) (m ∷ rest) one more e (suc k) d lt = let same : ms ≡ rest =
-    cc in rw (← same) (more ms refl k d (rw same (omega arith)))
-front_small limit (Ok n) (Err fault) ns one more e k d lt = absurd cc
-front_small limit (Err fault) others ns one more e k d lt = absurd cc
-
-numbers_small : (limit : ℕ) (words : List (List ℕ)) (ns : List ℕ) → numbers_in limit words ≡ Ok ns → (k d : ℕ)
-    → k < length ns → get_or ns k d ≤ limit
-numbers_small limit [] [] e k d lt = absurd (omega arith)
-numbers_small limit [] (n ∷ ns) e k d lt = absurd cc
-numbers_small limit (word ∷ words) ns e k d lt =
-    front_small limit (number_in limit word) (numbers_in limit words) ns
-    (λ n h. field_small limit (number_in limit word) n (number_small limit word) h) (λ ms h. numbers_small limit words ms h) e k d lt
-
-tested : (t : Bool) (r : Result (List ℕ) TextFault) (line : ℕ) (ns : List ℕ) → at_line line (cond t r (Err faults.Form))
-    ≡ Ok ns → r ≡ Ok ns
-tested true (Ok ms) line ns e = (let same : ms ≡ ns = cc in ap (λ (list : List ℕ). Ok list) same)
-tested true (Err fault) line ns e = absurd cc
-tested false r line ns e = absurd cc
+tested : (t : Bool) (r : Result (List ℕ) TextFault) (limit line : ℕ) (ns : List ℕ) → IfOk r (All (λ n. n ≤ limit))
+    → at_line line (cond t r (Err faults.Form)) ≡ Ok ns → All (λ n. n ≤ limit) ns
+tested true (Ok ms) limit line ns small e = (let same : ms ≡ ns = cc in subst (All (λ n. n ≤ limit)) same small)
+tested _ _ limit line ns small e = absurd cc
 
 pub fields_small : (limit line : ℕ) (words : List (List ℕ)) (ns : List ℕ) → at_line line (fields_of limit words) ≡ Ok ns
     → (k d : ℕ) → k < length ns → get_or ns k d ≤ limit
 fields_small limit line words ns e =
-    numbers_small limit words ns (tested (list_all is_number words) (numbers_in limit words) line ns e)
+    tested (list_all is_number words) (numbers_in limit words) limit line ns (numbers_small limit words) e

@@ -3,7 +3,6 @@ pub mod WideLaws
 pub mod Bounds
 pub mod SolidWords
 pub mod EachMnemonic
-pub mod MnemonicFronts
 pub mod PrintedInsns
 pub mod PrintedLineLaws
 pub mod PrintedHead

@@ -1,9 +1,11 @@
 -- Printed lines: they have no newline and no semicolon, begin with no blank, and end in a byte that is neither a blank
 -- nor a colon.
-use Rattle.std.proofs.Common.{◌≡◌, ℕ, ◌<◌, ◌≤◌, Bool, true, false, ◌&&◌, ◌==◌, not, List, [], ◌∷◌, ◌++◌, length, refl}
-use Rattle.std.{proofs.Common.{sym, ap, ◌∙◌, append_assoc, arith}, specs.{Prelude.{nat_le}, Char.{is_ascii_digit}}}
-use Rattle.std.{specs.List.{list_all}, proofs.lemmas.Bool.{ne_eqb, le-leb, leb-true, and_parts, and_from}}
-use Rattle.std.proofs.lemmas.List.Folds.{list_all-append}
+use Rattle.std.proofs.Common.{◌≡◌, ℕ, ◌+◌, ◌-◌, ◌<◌, ◌≤◌, Bool, true, ◌&&◌, ◌==◌, not, List, [], ◌∷◌, ◌++◌, length}
+use Rattle.std.proofs.Common.{get_or, take, refl, sym, ap, ◌∙◌, append_assoc, arith}
+use Rattle.std.specs.{Prelude.{nat_le}, Char.{is_ascii_digit}, List.{list_all}}
+use Rattle.std.proofs.lemmas.{Bool.{leb-true, and_parts, and_from}, Bool.Decides.{nat_tests}}
+use Rattle.std.proofs.lemmas.List.{length-append, take_all, take_more, Folds.{list_all-append}}
+use Rattle.std.proofs.lemmas.List.Sums.{AllPass-from_list_all}
 
 -- a byte of a line: 32 or above, and no semicolon
 abbrev pub in_line : ℕ → Bool
@@ -13,17 +15,24 @@ in_line b = nat_le 32 b && not (b == 59)
 abbrev pub is_solid : ℕ → Bool
 is_solid b = nat_le 33 b && (not (b == 58) && not (b == 59))
 
-pub solid_in_line : (b : ℕ) → is_solid b ≡ true → in_line b ≡ true
-solid_in_line b e =
-    let h = and_parts (nat_le 33 b) _ e in
-    let rest = and_parts (not (b == 58)) (not (b == 59)) h.1 in
-    let low : 33 ≤ b = leb-true 33 b h.0 in
-    and_from (nat_le 32 b) (not (b == 59)) (le-leb 32 b (omega (arith, low))) rest.1
+-- what passes a test passes a weaker one
+pub all_weaker : (p q : ℕ → Bool) → ((b : ℕ) → p b ≡ true → q b ≡ true) → (w : List ℕ) → list_all p w ≡ true
+    → list_all q w ≡ true
+all_weaker p q weaker [] e = refl
+all_weaker p q weaker (b ∷ bs) e = let h = and_parts (p b) (list_all p bs) e in
+    and_from (q b) (list_all q bs) (weaker b h.0) (all_weaker p q weaker bs h.1)
+
+solid_in_line : (b : ℕ) → is_solid b ≡ true → in_line b ≡ true
+solid_in_line b e = grind (arith, nat_tests)
 
 pub solids_in_line : (w : List ℕ) → list_all is_solid w ≡ true → list_all in_line w ≡ true
-solids_in_line [] e = refl
-solids_in_line (b ∷ bs) e = (let h = and_parts (is_solid b) (list_all is_solid bs) e in
-    and_from (in_line b) (list_all in_line bs) (solid_in_line b h.0) (solids_in_line bs h.1))
+solids_in_line w e = all_weaker is_solid in_line solid_in_line w e
+
+digit_solid : (b : ℕ) → is_ascii_digit b ≡ true → is_solid b ≡ true
+digit_solid b e = grind (arith, nat_tests)
+
+pub digits_solid : (w : List ℕ) → list_all is_ascii_digit w ≡ true → list_all is_solid w ≡ true
+digits_solid w e = all_weaker is_ascii_digit is_solid digit_solid w e
 
 pub all_append : (p : ℕ → Bool) (xs ys : List ℕ) → list_all p xs ≡ true → list_all p ys ≡ true
     → list_all p (xs ++ ys) ≡ true
@@ -45,12 +54,16 @@ ends_behind xs ys e = record {
   solid = e.solid;
 }
 
+ends_at : (text : List ℕ) → 0 < length text → is_solid (get_or text (length text - 1) 0) ≡ true → Ends text
+ends_at text some e = record {
+  front = take (length text - 1) text;
+  last = get_or text (length text - 1) 0;
+  whole = sym (take_all (length text - 1 + 1) text (omega arith)) ∙ take_more text (length text - 1) 0 (omega arith);
+  solid = e;
+}
+
 pub ends_word : (w : List ℕ) → 0 < length w → list_all is_solid w ≡ true → Ends w
-ends_word [] some e = absurd (omega arith)
-ends_word (b ∷ []) some e = record { front = []; last = b; whole = refl; solid = (and_parts (is_solid b) true e).0 }
-ends_word (b ∷ c ∷ cs) some e =
-    ends_behind (b ∷ []) (c ∷ cs) (ends_word (c ∷ cs) (omega arith) (and_parts (is_solid b) (list_all is_solid (c ∷ cs))
-    e).1)
+ends_word w some e = ends_at w some (AllPass-from_list_all is_solid w e (length w - 1) 0 (omega arith))
 
 -- a line as it is printed
 pub record Line (text : List ℕ) : Type 0 where
@@ -58,32 +71,54 @@ pub record Line (text : List ℕ) : Type 0 where
   pub begins : (b : ℕ) × (bs : List ℕ) × (text ≡ b ∷ bs) × (is_solid b ≡ true)
   pub ends : Ends text
 
--- what a line begins with: a byte of a word first, at most 20 bytes
-pub record Front (text : List ℕ) : Type 0 where
-  pub inner : list_all in_line text ≡ true
-  pub begins : (b : ℕ) × (bs : List ℕ) × (text ≡ b ∷ bs) × (is_solid b ≡ true)
-  pub short : length text ≤ 20
+-- a line of at most so many bytes
+pub record LineUpTo (most : ℕ) (text : List ℕ) : Type 0 where
+  pub line : Line text
+  pub short : length text ≤ most
 
 -- whether a text is that
-abbrev pub is_front : List ℕ → Bool
-is_front [] = false
-is_front (b ∷ bs) = is_solid b && (list_all in_line (b ∷ bs) && nat_le (length (b ∷ bs)) 20)
+abbrev pub is_line : ℕ → List ℕ → Bool
+is_line most text = is_solid (get_or text 0 0) && (list_all in_line text && (is_solid (get_or text (length text - 1) 0)
+    && nat_le (length text) most))
 
-pub front_of : (text : List ℕ) → is_front text ≡ true → Front text
-front_of [] e = absurd cc
-front_of (b ∷ bs) e =
-    let h = and_parts (is_solid b) (list_all in_line (b ∷ bs) && nat_le (length (b ∷ bs)) 20) e in
-    let rest = and_parts (list_all in_line (b ∷ bs)) (nat_le (length (b ∷ bs)) 20) h.1 in
-    record { inner = rest.0; begins = (b, bs, refl, h.0); short = leb-true _ _ rest.1 }
+pub line_of : (most : ℕ) (text : List ℕ) → is_line most text ≡ true → LineUpTo most text
+line_of most [] e = absurd cc
+line_of most (b ∷ bs) e =
+    let text = b ∷ bs in
+    let first = and_parts (is_solid b) _ e in
+    let inner = and_parts (list_all in_line text) _ first.1 in
+    let last = and_parts (is_solid (get_or text (length text - 1) 0)) (nat_le (length text) most) inner.1 in
+    record {
+      line = record { inner = inner.0; begins = (b, bs, refl, first.0); ends = ends_at text (omega arith) last.0 };
+      short = leb-true _ _ last.1;
+    }
 
-pub digits_solid : (w : List ℕ) → list_all is_ascii_digit w ≡ true → list_all is_solid w ≡ true
-digits_solid [] e = refl
-digits_solid (b ∷ bs) e =
-    let h = and_parts (is_ascii_digit b) (list_all is_ascii_digit bs) e in
-    let d = and_parts (nat_le 48 b) (nat_le b 57) h.0 in
-    let low : 48 ≤ b = leb-true 48 b d.0 in
-    let high : b ≤ 57 = leb-true b 57 d.1 in
-    let colon : (b == 58) ≡ false = ne_eqb b 58 (λ same. absurd (omega (arith, same, high))) in
-    let semicolon : (b == 59) ≡ false = ne_eqb b 59 (λ same. absurd (omega (arith, same, high))) in
-    and_from (is_solid b) (list_all is_solid bs) (and_from (nat_le 33 b) _ (le-leb 33 b (omega (arith, low)))
-    (and_from (not (b == 58)) (not (b == 59)) (ap not colon) (ap not semicolon))) (digits_solid bs h.1)
+-- a word of at most so many bytes
+pub record Word (most : ℕ) (text : List ℕ) : Type 0 where
+  pub solid : list_all is_solid text ≡ true
+  pub filled : 0 < length text
+  pub short : length text ≤ most
+
+pub joined : (m n : ℕ) (v w : List ℕ) → Word m v → Word n w → Word (m + n) (v ++ w)
+joined m n v w x y = (let long = length-append v w in record {
+  solid = all_append is_solid v w x.solid y.solid;
+  filled = omega (arith, long, x.filled);
+  short = omega (arith, long, x.short, y.short);
+})
+
+-- a line goes on with a word, after other bytes of a line
+pub line_on : (m n most : ℕ) (line between w : List ℕ) → m + (length between + n) ≤ most → LineUpTo m line
+    → list_all in_line between ≡ true → Word n w → LineUpTo most (line ++ (between ++ w))
+line_on m n most line between w le l e x =
+    let begins = l.line.begins in
+    let long = length-append line (between ++ w) in
+    let more = length-append between w in
+    record {
+      line = record {
+        inner = all_append in_line line (between ++ w) l.line.inner (all_append in_line between w e (solids_in_line w
+            x.solid));
+        begins = (begins.0, begins.1 ++ (between ++ w), ap (λ (t : List ℕ). t ++ (between ++ w)) begins.2, begins.3);
+        ends = ends_behind line (between ++ w) (ends_behind between w (ends_word w x.filled x.solid));
+      };
+      short = omega (arith, long, more, l.short, x.short);
+    }

@@ -5,6 +5,7 @@ use Rattle.std.specs.{Prelude.{nat_le, nat_lt, IfOk}, Char.{is_ascii_digit}, Lis
 use Rattle.std.proofs.lemmas.Bool.{leb-true, ltb-true, eqb-true, lt-ltb, le-leb, and_parts, and_from, or_right}
 use Rattle.std.proofs.lemmas.Fmt.{digits_decimal, digits_value-decimal, decimal-digits_value, first_decimal}
 use Rattle.std.proofs.lemmas.{Fmt.{decimal_digit}, Str.Parse.{IsNumeralModel, numerals_by_fold}}
+use Rattle.std.proofs.lemmas.List.Sums.{AllPass-from_list_all}
 use Rattle.bpf_text_lex.specs.declared.text_error.TextFault.{TextFault, TheVariants.{Form, Field}}
 use Rattle.bpf_text_lex.specs.Numbers.{is_numeral, is_negative, value_after, value_of, number_in}
 
@@ -18,26 +19,32 @@ answers true false negative v n e = absurd cc
 answers false small true v n e = absurd cc
 answers false small false v n e = absurd cc
 
+-- what is read is the value of a numeral, within the limit
+pub read_as : (limit : ℕ) (word : List ℕ) (n : ℕ) → number_in limit word ≡ Ok n → (is_numeral word ≡ true)
+    × (value_of word ≡ n) × (n ≤ limit)
+read_as limit word n e =
+    let a = answers (is_numeral word) (nat_le (value_of word) limit) (is_negative word) (value_of word) n e in
+    let small = leb-true _ _ a.1 in
+    (a.0, a.2, omega (arith, small, a.2))
+
 one_digit : (a : Bool) (word : List ℕ) → (length word == 1) ≡ a → (a || nat_lt 48 (get_or word 0 0)) ≡ true
     → get_or word 0 0 ≡ 48 → length word ≡ 1
 one_digit true word same h zero_first = eqb-true _ _ same
 one_digit false word same h zero_first = (let above : 48 < get_or word 0 0 = ltb-true _ _ h in absurd (omega arith))
 
-pub is_filled : (word : List ℕ) → ((length word == 1) || nat_lt 48 (get_or word 0 0)) ≡ true → 0 < length word
+is_filled : (word : List ℕ) → ((length word == 1) || nat_lt 48 (get_or word 0 0)) ≡ true → 0 < length word
 is_filled [] h = absurd cc
 is_filled (b ∷ bs) h = omega arith
 
 -- what is read is the decimal digits of its value
-pub spelled : (limit : ℕ) (word : List ℕ) (n : ℕ) → limit < 2 ^ 64 → number_in limit word ≡ Ok n → (word ≡ decimal n)
+spelled : (limit : ℕ) (word : List ℕ) (n : ℕ) → limit < 2 ^ 64 → number_in limit word ≡ Ok n → (word ≡ decimal n)
     × (n ≤ limit)
 spelled limit word n fits e =
-    let a = answers (is_numeral word) (nat_le (value_of word) limit) (is_negative word) (value_of word) n e in
+    let a = read_as limit word n e in
     let parts = and_parts (list_all is_ascii_digit word) ((length word == 1) || nat_lt 48 (get_or word 0 0)) a.0 in
-    let small : value_of word ≤ limit = leb-true _ _ a.1 in
-    let below : value_of word < 2 ^ 64 = omega arith in
     let back = decimal-digits_value own word parts.0 (is_filled word parts.1) (one_digit (length word == 1) word refl
-    parts.1) below in
-    (sym back ∙ ap decimal a.2, rw (← a.2) small)
+    parts.1) (omega (arith, a.1, a.2)) in
+    (sym back ∙ ap decimal a.1, a.2)
 
 pub spelled_if : (limit : ℕ) (word : List ℕ) (r : Result ℕ TextFault) → limit < 2 ^ 64 → r ≡ number_in limit word
     → IfOk r (λ n. (word ≡ decimal n) × (n ≤ limit))
@@ -53,21 +60,11 @@ is_numeral-decimal : (n : ℕ) → n < 2 ^ 64 → is_numeral (decimal n) ≡ tru
 is_numeral-decimal n fits = and_from (list_all is_ascii_digit (decimal n)) _ (digits_decimal own n fits)
     (no_zero_in_front n fits)
 
-chosen : (numeral small : Bool) (others : Result ℕ TextFault) (v n : ℕ) → numeral ≡ true → small ≡ true → v ≡ n
-    → cond numeral (cond small (Ok v) (Err Field)) others ≡ Ok n
-chosen true true others v n e h same = ap (λ (m : ℕ). Ok m) same
-chosen true false others v n e h same = absurd cc
-chosen false small others v n e h same = absurd cc
-
 -- the decimal digits of a number within the limit are read as it
 pub in_field : (limit n : ℕ) → limit < 2 ^ 64 → n ≤ limit → number_in limit (decimal n) ≡ Ok n
 in_field limit n fits le =
     let below : n < 2 ^ 64 = omega arith in
-    let value : value_of (decimal n) ≡ n = digits_value-decimal own n below in
-    let small : value_of (decimal n) ≤ limit = omega arith in
-    chosen (is_numeral (decimal n)) (nat_le (value_of (decimal n)) limit) (cond (is_negative (decimal n)) (Err Field)
-    (Err Form)) (value_of (decimal n)) n
-    (is_numeral-decimal n below) (le-leb _ _ small) value
+    rw (is_numeral-decimal n below, digits_value-decimal own n below, le-leb n limit le) refl
 
 pub read_back : (limit : ℕ) (word : List ℕ) (n : ℕ) → limit < 2 ^ 64 → n ≤ limit → word ≡ decimal n
     → number_in limit word ≡ Ok n
@@ -85,26 +82,14 @@ pub record Digits (word : List ℕ) : Type 0 where
   pub filled : 0 < length word
   pub first : 48 ≤ get_or word 0 0
 
-is_answer : (numeral small negative : Bool) (v n : ℕ) → cond numeral (cond small (Ok v) (Err Field))
-    (cond negative (Err Field) (Err Form)) ≡ Ok n → numeral ≡ true
-is_answer true small negative v n e = refl
-is_answer false small true v n e = absurd cc
-is_answer false small false v n e = absurd cc
-
-first_from : (word : List ℕ) → 0 < length word → list_all is_ascii_digit word ≡ true → 48 ≤ get_or word 0 0
-first_from [] some e = absurd (omega arith)
-first_from (b ∷ bs) some e = digit_low b (and_parts (is_ascii_digit b) (list_all is_ascii_digit bs) e).0
-
 pub decimal_digits : (n : ℕ) → n < 2 ^ 64 → Digits (decimal n)
 decimal_digits n fits =
-    let read : number_in (2 ^ 64 - 1) (decimal n) ≡ Ok n = in_field (2 ^ 64 - 1) n (omega arith) (omega arith) in
-    let numeral = is_answer (is_numeral (decimal n)) (nat_le (value_of (decimal n)) (2 ^ 64 - 1))
-    (is_negative (decimal n)) (value_of (decimal n)) n read in
+    let numeral = is_numeral-decimal n fits in
     let parts = and_parts (list_all is_ascii_digit (decimal n)) _ numeral in
     let filled = is_filled (decimal n) parts.1 in
-    record { numeral = numeral; digits = parts.0; filled = filled; first = first_from (decimal n) filled parts.0 }
+    let first = AllPass-from_list_all is_ascii_digit (decimal n) parts.0 0 0 filled in
+    record { numeral = numeral; digits = parts.0; filled = filled; first = digit_low _ first }
 
 -- what is read without a sign is a numeral
 pub numeral_if : (limit : ℕ) (word : List ℕ) (n : ℕ) → number_in limit word ≡ Ok n → is_numeral word ≡ true
-numeral_if limit word n e = is_answer (is_numeral word) (nat_le (value_of word) limit) (is_negative word)
-    (value_of word) n e
+numeral_if limit word n e = (read_as limit word n e).0
