@@ -1,6 +1,6 @@
 -- The numbers of a line are of their field.
 use Rattle.std.proofs.Common.{◌≡◌, ℕ, ◌<◌, ◌≤◌, Bool, true, cond, List, [], ◌∷◌, length, get_or, Result, Ok, Err, refl}
-use Rattle.std.{proofs.Common.{subst, arith}, specs.{Prelude.{IfOk, All}, List.{list_all}}}
+use Rattle.std.{proofs.Common.{subst}, specs.{Prelude.{IfOk, All}, List.{list_all}}}
 use Rattle.std.proofs.lemmas.List.Elements.{All-nil, All-cons}
 use Rattle.bpf_text_lex.specs.declared.text_error.TextFault.{TextFault}
 use Rattle.bpf_text_lex.specs.{Numbers.{is_number, number_in}, Fields.{numbers_in, fields_of}}

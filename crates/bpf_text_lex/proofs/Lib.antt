@@ -8,7 +8,6 @@ pub mod PrintedLineLaws
 pub mod PrintedHead
 pub mod LineLaws
 pub mod WordLaws
-pub mod NumberLaws
 pub mod SpellingLaws
 pub mod RefusalLaws
 pub mod FieldLaws

@@ -1,9 +1,9 @@
 -- Where a byte is, and what lines, comments and blanks are around it.
 use Rattle.std.proofs.Common.{◌≡◌, ℕ, suc, ◌+◌, ◌-◌, ◌<◌, ◌≤◌, Bool, true, false, cond, not, ◌==◌, List, [], ◌∷◌, ◌++◌}
-use Rattle.std.proofs.Common.{length, take, drop, Some, None, refl, sym, ap, ◌∙◌, add-one, get_or, arith}
+use Rattle.std.proofs.Common.{length, take, drop, Some, None, refl, sym, ap, ◌∙◌, add-one, arith}
 use Rattle.std.{specs.{Prelude.{position, nat_lt}, List.{position_or_len}}, proofs.lemmas.Bool.{ltb-false, ltb-true}}
-use Rattle.std.proofs.{lemmas.List.{take_all, take_rest, drop_all}, Math.Seq.{take-suc}}
-use Rattle.bpf_text_lex.specs.Lines.{with_front, lines_of, before_comment, is_blank, trim_start, before_kept, trim_end}
+use Rattle.std.proofs.lemmas.List.{take_all, take_rest, drop_all}
+use Rattle.bpf_text_lex.specs.Lines.{with_front, lines_of, before_comment, is_blank, before_kept, trim_end}
 use Rattle.bpf_text_lex.specs.Lines.{content_of, with_content, contents_from, contents_of}
 
 found_at : (b : Bool) (m n size : ℕ) → nat_lt m size ≡ b → Some n ≡ cond b (Some m) None → (m ≡ n) × (n < size)
@@ -43,17 +43,16 @@ first_line b [] = line_step (b == 10) b [] 0 refl
 first_line b (c ∷ cs) = line_step (b == 10) b (c ∷ cs) (position_or_len (λ d. d == 10) (c ∷ cs)) (ap (with_front b)
     (first_line c cs))
 
-pub lines_of-found : (text : List ℕ) (n : ℕ) → Some n ≡ position (λ b. b == 10) text → lines_of text ≡ take n text
-    ∷ lines_of (take (length text - (n + 1)) (drop (n + 1) text))
-lines_of-found [] n e = absurd cc
-lines_of-found (b ∷ bs) n e =
+pub line_found : (text : List ℕ) (n : ℕ) → Some n ≡ position (λ b. b == 10) text → take n text
+    ∷ lines_of (take (length text - (n + 1)) (drop (n + 1) text)) ≡ lines_of text
+line_found [] n e = absurd cc
+line_found (b ∷ bs) n e =
     let f = position_found (λ b. b == 10) (b ∷ bs) n e in
-    rw (take_rest (b ∷ bs) (n + 1), add-one) (rw f.0 at (first_line b bs))
+    rw (take_rest (b ∷ bs) (n + 1), add-one) (sym (rw f.0 at (first_line b bs)))
 
-pub lines_of-missing : (text : List ℕ) → 0 < length text → None ≡ position (λ b. b == 10) text → lines_of text ≡ text
-    ∷ []
-lines_of-missing [] some e = absurd (omega arith)
-lines_of-missing (b ∷ bs) some e =
+pub line_missing : (text : List ℕ) → 0 < length text → None ≡ position (λ b. b == 10) text → lines_of text ≡ text ∷ []
+line_missing [] some e = absurd (omega arith)
+line_missing (b ∷ bs) some e =
     let le = position_missing (λ b. b == 10) (b ∷ bs) e in
     let k = position_or_len (λ c. c == 10) (b ∷ bs) in
     let left : drop (suc k) (b ∷ bs) ≡ [] = drop_all (suc k) (b ∷ bs) (omega (arith, le)) in
@@ -70,66 +69,25 @@ take-comment : (line : List ℕ) → take (position_or_len (λ b. b == 59) line)
 take-comment [] = refl
 take-comment (b ∷ bs) = comment_step (b == 59) b bs (position_or_len (λ c. c == 59) bs) (take-comment bs)
 
-pub comment-found : (line : List ℕ) (n : ℕ) → Some n ≡ position (λ b. b == 59) line → take n line ≡ before_comment line
-comment-found line n e = let f = position_found (λ b. b == 59) line n e in rw f.0 at (take-comment line)
+pub comment_found : (line : List ℕ) (n : ℕ) → Some n ≡ position (λ b. b == 59) line → take n line ≡ before_comment line
+comment_found line n e = let f = position_found (λ b. b == 59) line n e in rw f.0 at (take-comment line)
 
-pub comment-missing : (line : List ℕ) → None ≡ position (λ b. b == 59) line → line ≡ before_comment line
-comment-missing line e = sym (take_all _ line (position_missing (λ b. b == 59) line e)) ∙ take-comment line
-
--- ---- blanks at the front
-
-start_step : (t : Bool) (b : ℕ) (bs : List ℕ) (k : ℕ) → drop k bs ≡ trim_start bs → drop (cond (not (not t)) (1 + k) 0)
-    (b ∷ bs) ≡ cond t (trim_start bs) (b ∷ bs)
-start_step true b bs k shorter = rw (next_of k) shorter
-start_step false b bs k shorter = refl
-
-drop-blanks : (bytes : List ℕ) → drop (position_or_len (λ b. not (is_blank b)) bytes) bytes ≡ trim_start bytes
-drop-blanks [] = refl
-drop-blanks (b ∷ bs) = start_step (is_blank b) b bs (position_or_len (λ c. not (is_blank c)) bs) (drop-blanks bs)
-
-pub start-found : (bytes : List ℕ) (n : ℕ) → Some n ≡ position (λ b. not (is_blank b)) bytes
-    → take (length bytes - n) (drop n bytes) ≡ trim_start bytes
-start-found bytes n e =
-    let f = position_found (λ b. not (is_blank b)) bytes n e in
-    rw (take_rest bytes n) (rw f.0 at (drop-blanks bytes))
-
-pub start-missing : (bytes : List ℕ) → None ≡ position (λ b. not (is_blank b)) bytes → [] ≡ trim_start bytes
-start-missing bytes e =
-    sym (drop_all _ bytes (position_missing (λ b. not (is_blank b)) bytes e)) ∙ drop-blanks bytes
+pub comment_missing : (line : List ℕ) → None ≡ position (λ b. b == 59) line → line ≡ before_comment line
+comment_missing line e = sym (take_all _ line (position_missing (λ b. b == 59) line e)) ∙ take-comment line
 
 -- ---- blanks at the end
 
-trim_end-blank : (xs : List ℕ) (b : ℕ) → is_blank b ≡ true → trim_end (xs ++ b ∷ []) ≡ trim_end xs
-trim_end-blank [] b h = rw h refl
-trim_end-blank (x ∷ xs) b h = ap (before_kept x) (trim_end-blank xs b h)
+pub trims_blank : (xs : List ℕ) (b : ℕ) → is_blank b ≡ true → trim_end (xs ++ b ∷ []) ≡ trim_end xs
+trims_blank [] b h = rw h refl
+trims_blank (x ∷ xs) b h = ap (before_kept x) (trims_blank xs b h)
 
 before_kept-some : (x : ℕ) (xs : List ℕ) (b : ℕ) → before_kept x (xs ++ b ∷ []) ≡ x ∷ (xs ++ b ∷ [])
 before_kept-some x [] b = refl
 before_kept-some x (c ∷ cs) b = refl
 
-pub trim_end-kept : (xs : List ℕ) (b : ℕ) → is_blank b ≡ false → trim_end (xs ++ b ∷ []) ≡ xs ++ b ∷ []
-trim_end-kept [] b h = rw h refl
-trim_end-kept (x ∷ xs) b h = ap (before_kept x) (trim_end-kept xs b h) ∙ before_kept-some x xs b
-
-last_apart : (bytes : List ℕ) (end : ℕ) → 0 < end → end ≤ length bytes → take end bytes ≡ take (end - 1) bytes
-    ++ get_or bytes (end - 1) 0 ∷ []
-last_apart bytes end some inside =
-    let next : end ≡ suc (end - 1) = omega arith in
-    ap (λ n. take n bytes) next ∙ take-suc bytes (end - 1) 0 (omega arith)
-
--- a blank at the end makes no difference
-pub end_moves : (bytes : List ℕ) (end : ℕ) → 0 < end → end ≤ length bytes → is_blank (get_or bytes (end - 1) 0) ≡ true
-    → trim_end (take end bytes) ≡ trim_end bytes → trim_end (take (end - 1) bytes) ≡ trim_end bytes
-end_moves bytes end some inside blank same =
-    sym (trim_end-blank (take (end - 1) bytes) (get_or bytes (end - 1) 0) blank)
-    ∙ rw (last_apart bytes end some inside) at same
-
--- what ends in no blank stays as it is
-pub end_found : (bytes : List ℕ) (end : ℕ) → 0 < end → end ≤ length bytes → is_blank (get_or bytes (end - 1) 0) ≡ false
-    → trim_end (take end bytes) ≡ trim_end bytes → take end bytes ≡ trim_end bytes
-end_found bytes end some inside kept same =
-    rw (last_apart bytes end some inside) (sym (trim_end-kept (take (end - 1) bytes) (get_or bytes (end - 1) 0) kept)
-    ∙ rw (last_apart bytes end some inside) at same)
+pub keeps_end : (xs : List ℕ) (b : ℕ) → is_blank b ≡ false → trim_end (xs ++ b ∷ []) ≡ xs ++ b ∷ []
+keeps_end [] b h = rw h refl
+keeps_end (x ∷ xs) b h = ap (before_kept x) (keeps_end xs b h) ∙ before_kept-some x xs b
 
 -- ---- how many lines there are
 

@@ -1,10 +1,10 @@
 -- The first line of a unit is read back as its sizes.
-use Rattle.std.proofs.Common.{◌≡◌, ℕ, ◌+◌, ◌-◌, ◌*◌, ◌^◌, ◌<◌, ◌≤◌, true, ◌&&◌, not, cond, List, [], ◌∷◌, ◌++◌, map}
-use Rattle.std.proofs.Common.{length, codes, flat_map, take, drop, Ok, Err, refl, ap, ◌∙◌, append_assoc, append-nil}
+use Rattle.std.proofs.Common.{◌≡◌, ℕ, ◌+◌, ◌-◌, ◌*◌, ◌^◌, ◌<◌, ◌≤◌, true, not, List, [], ◌∷◌, ◌++◌, map}
+use Rattle.std.proofs.Common.{length, codes, flat_map, Ok, Err, refl, ap, ◌∙◌, append_assoc, append-nil}
 use Rattle.std.{proofs.Common.{arith, bytes_eq, decimal}, specs.{Prelude.{nat_le, sum}, List.{list_all}}}
 use Rattle.std.proofs.lemmas.Bool.{leb-true, and_parts, and_from, cond-true, or_left}
 use Rattle.std.proofs.lemmas.List.{length-append, Sums.{sum_by-cons}}
-use Rattle.bpf_text_lex.{proofs.SpellingLaws.{in_field, decimal_digits}, specs.Refusals.{with_first_item}}
+use Rattle.bpf_text_lex.{proofs.SpellingLaws.{in_field, decimal_digits}}
 use Rattle.bpf_text_lex.specs.{Lines.{is_blank}, Words.{ends_word, words_of}, Head.{as_sizes, head_of}}
 use Rattle.bpf_text_lex.specs.{Numbers.{is_number, is_numeral, is_negative}, Fields.{numbers_in, fields_of}}
 use Rattle.bpf_text_lex.{specs.PrintedLines.{size_spelling, head_spelling}, proofs.PrintedLineLaws.{solid_no_blank}}
@@ -45,9 +45,9 @@ words_of-sizes (size ∷ sizes) le =
 are_numbers : (sizes : List ℕ) → Small sizes → list_all is_number (map decimal sizes) ≡ true
 are_numbers [] le = refl
 are_numbers (size ∷ sizes) le =
+    let digits = decimal_digits size (omega (arith, le.0)) in
     and_from (is_number (decimal size)) (list_all is_number (map decimal sizes))
-    (or_left (is_numeral (decimal size)) (is_negative (decimal size)) (decimal_digits size (omega (arith, le.0))).numeral)
-    (are_numbers sizes le.1)
+    (or_left (is_numeral (decimal size)) (is_negative (decimal size)) digits.numeral) (are_numbers sizes le.1)
 
 numbers_back : (sizes : List ℕ) → Small sizes → numbers_in (2 ^ 32 - 1) (map decimal sizes) ≡ Ok sizes
 numbers_back [] le = refl

@@ -1,8 +1,8 @@
 -- The lines of a text are those that were joined by newlines, and printed lines say what they are.
-use Rattle.std.proofs.Common.{◌≡◌, ℕ, ◌+◌, Bool, true, false, ◌==◌, List, [], ◌∷◌, ◌++◌, refl, sym, ap, ◌∙◌, arith}
+use Rattle.std.proofs.Common.{◌≡◌, ℕ, ◌+◌, true, false, ◌==◌, List, [], ◌∷◌, ◌++◌, refl, sym, ap, ◌∙◌, arith}
 use Rattle.std.{specs.List.{list_all}, proofs.lemmas.{Bool.{and_parts, cond-false}, Bool.Decides.{nat_tests}}}
 use Rattle.bpf_text_lex.specs.Lines.{with_front, lines_of, before_comment, is_blank, trim_start, trim_end, trim}
-use Rattle.bpf_text_lex.{specs.Lines.{content_of, with_content, contents_from}, proofs.LineLaws.{trim_end-kept}}
+use Rattle.bpf_text_lex.{specs.Lines.{content_of, with_content, contents_from}, proofs.LineLaws.{keeps_end}}
 use Rattle.bpf_text_lex.proofs.SolidWords.{in_line, is_solid, Ends, Line}
 
 no_newline : (b : ℕ) → in_line b ≡ true → (b == 10) ≡ false
@@ -30,7 +30,7 @@ before_comment-all (b ∷ bs) e = let h = and_parts (in_line b) (list_all in_lin
     rw (no_semicolon b h.0) (ap (λ (cs : List ℕ). b ∷ cs) (before_comment-all bs h.1))
 
 trim_end-ends : (line : List ℕ) → Ends line → trim_end line ≡ line
-trim_end-ends line e = ap trim_end e.whole ∙ trim_end-kept e.front e.last (solid_no_blank e.last e.solid) ∙ sym e.whole
+trim_end-ends line e = ap trim_end e.whole ∙ keeps_end e.front e.last (solid_no_blank e.last e.solid) ∙ sym e.whole
 
 -- a printed line before a text is the first content
 pub contents-line : (n : ℕ) (line rest : List ℕ) → Line line → contents_from n (lines_of ((line ++ 10 ∷ []) ++ rest))

@@ -1,5 +1,5 @@
 -- A number has one spelling: its decimal digits.
-use Rattle.std.proofs.Common.{◌≡◌, ℕ, zero, suc, ◌-◌, ◌<◌, ◌≤◌, ◌^◌, Bool, true, false, cond, ◌||◌, ◌==◌, List, [], ◌∷◌}
+use Rattle.std.proofs.Common.{◌≡◌, ℕ, zero, suc, ◌<◌, ◌≤◌, ◌^◌, Bool, true, false, cond, ◌||◌, ◌==◌, List, [], ◌∷◌}
 use Rattle.std.{proofs.Common.{length, get_or, Result, Ok, Err, refl, sym, ap, ◌∙◌, arith, rules}, specs.Fmt.{decimal}}
 use Rattle.std.specs.{Prelude.{nat_le, nat_lt, IfOk}, Char.{is_ascii_digit}, List.{list_all}}
 use Rattle.std.proofs.lemmas.Bool.{leb-true, ltb-true, eqb-true, lt-ltb, le-leb, and_parts, and_from, or_right}
@@ -37,18 +37,14 @@ is_filled [] h = absurd cc
 is_filled (b ∷ bs) h = omega arith
 
 -- what is read is the decimal digits of its value
-spelled : (limit : ℕ) (word : List ℕ) (n : ℕ) → limit < 2 ^ 64 → number_in limit word ≡ Ok n → (word ≡ decimal n)
-    × (n ≤ limit)
-spelled limit word n fits e =
-    let a = read_as limit word n e in
+pub spelled_if : (limit : ℕ) (word : List ℕ) (r : Result ℕ TextFault) → limit < 2 ^ 64 → r ≡ number_in limit word
+    → IfOk r (λ n. (word ≡ decimal n) × (n ≤ limit))
+spelled_if limit word (Ok n) fits e =
+    let a = read_as limit word n (sym e) in
     let parts = and_parts (list_all is_ascii_digit word) ((length word == 1) || nat_lt 48 (get_or word 0 0)) a.0 in
     let back = decimal-digits_value own word parts.0 (is_filled word parts.1) (one_digit (length word == 1) word refl
     parts.1) (omega (arith, a.1, a.2)) in
     (sym back ∙ ap decimal a.1, a.2)
-
-pub spelled_if : (limit : ℕ) (word : List ℕ) (r : Result ℕ TextFault) → limit < 2 ^ 64 → r ≡ number_in limit word
-    → IfOk r (λ n. (word ≡ decimal n) × (n ≤ limit))
-spelled_if limit word (Ok n) fits e = spelled limit word n fits (sym e)
 spelled_if limit word (Err error) fits e = tt
 
 no_zero_in_front : (n : ℕ) → n < 2 ^ 64 → ((length (decimal n) == 1) || nat_lt 48 (get_or (decimal n) 0 0)) ≡ true
@@ -65,10 +61,6 @@ pub in_field : (limit n : ℕ) → limit < 2 ^ 64 → n ≤ limit → number_in 
 in_field limit n fits le =
     let below : n < 2 ^ 64 = omega arith in
     rw (is_numeral-decimal n below, digits_value-decimal own n below, le-leb n limit le) refl
-
-pub read_back : (limit : ℕ) (word : List ℕ) (n : ℕ) → limit < 2 ^ 64 → n ≤ limit → word ≡ decimal n
-    → number_in limit word ≡ Ok n
-read_back limit word n fits le same = ap (number_in limit) same ∙ in_field limit n fits le
 
 -- ---- digits
 

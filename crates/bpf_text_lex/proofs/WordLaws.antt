@@ -1,5 +1,5 @@
 -- The first word of a line, and what comes after it.
-use Rattle.std.proofs.Common.{◌≡◌, ℕ, suc, ◌+◌, ◌<◌, Bool, true, false, ◌&&◌, cond, not, List, [], ◌∷◌, ◌++◌, length}
+use Rattle.std.proofs.Common.{◌≡◌, ℕ, suc, ◌+◌, ◌<◌, Bool, true, false, cond, not, List, [], ◌∷◌, ◌++◌, length}
 use Rattle.std.{proofs.Common.{take, drop, None, refl, sym, ap, ◌∙◌, arith}, specs.Prelude.{position}}
 use Rattle.std.{specs.List.{position_or_len, list_all}, proofs.lemmas.List.{take_all, drop_all}}
 use Rattle.std.proofs.lemmas.Bool.{and_parts, not-true, cond-false, cond_both}

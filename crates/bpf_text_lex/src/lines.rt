@@ -29,6 +29,7 @@ pub fn newline_at(text: &[u8]) -> Option<usize>
 }
 
 /// The first line of a text that isn't empty, without its newline, and the text after that newline.
+#[tactic(auto, using(crate::proofs::LineLaws::line_found, crate::proofs::LineLaws::line_missing))]
 pub(crate) fn split_line(text: &[u8]) -> (&[u8], &[u8])
     requires { 0 < length text.now }
     ensures lines { lines_of text.now ≡ result.0.now ∷ lines_of result.1.now }
@@ -48,6 +49,7 @@ fn comment_at(line: &[u8]) -> Option<usize>
 }
 
 /// A line up to its comment, which begins at the first semicolon.
+#[tactic(auto, using(crate::proofs::LineLaws::comment_found, crate::proofs::LineLaws::comment_missing))]
 pub(crate) fn before_comment(line: &[u8]) -> &[u8]
     ensures { result.now ≡ before_comment line.now }
 {
@@ -57,34 +59,32 @@ pub(crate) fn before_comment(line: &[u8]) -> &[u8]
     }
 }
 
-/// The index of the first byte that is no blank, if there is one.
-fn text_at(bytes: &[u8]) -> Option<usize>
-    ensures { result ≡ position (λ b. not (is_blank b)) bytes.now }
-{
-    bytes.iter().position(|b| !is_blank(*b))
-}
-
 /// Without the blanks at the front.
 pub fn trim_start(bytes: &[u8]) -> &[u8]
     ensures trimmed { result.now ≡ trim_start bytes.now }
     ensures len { length result.now ≤ length bytes.now }
 {
-    match text_at(bytes) {
-        Some(start) => &bytes[start..],
-        None => &[],
+    let mut rest = bytes;
+    while let Some((first, after)) = rest.split_first() {
+        if !is_blank(*first) {
+            return rest;
+        }
+        rest = after;
     }
+    &[]
 }
 
 /// Without the blanks at the end.
+#[tactic(auto, using(crate::proofs::LineLaws::trims_blank, crate::proofs::LineLaws::keeps_end))]
 pub(crate) fn trim_end(bytes: &[u8]) -> &[u8]
     ensures { result.now ≡ trim_end bytes.now }
 {
-    let mut end = bytes.len();
-    while end > 0 {
-        if !is_blank(bytes[end - 1]) {
-            return &bytes[..end];
+    let mut rest = bytes;
+    while let Some((last, before)) = rest.split_last() {
+        if !is_blank(*last) {
+            return rest;
         }
-        end -= 1;
+        rest = before;
     }
     &[]
 }

@@ -1,4 +1,4 @@
-use Rattle.std.proofs.Common.{◌<◌, length, sym, ap, ◌∙◌, arith}
+use Rattle.std.proofs.Common.{sym, ap, ◌∙◌, arith}
 use Rattle.std.proofs.lemmas.{Bool.{eqb-true, eqb-false}, List.{nil_from_length, length-drop}}
 use Rattle.bpf_text_lex.specs.{Lines.{is_blank}, Words.{words_of}}
 use Rattle.bpf_text_lex.proofs.{LineLaws.{position_found}, WordLaws.{words_of-trim_start, word_found, word_missing}}
