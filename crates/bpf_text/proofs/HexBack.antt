@@ -1,14 +1,15 @@
 -- A unit is read back from its hex form, so no other unit has it.
 use Rattle.std.proofs.Common.{◌≡◌, ℕ, zero, suc, ◌+◌, ◌*◌, ◌/◌, ◌%◌, ◌<◌, ◌≤◌, true, List, [], ◌∷◌, ◌++◌, length, take}
-use Rattle.std.proofs.Common.{drop, get_or, Ok, Err, refl, sym, ap, ap₂, ◌∙◌, subst, append_assoc, append-nil, arith}
+use Rattle.std.proofs.Common.{drop, get_or, Result, Ok, Err, refl, sym, ap, ap₂, ◌∙◌, subst, append_assoc, arith}
 use Rattle.std.{specs.{Prelude.{nat_le, nat_lt}, List.{list_all}}, proofs.lemmas.List.Sums.{AllPass-from_list_all}}
 use Rattle.std.proofs.lemmas.Bool.{le-leb, le-ltb, and_parts, and_from, cond-true, cond-false}
-use Rattle.std.proofs.lemmas.List.{length-append, length-take-le, take-append-drop}
+use Rattle.std.proofs.lemmas.List.{append-nil, length-append, length-drop, length-take-le, take-append-drop}
 use Rattle.hex.specs.Hex.{lower_digits, encode_with, encode_lower}
 use Rattle.hex.proofs.HexLemmas.{length-encode_with, decode_of-encode_lower}
 use Rattle.bpf_insn_types.specs.{declared.insn.Insn.{Insn}, Limits.{AreSizes, IsUnit}, Program.{Program, slot_count}}
 use Rattle.bpf_insn.{specs.Spelling.{program_spelling}, proofs.Programs.{one_program}}
-use Rattle.bpf_text_lex.specs.{Lines.{lines_of, contents_from, contents_of}, Words.{words_of}, Refusals.{at_line}}
+use Rattle.bpf_text_lex.specs.{Lines.{lines_of, contents_from, contents_of}, Words.{words_of}}
+use Rattle.bpf_text_lex.specs.{Refusals.{at_line, ◌>>=◌}, declared.text_error.TextError.{TextError}}
 use Rattle.bpf_text_lex.{specs.PrintedLines.{head_spelling}, proofs.ResultLaws.{same_ok, mapped}}
 use Rattle.bpf_text_lex.proofs.{SolidWords.{is_solid, solids_in_line, ends_word, Line}, PrintedLineLaws.{contents-line}}
 use Rattle.bpf_text_lex.proofs.PrintedHead.{word_first, head_back, head_is_line, head_short}
@@ -16,7 +17,6 @@ use Rattle.bpf_text_lex.specs.declared.text_error.TextFault.TheVariants as fault
 use Rattle.bpf_text_lex.specs.declared.text_error.TextError.TheVariants as errors
 use Rattle.bpf_text.{specs.PrintedUnits.{slot_lines, hex_lines, hex_form}, proofs.HexLines.{slot_lines-slot}}
 use Rattle.bpf_text.specs.HexText.{SizesAndBytes, as_bytes, bytes_of_lines, bytes_behind, hex_parts_of, hex_text}
-use Rattle.bpf_text.proofs.HexLaws.{bytes_behind-line, bytes_behind-end}
 use Rattle.bpf_text.proofs.SpelledBytes.{Bytes, bytes-parts, bytes_at_index, SlotBytes, spelled_bytes}
 
 -- ---- a line of digits
@@ -73,73 +73,52 @@ digits_read n before slot s le =
 -- ---- all lines of digits
 
 -- bytes of at least one slot, as the first slot and the others
-record Cut (bytes : List ℕ) : Type 0 where
-  slot : List ℕ
-  rest : List ℕ
-  whole : bytes ≡ slot ++ rest
-  first : OneSlot slot
-  others : Bytes rest
-  lines : slot_lines bytes ≡ (encode_lower slot ++ 10 ∷ []) ++ slot_lines rest
-
-cut : (bytes : List ℕ) → Bytes bytes → 8 ≤ length bytes → Cut bytes
+cut : (bytes : List ℕ) → Bytes bytes → 8 ≤ length bytes → OneSlot (take 8 bytes) × Bytes (drop 8 bytes)
 cut bytes are le =
-    let whole = sym (take-append-drop 8 bytes) in
-    let parts = bytes-parts (take 8 bytes) (drop 8 bytes) (subst Bytes whole are) in
-    record {
-      slot = take 8 bytes;
-      rest = drop 8 bytes;
-      whole = whole;
-      first = record { are = parts.0; long = length-take-le 8 bytes le };
-      others = parts.1;
-      lines = slot_lines-slot bytes le;
-    }
+    let parts = bytes-parts (take 8 bytes) (drop 8 bytes) (subst Bytes (sym (take-append-drop 8 bytes)) are) in
+    (record { are = parts.0; long = length-take-le 8 bytes le }, parts.1)
 
 no_lines : (bytes : List ℕ) → length bytes ≡ 0 → (slot_lines bytes ≡ []) × (bytes ≡ [])
 unfolding slot_lines
 no_lines [] none = (refl, refl)
 no_lines (b ∷ bs) none = absurd (omega arith)
 
-rest_long : (k : ℕ) (bytes : List ℕ) → length bytes ≡ 8 * suc k → (c : Cut bytes) → length c.rest ≡ 8 * k
-rest_long k bytes long c =
-    let first = c.first.long in
-    let total : length bytes ≡ length c.slot + length c.rest = ap length c.whole ∙ length-append c.slot c.rest in
-    omega (arith, long, first, total)
+rest_long : (k : ℕ) (bytes : List ℕ) → length bytes ≡ 8 * suc k → length (drop 8 bytes) ≡ 8 * k
+rest_long k bytes long = omega (arith, long, length-drop 8 bytes)
 
 bytes_back : (k : ℕ) (before bytes : List ℕ) (n : ℕ) → length bytes ≡ 8 * k → Bytes bytes → length before + length bytes
     ≤ 32768 →
     bytes_behind before (contents_from n (lines_of (slot_lines bytes))) ≡ Ok (before ++ bytes)
+unfolding bytes_behind
 bytes_back zero before bytes n long are le =
     let none = no_lines bytes (omega (arith, long)) in
     ap (λ (text : List ℕ). bytes_behind before (contents_from n (lines_of text))) none.0
-    ∙ bytes_behind-end before
     ∙ ap (λ (all : List ℕ). Ok all) (sym (append-nil before) ∙ ap (λ (more : List ℕ). before ++ more) (sym none.1))
 bytes_back (suc k) before bytes n long are le =
+    let slot = take 8 bytes in
+    let rest = drop 8 bytes in
     let c = cut bytes are (omega (arith, long)) in
-    let others = rest_long k bytes long c in
-    let first = c.first.long in
-    let longer : length (before ++ c.slot) ≡ length before + length c.slot = length-append before c.slot in
-    let lines = contents_from (n + 1) (lines_of (slot_lines c.rest)) in
-    ap (λ (text : List ℕ). bytes_behind before (contents_from n (lines_of text))) c.lines
-    ∙ ap (bytes_behind before) (contents-line n (encode_lower c.slot) (slot_lines c.rest) (digits_line c.slot c.first))
-    ∙ bytes_behind-line before (length before) (n, encode_lower c.slot) lines c.slot refl (digits_read n (length before)
-    c.slot c.first (omega (arith, le, long)))
-    ∙ bytes_back k (before ++ c.slot) c.rest (n + 1) others c.others (omega (arith, le, long, others, first, longer))
-    ∙ ap (λ (all : List ℕ). Ok all) (append_assoc before c.slot c.rest ∙ ap (λ (more : List ℕ). before ++ more)
-    (sym c.whole))
+    let others = rest_long k bytes long in
+    let longer = length-append before slot in
+    let lines = contents_from (n + 1) (lines_of (slot_lines rest)) in
+    ap (λ (text : List ℕ). bytes_behind before (contents_from n (lines_of text)))
+    (slot_lines-slot bytes (omega (arith, long)))
+    ∙ ap (bytes_behind before) (contents-line n (encode_lower slot) (slot_lines rest) (digits_line slot c.0))
+    ∙ ap (λ (r : Result (List ℕ) TextError). r >>= λ m. bytes_behind (before ++ m) lines) (digits_read n (length before)
+    slot c.0 (omega (arith, le, long)))
+    ∙ bytes_back k (before ++ slot) rest (n + 1) others c.1 (omega (arith, le, long, others, c.0.long, longer))
+    ∙ ap (λ (all : List ℕ). Ok all) (append_assoc before slot rest ∙ ap (λ (more : List ℕ). before ++ more)
+    (take-append-drop 8 bytes))
 
 lines_long : (k : ℕ) (bytes : List ℕ) → length bytes ≡ 8 * k → Bytes bytes → length (slot_lines bytes) ≡ 17 * k
 lines_long zero bytes long are = (let none = no_lines bytes (omega (arith, long)) in ap length none.0)
 lines_long (suc k) bytes long are =
     let c = cut bytes are (omega (arith, long)) in
-    let others = lines_long k c.rest (rest_long k bytes long c) c.others in
-    let digits = digits_long c.slot c.first in
-    let line : length (encode_lower c.slot ++ 10 ∷ []) ≡ length (encode_lower c.slot) + 1 =
-    length-append (encode_lower c.slot) (10 ∷ []) in
-    let whole : length ((encode_lower c.slot ++ 10 ∷ []) ++ slot_lines c.rest) ≡ length (encode_lower c.slot ++ 10 ∷ [])
-    + length (slot_lines c.rest) = length-append (encode_lower c.slot ++ 10 ∷ []) (slot_lines c.rest) in
-    let same : length (slot_lines bytes) ≡ length ((encode_lower c.slot ++ 10 ∷ []) ++ slot_lines c.rest) =
-    ap length c.lines in
-    omega (arith, others, digits, line, whole, same)
+    let others = lines_long k (drop 8 bytes) (rest_long k bytes long) c.1 in
+    let digits = digits_long (take 8 bytes) c.0 in
+    let line = length-append (encode_lower (take 8 bytes)) (10 ∷ []) in
+    let whole = length-append (encode_lower (take 8 bytes) ++ 10 ∷ []) (slot_lines (drop 8 bytes)) in
+    omega (arith, others, digits, line, whole, ap length (slot_lines-slot bytes (omega (arith, long))))
 
 -- ---- the whole text
 
@@ -150,11 +129,8 @@ parts sizes bytes = record { sizes = sizes; bytes = bytes }
 whole_short : (sizes bytes : List ℕ) (k : ℕ) → AreSizes sizes → SlotBytes k bytes → k ≤ 4096
     → length (hex_lines sizes bytes) ≤ 1048576
 whole_short sizes bytes k e b few =
-    let head = head_short sizes e in
-    let lines = lines_long k bytes b.long b.are in
-    let long : length (hex_lines sizes bytes) ≡ length (head_spelling sizes ++ 10 ∷ []) + length (slot_lines bytes) =
-    length-append (head_spelling sizes ++ 10 ∷ []) (slot_lines bytes) in
-    omega (arith, head, lines, few, long)
+    let long = length-append (head_spelling sizes ++ 10 ∷ []) (slot_lines bytes) in
+    omega (arith, head_short sizes e, lines_long k bytes b.long b.are, few, long)
 
 whole_back : (sizes bytes : List ℕ) (k : ℕ) → AreSizes sizes → SlotBytes k bytes → k ≤ 4096
     → hex_parts_of (contents_of (hex_lines sizes bytes)) ≡ Ok (parts sizes bytes)

@@ -1,10 +1,6 @@
 pub mod HexLines
-pub mod HexLaws
 pub mod SpelledBytes
 pub mod HexBack
 pub mod ReadingLaws
 pub mod PrintedLabels
 pub mod UnitBack
-pub mod EventLaws
-pub mod MapLaws
-pub mod PrintLaws

@@ -1,6 +1,6 @@
 -- A printed line is no label.
-use Rattle.std.proofs.Common.{◌≡◌, ℕ, ◌+◌, ◌-◌, Bool, true, false, ◌&&◌, ◌==◌, get_or, List, [], ◌∷◌, ◌++◌, length}
-use Rattle.std.proofs.{Common.{refl, ap, ◌∙◌, arith}, lemmas.List.{length-append}, Math.Seq.{get_or-append_seam}}
+use Rattle.std.proofs.Common.{◌≡◌, ℕ, ◌+◌, ◌-◌, false, ◌==◌, get_or, List, [], ◌∷◌, ◌++◌, length, ap, ◌∙◌, arith}
+use Rattle.std.proofs.{lemmas.{List.{length-append}, Bool.{and_left}}, Math.Seq.{get_or-append_seam}}
 use Rattle.bpf_text_lex.{specs.Names.{is_name}, proofs.{SolidWords.{Ends, Line}, PrintedLineLaws.{solid_no_colon}}}
 use Rattle.bpf_text.specs.AssemblerText.{name_of, is_label}
 
@@ -11,11 +11,7 @@ last_byte line e =
     ap (λ (x : List ℕ). get_or x (length x - 1) 0) e.whole ∙ ap (λ n. get_or (e.front ++ e.last ∷ []) n 0) at
     ∙ get_or-append_seam e.front e.last [] 0
 
-no_and : (a b : Bool) → a ≡ false → (a && b) ≡ false
-no_and true b e = absurd cc
-no_and false b e = refl
-
 -- a printed line is no label
 pub no_label : (line : List ℕ) → Line line → is_label line ≡ false
-no_label line l = no_and (get_or line (length line - 1) 0 == 58) (is_name (name_of line))
+no_label line l = and_left (get_or line (length line - 1) 0 == 58) (is_name (name_of line))
     (ap (λ b. b == 58) (last_byte line l.ends) ∙ solid_no_colon l.ends.last l.ends.solid)

@@ -1,13 +1,8 @@
 -- Reading a unit's lines one after the other, as loops do.
-use Rattle.std.proofs.Common.{◌≡◌, ℕ, ◌+◌, List, [], ◌∷◌, ◌++◌, Option, Some, None, Result, Ok, refl, ap, ◌∙◌, subst}
+use Rattle.std.proofs.Common.{◌≡◌, ℕ, ◌+◌, List, [], ◌∷◌, Option, Some, None, refl, ap, ◌∙◌}
 use Rattle.std.specs.Option.{option_or}
-use Rattle.bpf_insn_types.specs.{declared.insn.Insn.{Insn}, Outcome.{RefusalMatches}, Program.{slot_count}}
-use Rattle.bpf_text_lex.specs.{declared.text_error.TextError.{TextError}, Refusals.{at_line, ◌>>=◌, text_refusal}}
-use Rattle.bpf_text_lex.proofs.RefusalLaws.{bind_fails}
 use Rattle.bpf_text_operands.{specs.declared.labels.Label.{Label}, proofs.LabelLaws.{option_or-none}}
-use Rattle.bpf_text.specs.AssemblerText.{line_slots, line_label, labels_from, line_at, insns_behind}
-
--- ---- labels
+use Rattle.bpf_text.specs.AssemblerText.{line_slots, line_label, labels_from, insns_behind}
 
 option_or-assoc : (a b c : Option Label) → option_or (option_or a b) c ≡ option_or a (option_or b c)
 option_or-assoc (Some label) b c = refl
@@ -33,31 +28,6 @@ unfolding labels_from
 labels_end before whole slot all name none so_far =
     let here : option_or before None ≡ whole = rw none at so_far in
     option_or-none before ∙ here
-
--- ---- instructions
-
-pub insns_behind-line : (labels : List ℕ → Option Label) (before : List Insn) (slot : ℕ) (line : ℕ × List ℕ)
-    (lines : List (ℕ × List ℕ)) (more : List Insn) → slot ≡ slot_count before →
-    at_line line.0 (line_at labels slot line.0 line.1) ≡ Ok more → insns_behind labels before (line ∷ lines)
-    ≡ insns_behind labels (before ++ more) lines
-unfolding insns_behind
-insns_behind-line labels before slot line lines more same read =
-    let here : at_line line.0 (line_at labels (slot_count before) line.0 line.1) ≡ Ok more = rw (← same) read in
-    ap (λ (r : Result (List Insn) TextError). r >>= λ m. insns_behind labels (before ++ m) lines) here
-
-pub insns_behind-fails : (labels : List ℕ → Option Label) (e : TextError) (before : List Insn) (slot : ℕ) (line : ℕ
-    × List ℕ) (lines : List (ℕ × List ℕ)) → slot ≡ slot_count before →
-    RefusalMatches (text_refusal e) (at_line line.0 (line_at labels slot line.0 line.1))
-    → RefusalMatches (text_refusal e) (insns_behind labels before (line ∷ lines))
-unfolding insns_behind
-insns_behind-fails labels e before slot line lines same fails =
-    bind_fails e (at_line line.0 (line_at labels (slot_count before) line.0 line.1))
-    (λ m. insns_behind labels (before ++ m) lines)
-    (subst (λ n. RefusalMatches (text_refusal e) (at_line line.0 (line_at labels n line.0 line.1))) same fails)
-
-pub insns_behind-end : (labels : List ℕ → Option Label) (before : List Insn) → insns_behind labels before [] ≡ Ok before
-unfolding insns_behind
-insns_behind-end labels before = refl
 
 -- a table of the labels serves as well
 pub by_table : (labels : List ℕ → Option Label) (lines : List (ℕ × List ℕ))

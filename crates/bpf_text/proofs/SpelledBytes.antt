@@ -1,6 +1,6 @@
 -- What instructions spell is bytes, 8 a slot.
 use Rattle.std.proofs.Common.{◌≡◌, ℕ, zero, suc, ◌+◌, ◌*◌, ◌<◌, ◌≤◌, List, [], ◌∷◌, ◌++◌, length, get_or, Result, Ok}
-use Rattle.std.{proofs.Common.{sym, subst, arith}, specs.Prelude.{IfOk, ℤ, pos, negsuc, Bool, true, false, nat_le}}
+use Rattle.std.{proofs.Common.{sym, subst, arith}, specs.Prelude.{IfOk, ℤ, pos, Bool, true, false, nat_le}}
 use Rattle.std.{specs.Int.{w16, w32, to_le_bytes, cast_unsigned}, proofs.lemmas.{List.{length-append}, Bool.{leb-true}}}
 use Rattle.bpf_insn_types.{proofs.Cases.{each_width, each_size, each_compare}, specs.declared.insn.Width.{Width}}
 use Rattle.bpf_insn_types.specs.declared.insn.{Width.TheVariants.{W32, W64}, Size.{Size}, Compare.{Compare}}
@@ -43,19 +43,15 @@ opcode_small (form.Neg w) = (let y = class_small w in omega (arith, y))
 opcode_small (form.Endian order.Le) = omega arith
 opcode_small (form.Endian order.Be) = omega arith
 opcode_small (form.Endian order.Swap) = omega arith
-opcode_small form.Ja = omega arith
-opcode_small form.Ja32 = omega arith
 opcode_small (form.JumpImm w c) = (let x = compare_small c in let y = jump_small w in omega (arith, x, y))
 opcode_small (form.JumpReg w c) = (let x = compare_small c in let y = jump_small w in omega (arith, x, y))
-opcode_small form.Call = omega arith
-opcode_small form.Exit = omega arith
 opcode_small (form.Load s) = (let x = size_small s in omega (arith, x))
 opcode_small (form.LoadSx s) = (let x = size_small s in omega (arith, x))
 opcode_small (form.StoreImm s) = (let x = size_small s in omega (arith, x))
 opcode_small (form.Store s) = (let x = size_small s in omega (arith, x))
 opcode_small (form.Atomic W32) = omega arith
 opcode_small (form.Atomic W64) = omega arith
-opcode_small form.LoadImm = omega arith
+opcode_small _ = omega arith
 
 -- the opcodes of slots are bytes
 abbrev Small : List Slot → Type 0
@@ -65,33 +61,24 @@ Small (s ∷ ss) = (s.opcode < 256) × Small ss
 two_small : (kind : ImmKind) (b : Bool) (dst : ℕ) (imm next : ℤ) → IfOk (two_slots kind b dst imm next) Small
 two_small kind true dst imm next = (omega arith, (omega arith, tt))
 two_small kind false dst imm (pos zero) = (omega arith, (omega arith, tt))
-two_small kind false dst imm (pos (suc n)) = tt
-two_small kind false dst imm (negsuc n) = tt
+two_small kind _ dst imm next = tt
 
 spelling_small : (i : Insn) → IfOk (spelling i) Small
 spelling_small (insn.Alu w o dst (Imm imm)) = (opcode_small (form.AluImm w (code_of o)), tt)
 spelling_small (insn.Alu w o dst (Reg src)) = (opcode_small (form.AluReg w (code_of o)), tt)
 spelling_small (insn.Neg w dst) = (opcode_small (form.Neg w), tt)
-spelling_small (insn.Movsx W32 movsx.B8 dst src) = (opcode_small (form.AluReg W32 alu.Mov), tt)
-spelling_small (insn.Movsx W32 movsx.B16 dst src) = (opcode_small (form.AluReg W32 alu.Mov), tt)
 spelling_small (insn.Movsx W32 movsx.B32 dst src) = tt
-spelling_small (insn.Movsx W64 bits dst src) = (opcode_small (form.AluReg W64 alu.Mov), tt)
+spelling_small (insn.Movsx w bits dst src) = (opcode_small (form.AluReg w alu.Mov), tt)
 spelling_small (insn.Endian o b dst) = (opcode_small (form.Endian o), tt)
-spelling_small (insn.Ja offset) = (omega arith, tt)
-spelling_small (insn.Ja32 imm) = (omega arith, tt)
 spelling_small (insn.Jump w c dst (Imm imm) offset) = (opcode_small (form.JumpImm w c), tt)
 spelling_small (insn.Jump w c dst (Reg src) offset) = (opcode_small (form.JumpReg w c), tt)
-spelling_small (insn.Call k imm) = (omega arith, tt)
-spelling_small insn.Exit = (omega arith, tt)
 spelling_small (insn.Load z dst src offset) = (opcode_small (form.Load z), tt)
-spelling_small (insn.LoadSx size.B dst src offset) = (omega arith, tt)
-spelling_small (insn.LoadSx size.H dst src offset) = (omega arith, tt)
-spelling_small (insn.LoadSx size.W dst src offset) = (omega arith, tt)
 spelling_small (insn.LoadSx size.Dw dst src offset) = tt
 spelling_small (insn.StoreImm z dst offset imm) = (opcode_small (form.StoreImm z), tt)
 spelling_small (insn.Store z dst src offset) = (opcode_small (form.Store z), tt)
 spelling_small (insn.Atomic w o dst src offset) = (opcode_small (form.Atomic w), tt)
 spelling_small (insn.LoadImm kind dst imm next) = two_small kind (has_next kind) dst imm next
+spelling_small _ = (omega arith, tt)
 
 -- ---- bytes
 
@@ -122,16 +109,10 @@ imm_bytes n = (omega arith, (omega arith, (omega arith, (omega arith, tt))))
 
 slot_are : (s : Slot) → s.opcode < 256 → HasBytes s → Bytes (slot_bytes s)
 slot_are s small has =
-    let dst = has.dst in
-    let src = has.src in (
-      small,
-      (
-        omega (arith, dst, src),
-        bytes-append (to_le_bytes w16 (cast_unsigned w16 s.offset))
-            (to_le_bytes w32 (cast_unsigned w32 s.imm)) (offset_bytes (cast_unsigned w16 s.offset))
-            (imm_bytes (cast_unsigned w32 s.imm)),
-      ),
-    )
+    let offset = cast_unsigned w16 s.offset in
+    let imm = cast_unsigned w32 s.imm in
+    let numbers = bytes-append (to_le_bytes w16 offset) (to_le_bytes w32 imm) (offset_bytes offset) (imm_bytes imm) in
+    (small, (omega (arith, has.dst, has.src), numbers))
 
 slots_are : (ss : List Slot) → Small ss → HaveBytes ss → Bytes (slots_bytes ss)
 slots_are [] small has = tt
@@ -159,9 +140,7 @@ spelled_bytes n (i ∷ is) bytes fit e =
     let here = at_are n (spelling i) cut.0 (spelling_small i) (spelling_has i fit.0) cut.2 in
     let len = spelled_len n i cut.0 cut.2 in
     let later = spelled_bytes (n + slots_of i) is cut.1 fit.1 cut.3 in
-    let others = later.long in
-    let total : length (cut.0 ++ cut.1) ≡ length cut.0 + length cut.1 = length-append cut.0 cut.1 in
     subst (SlotBytes (slot_count (i ∷ is))) (sym cut.4) (record {
       are = bytes-append cut.0 cut.1 here later.are;
-      long = omega (arith, len, others, total);
+      long = omega (arith, len, later.long, length-append cut.0 cut.1);
     })

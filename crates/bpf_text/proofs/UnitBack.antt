@@ -1,13 +1,14 @@
 -- A unit is read back from its canonical text.
-use Rattle.std.proofs.Common.{◌≡◌, ℕ, ◌+◌, ◌*◌, ◌≤◌, List, [], ◌∷◌, ◌++◌, length, flat_map, Option, Ok, Err, refl, sym}
-use Rattle.std.{proofs.Common.{ap, ◌∙◌, append_assoc, append-nil, arith}, specs.Prelude.{nat_le, nat_lt}}
+use Rattle.std.proofs.Common.{◌≡◌, ℕ, ◌+◌, ◌*◌, ◌≤◌, List, [], ◌∷◌, ◌++◌, length, flat_map, Option, Result, Ok, Err}
+use Rattle.std.{proofs.Common.{refl, sym, ap, ◌∙◌, append_assoc, append-nil, arith}, specs.Prelude.{nat_le, nat_lt}}
 use Rattle.std.proofs.lemmas.{Bool.{le-leb, le-ltb, cond-true, cond-false}, List.{length-append}}
 use Rattle.bpf_insn_types.specs.{declared.insn.Insn.{Insn}, Slots.{slots_of}, Values.{InsnFits, AreInsns}}
 use Rattle.bpf_insn_types.specs.{Program.{slot_count, Program}, Limits.{IsUnit}}
 use Rattle.bpf_insn_types.proofs.ProgramLaws.{slots_some, slot_count-append}
 use Rattle.bpf_insn.specs.{declared.slot.Slot.{Slot}, Spelling.{spelling, bytes_at, spelling_from, program_spelling}}
 use Rattle.bpf_insn.proofs.Programs.{both_ok, bytes_ok}
-use Rattle.bpf_text_lex.specs.{Lines.{lines_of, contents_from, contents_of}, Refusals.{at_line}}
+use Rattle.bpf_text_lex.specs.{Lines.{lines_of, contents_from, contents_of}, Refusals.{at_line, ◌>>=◌}}
+use Rattle.bpf_text_lex.specs.declared.text_error.TextError.{TextError}
 use Rattle.bpf_text_lex.specs.PrintedLines.{insn_spelling, insn_line, head_spelling}
 use Rattle.bpf_text_lex.proofs.{ResultLaws.{same_ok, mapped}, PrintedInsns.{insn_is_line}}
 use Rattle.bpf_text_lex.proofs.{PrintedLineLaws.{contents-line}, PrintedHead.{head_back, head_is_line, head_short}}
@@ -17,7 +18,7 @@ use Rattle.bpf_text_operands.specs.{declared.labels.Label.{Label}, LabelTable.{s
 use Rattle.bpf_text_operands.proofs.InsnBack.{insn_back}
 use Rattle.bpf_text.specs.AssemblerText.{name_of, is_label, labels_from, label_at, in_limit, line_at, insns_behind}
 use Rattle.bpf_text.specs.{AssemblerText.{unit_of, assembler_text}, PrintedUnits.{assembler_lines, assembler_form}}
-use Rattle.bpf_text.proofs.{ReadingLaws.{insns_behind-line, insns_behind-end}, PrintedLabels.{no_label}}
+use Rattle.bpf_text.proofs.PrintedLabels.{no_label}
 
 -- ---- what has bytes
 
@@ -62,12 +63,12 @@ line_read labels slot n i ss fits e le =
 insns_back : (labels : List ℕ → Option Label) (before insns : List Insn) (n : ℕ) → AreInsns insns → Spelled insns
     → slot_count before + slot_count insns ≤ 4096 →
     insns_behind labels before (numbered n insns) ≡ Ok (before ++ insns)
-insns_back labels before [] n fit spelled le = insns_behind-end labels before
-    ∙ ap (λ (is : List Insn). Ok is) (sym (append-nil before))
+unfolding insns_behind
+insns_back labels before [] n fit spelled le = ap (λ (is : List Insn). Ok is) (sym (append-nil before))
 insns_back labels before (i ∷ is) n fit spelled le =
     let more : slot_count (before ++ i ∷ []) ≡ slot_count before + slot_count (i ∷ []) =
     slot_count-append before (i ∷ []) in
-    insns_behind-line labels before (slot_count before) (n, insn_spelling i) (numbered (n + 1) is) (i ∷ []) refl
+    ap (λ (r : Result (List Insn) TextError). r >>= λ m. insns_behind labels (before ++ m) (numbered (n + 1) is))
     (line_read labels (slot_count before) n i spelled.0.0 fit.0 spelled.0.1 (omega (arith, le)))
     ∙ insns_back labels (before ++ i ∷ []) is (n + 1) fit.1 spelled.1 (omega (arith, le, more))
     ∙ ap (λ (all : List Insn). Ok all) (append_assoc before (i ∷ []) is)
@@ -78,23 +79,14 @@ lines_short : (insns : List Insn) → AreInsns insns → length (flat_map insn_l
 lines_short [] fit = omega arith
 lines_short (i ∷ is) fit =
     let here = (insn_is_line i fit.0).short in
-    let some = slots_some i in
-    let others = lines_short is fit.1 in
-    let line : length (insn_spelling i ++ 10 ∷ []) ≡ length (insn_spelling i) + 1 =
-    length-append (insn_spelling i) (10 ∷ []) in
-    let long : length ((insn_spelling i ++ 10 ∷ []) ++ flat_map insn_line is) ≡ length (insn_spelling i ++ 10 ∷ [])
-    + length (flat_map insn_line is) = length-append (insn_spelling i ++ 10 ∷ []) (flat_map insn_line is) in
-    omega (arith, here, some, others, line, long)
+    let line = length-append (insn_spelling i) (10 ∷ []) in
+    let long = length-append (insn_spelling i ++ 10 ∷ []) (flat_map insn_line is) in
+    omega (arith, here, slots_some i, lines_short is fit.1, line, long)
 
 whole_short : (p : Program) → IsUnit p → length (assembler_lines p) ≤ 1048576
 whole_short p u =
-    let head = head_short p.sizes u.sizes in
-    let lines = lines_short p.insns u.insns in
-    let few = u.slots in
-    let long : length (assembler_lines p) ≡ length (head_spelling p.sizes ++ 10 ∷ [])
-    + length (flat_map insn_line p.insns) = length-append (head_spelling p.sizes ++ 10 ∷ [])
-    (flat_map insn_line p.insns) in
-    omega (arith, head, lines, few, long)
+    let long = length-append (head_spelling p.sizes ++ 10 ∷ []) (flat_map insn_line p.insns) in
+    omega (arith, head_short p.sizes u.sizes, lines_short p.insns u.insns, u.slots, long)
 
 whole_back : (p : Program) → IsUnit p → Spelled p.insns → unit_of (contents_of (assembler_lines p)) ≡ Ok p
 unfolding unit_of
