@@ -1,21 +1,35 @@
--- The slots of an instruction have bytes.
-use Rattle.std.{proofs.Common.{ℕ, zero, suc, ◌^◌, ◌≤◌, ◌<◌, Bool, true, false, arith}, specs.Int.{w16, w32}}
-use Rattle.std.specs.Prelude.{IfOk, ℤ, pos, negsuc, FitsSigned}
-use Rattle.bpf_insn_types.specs.declared.insn.{Width.TheVariants.{W32, W64}, EndianBits.{EndianBits}, AluOp.{AluOp}}
-use Rattle.bpf_insn_types.specs.declared.insn.{Operand.TheVariants.{Imm, Reg}, AtomicOp.{AtomicOp}, ImmKind.{ImmKind}}
-use Rattle.bpf_insn_types.specs.declared.insn.{AtomicOp.TheVariants.{Simple, Fetch, Xchg, Cmpxchg}, Insn.{Insn}}
-use Rattle.bpf_insn_types.specs.Values.{InsnFits}
+-- The slots of an instruction have bytes, and are read as it.
+use Rattle.std.proofs.Common.{◌≡◌, ℕ, zero, ◌^◌, ◌≤◌, ◌<◌, Bool, true, false, cond, ltb, List, [], ◌∷◌, ◌++◌}
+use Rattle.std.proofs.Common.{Option, Some, Result, Ok, Err, refl, ap, ◌∙◌, arith}
+use Rattle.std.{specs.Int.{w16, w32}, proofs.lemmas.{Bool.{le-ltb}, Result.{IfOk-weaker}}}
+use Rattle.std.specs.Prelude.{IfOk, ◌||◌, ℤ, pos, FitsSigned}
+use Rattle.bpf_insn_types.specs.declared.insn.{Width.TheVariants.{W32, W64}, Operand.TheVariants.{Imm, Reg}}
+use Rattle.bpf_insn_types.specs.declared.insn.{Callee.TheVariants.{Helper}, ImmKind.{ImmKind}, Insn.{Insn}}
+use Rattle.bpf_insn_types.specs.{declared.insn.AtomicOp.TheVariants.{Simple, Fetch}, Values.{InsnFits}}
 use Rattle.bpf_insn_types.specs.declared.insn.Size.TheVariants as size
 use Rattle.bpf_insn_types.specs.declared.insn.EndianBits.TheVariants as endian
 use Rattle.bpf_insn_types.specs.declared.insn.MovsxBits.TheVariants as movsx
 use Rattle.bpf_insn_types.specs.declared.insn.AluOp.TheVariants as op
 use Rattle.bpf_insn_types.specs.declared.insn.SimpleOp.TheVariants as simple
+use Rattle.bpf_insn_types.specs.declared.insn.ImmKind.TheVariants as kind
 use Rattle.bpf_insn_types.specs.declared.insn.Insn.TheVariants as insn
-use Rattle.bpf_insn.specs.{declared.form.Form.{Form}, SlotBytes.{slot}, Spelling.{two_slots, spelling}}
-use Rattle.bpf_insn.specs.Spelling.{op_offset, endian_imm, callee_src, atomic_imm, kind_src, has_next, second, both}
-use Rattle.bpf_insn.proofs.{Bytes.{HasBytes, HaveBytes}, ReadsBack.{callee_src-le, kind_src-le}}
+use Rattle.bpf_insn.specs.declared.{form.Form.{Form}, slot.Slot.{Slot}, codec_error.CodecFault.{CodecFault}}
+use Rattle.bpf_insn.specs.{Opcode.{opcode, form_at}, SlotBytes.{slot, slot_bytes, slots_bytes}}
+use Rattle.bpf_insn.specs.Spelling.{code_of, kind_src, has_next, second, two_slots, spelling}
+use Rattle.bpf_insn.specs.Reading.{unused_are_zero, imm_kind_at, load_imm_at, insn_of_form, checked_slot, insn_of_slot}
+use Rattle.bpf_insn.specs.Reading.{first, slots_in, first_insn}
+use Rattle.bpf_insn.proofs.{Forms.{form_at-opcode}, Bytes.{HasBytes, HaveBytes, slot_at-slot_bytes}}
+use Rattle.bpf_insn.proofs.Fronts.{first_insn-slot_bytes}
 use Rattle.bpf_insn.specs.declared.form.AluCode.TheVariants as alu
 use Rattle.bpf_insn.specs.declared.form.Form.TheVariants as form
+use Rattle.bpf_insn.specs.declared.codec_error.CodecFault.TheVariants as faults
+
+-- slots have bytes, and bytes that begin with theirs are read as this instruction
+pub record IsSpelledBy (i : Insn) (ss : List Slot) : Type 0 where
+  pub have : HaveBytes ss
+  pub again : (rest : List ℕ) → first_insn (slots_bytes ss ++ rest) ≡ Ok i
+
+-- ---- the slot of a form
 
 fits16 : (n : ℕ) → n < 2 ^ 15 → FitsSigned w16 (pos n)
 fits16 n h = record { sfits = h }
@@ -29,117 +43,122 @@ no_offset = fits16 0 (omega arith)
 no_imm : FitsSigned w32 (pos 0)
 no_imm = fits32 0 (omega arith)
 
-slot_has : (f : Form) (dst src : ℕ) (offset imm : ℤ) → dst ≤ 10 → src ≤ 10 → FitsSigned w16 offset → FitsSigned w32 imm
-    → HasBytes (slot f dst src offset imm)
-slot_has f dst src offset imm d s o i = record { dst = d; src = s; holds = record { offset = o; imm = i } }
+no_reg : 0 ≤ 10
+no_reg = omega arith
 
-op_fits : (o : AluOp) → FitsSigned w16 (op_offset o)
-op_fits op.Add = no_offset
-op_fits op.Sub = no_offset
-op_fits op.Mul = no_offset
-op_fits op.Div = no_offset
-op_fits op.Sdiv = fits16 1 (omega arith)
-op_fits op.Or = no_offset
-op_fits op.And = no_offset
-op_fits op.Lsh = no_offset
-op_fits op.Rsh = no_offset
-op_fits op.Mod = no_offset
-op_fits op.Smod = fits16 1 (omega arith)
-op_fits op.Xor = no_offset
-op_fits op.Mov = no_offset
-op_fits op.Arsh = no_offset
+passes : (a b c : Bool) (r : Result Insn CodecFault) → a ≡ false → b ≡ false → c ≡ true
+    → cond (a || b) (Err faults.RegisterNumber) (cond c r (Err faults.FieldNotZero)) ≡ r
+passes a b c r x y z = rw (x, y, z) refl
 
-endian_fits : (b : EndianBits) → FitsSigned w32 (endian_imm b)
-endian_fits endian.B16 = fits32 16 (omega arith)
-endian_fits endian.B32 = fits32 32 (omega arith)
-endian_fits endian.B64 = fits32 64 (omega arith)
+back : (f : Form) (dst src : ℕ) (offset imm : ℤ) (next : Option Slot) (i : Insn) → form_at (opcode f) ≡ Some f
+    → dst ≤ 10 → src ≤ 10
+    → unused_are_zero f (slot f dst src offset imm) ≡ true → insn_of_form f dst src offset imm next ≡ Ok i
+    → insn_of_slot (slot f dst src offset imm) next ≡ Ok i
+unfolding insn_of_slot
+back f dst src offset imm next i says d s unused read =
+    ap (λ (o : Option Form). checked_slot o (slot f dst src offset imm) next) says
+    ∙ passes (ltb 10 dst) (ltb 10 src) (unused_are_zero f (slot f dst src offset imm)) (insn_of_form f dst src offset
+    imm next) (le-ltb 10 dst d) (le-ltb 10 src s) unused
+    ∙ read
 
-atomic_fits : (o : AtomicOp) → FitsSigned w32 (atomic_imm o)
-atomic_fits (Simple simple.Add) = fits32 0 (omega arith)
-atomic_fits (Simple simple.Or) = fits32 64 (omega arith)
-atomic_fits (Simple simple.And) = fits32 80 (omega arith)
-atomic_fits (Simple simple.Xor) = fits32 160 (omega arith)
-atomic_fits (Fetch simple.Add) = fits32 1 (omega arith)
-atomic_fits (Fetch simple.Or) = fits32 65 (omega arith)
-atomic_fits (Fetch simple.And) = fits32 81 (omega arith)
-atomic_fits (Fetch simple.Xor) = fits32 161 (omega arith)
-atomic_fits Xchg = fits32 225 (omega arith)
-atomic_fits Cmpxchg = fits32 241 (omega arith)
+-- one slot: its opcode says its form, its numbers fit, and its fields are read as the instruction
+one : {dst src : ℕ} {offset imm : ℤ} {i : Insn} (f : Form) → form_at (opcode f) ≡ Some f → dst ≤ 10 → src ≤ 10
+    → FitsSigned w16 offset → FitsSigned w32 imm → unused_are_zero f (slot f dst src offset imm) ≡ true
+    → ((next : Option Slot) → insn_of_form f dst src offset imm next ≡ Ok i)
+    → IsSpelledBy i (slot f dst src offset imm ∷ [])
+one {dst} {src} {offset} {imm} {i} f says d s o m unused read =
+    let has : HasBytes (slot f dst src offset imm) =
+    record { dst = d; src = s; holds = record { offset = o; imm = m } } in
+    record {
+      have = (has, tt);
+      again = λ rest. first_insn-slot_bytes (slot f dst src offset imm) rest has
+          ∙ back f dst src offset imm (first (slots_in rest)) i says d s unused (read (first (slots_in rest)));
+    }
 
-second_has : (next : ℤ) → FitsSigned w32 next → HasBytes (second next)
-second_has next h = record { dst = omega arith; src = omega arith; holds = record { offset = no_offset; imm = h } }
+-- ---- loads of two slots
 
-both_have : (kind : ImmKind) (dst : ℕ) (imm next : ℤ) → dst ≤ 10 → FitsSigned w32 imm → FitsSigned w32 next
-    → IfOk (both kind dst imm next) HaveBytes
-both_have kind dst imm next d i n =
-    (slot_has form.LoadImm dst (kind_src kind) (pos 0) imm d (kind_src-le kind) no_offset i, (second_has next n, tt))
+imm_kind_at-src : (k : ImmKind) → imm_kind_at (kind_src k) ≡ Some k
+imm_kind_at-src kind.Number = refl
+imm_kind_at-src _ = refl
 
-two_have : (kind : ImmKind) (b : Bool) (dst : ℕ) (imm next : ℤ) → dst ≤ 10 → FitsSigned w32 imm → FitsSigned w32 next
-    → IfOk (two_slots kind b dst imm next) HaveBytes
-two_have kind true dst imm next d i n = both_have kind dst imm next d i n
-two_have kind false dst imm (pos zero) d i n = both_have kind dst imm (pos 0) d i n
-two_have kind false dst imm (pos (suc k)) d i n = tt
-two_have kind false dst imm (negsuc k) d i n = tt
+kind_src-le : (k : ImmKind) → kind_src k ≤ 10
+kind_src-le kind.Number = omega arith
+kind_src-le _ = omega arith
 
-mov_has : (f : Form) (dst src n : ℕ) → dst ≤ 10 → src ≤ 10 → n < 2 ^ 15 → HasBytes (slot f dst src (pos n) (pos 0))
-mov_has f dst src n d s h = slot_has f dst src (pos n) (pos 0) d s (fits16 n h) no_imm
+two : (kind : ImmKind) (dst : ℕ) (imm next : ℤ) → dst ≤ 10 → FitsSigned w32 imm → FitsSigned w32 next
+    → load_imm_at (Some kind) dst imm (Some (second next)) ≡ Ok (insn.LoadImm kind dst imm next)
+    → IsSpelledBy (insn.LoadImm kind dst imm next) (slot form.LoadImm dst (kind_src kind) (pos 0) imm ∷ second next
+    ∷ [])
+unfolding slots_in
+two kind dst imm next d i n read =
+    let here = slot form.LoadImm dst (kind_src kind) (pos 0) imm in
+    let has : HasBytes here =
+    record { dst = d; src = kind_src-le kind; holds = record { offset = no_offset; imm = i } } in
+    let next_has : HasBytes (second next) =
+    record { dst = no_reg; src = no_reg; holds = record { offset = no_offset; imm = n } } in
+    record {
+      have = (has, (next_has, tt));
+      again = λ rest. first_insn-slot_bytes here (slot_bytes (second next) ++ rest) has
+          ∙ ap (λ (t : Slot). insn_of_slot here (Some t)) (slot_at-slot_bytes (second next) next_has)
+          ∙ back form.LoadImm dst (kind_src kind) (pos 0) imm (Some (second next)) (insn.LoadImm kind dst imm next) refl
+          d (kind_src-le kind) refl
+          (ap (λ (o : Option ImmKind). load_imm_at o dst imm (Some (second next))) (imm_kind_at-src kind) ∙ read);
+    }
+
+two_spelled : (kind : ImmKind) (b : Bool) (dst : ℕ) (imm next : ℤ) → dst ≤ 10 → FitsSigned w32 imm → FitsSigned w32 next
+    → b ≡ has_next kind → IfOk (two_slots kind b dst imm next) (IsSpelledBy (insn.LoadImm kind dst imm next))
+two_spelled kind true dst imm next d i n h = two kind dst imm next d i n (rw (← h) refl)
+two_spelled kind false dst imm (pos zero) d i n h = two kind dst imm (pos 0) d i n (rw (← h) refl)
+two_spelled kind false dst imm _ d i n h = tt
+
+-- ---- every instruction
+
+pub spelled_by : (i : Insn) → InsnFits i → IfOk (spelling i) (IsSpelledBy i)
+spelled_by (insn.Alu w op.Add dst (Imm imm)) h =
+    one (form.AluImm w alu.Add) (form_at-opcode (form.AluImm w alu.Add)) h.0 no_reg no_offset h.1 refl (λ _. refl)
+spelled_by (insn.Alu w o dst (Imm imm)) h = one (form.AluImm w (code_of o)) (form_at-opcode (form.AluImm w (code_of o)))
+    h.0 no_reg (fits16 _ (omega arith)) h.1 refl (λ _. refl)
+spelled_by (insn.Alu w op.Add dst (Reg src)) h =
+    one (form.AluReg w alu.Add) (form_at-opcode (form.AluReg w alu.Add)) h.0 h.1 no_offset no_imm refl (λ _. refl)
+spelled_by (insn.Alu w o dst (Reg src)) h = one (form.AluReg w (code_of o)) (form_at-opcode (form.AluReg w (code_of o)))
+    h.0 h.1 (fits16 _ (omega arith)) no_imm refl (λ _. refl)
+spelled_by (insn.Neg w dst) h =
+    one (form.Neg w) (form_at-opcode (form.Neg w)) h no_reg no_offset no_imm refl (λ _. refl)
+spelled_by (insn.Movsx W32 movsx.B32 dst src) h = tt
+spelled_by (insn.Movsx W64 movsx.B8 dst src) h =
+    one (form.AluReg W64 alu.Mov) refl h.0 h.1 (fits16 8 (omega arith)) no_imm refl (λ _. refl)
+spelled_by (insn.Movsx w _ dst src) h = one (form.AluReg w alu.Mov) (form_at-opcode (form.AluReg w alu.Mov)) h.0 h.1
+    (fits16 _ (omega arith)) no_imm refl (λ _. refl)
+spelled_by (insn.Endian o endian.B16 dst) h = one (form.Endian o) (form_at-opcode (form.Endian o)) h no_reg no_offset
+    (fits32 16 (omega arith)) refl (λ _. refl)
+spelled_by (insn.Endian o _ dst) h = one (form.Endian o) (form_at-opcode (form.Endian o)) h no_reg no_offset
+    (fits32 _ (omega arith)) refl (λ _. refl)
+spelled_by (insn.Ja offset) h = one form.Ja refl no_reg no_reg h no_imm refl (λ _. refl)
+spelled_by (insn.Ja32 imm) h = one form.Ja32 refl no_reg no_reg no_offset h refl (λ _. refl)
+spelled_by (insn.Jump w c dst (Imm imm) offset) h =
+    one (form.JumpImm w c) (form_at-opcode (form.JumpImm w c)) h.0 no_reg h.2 h.1 refl (λ _. refl)
+spelled_by (insn.Jump w c dst (Reg src) offset) h =
+    one (form.JumpReg w c) (form_at-opcode (form.JumpReg w c)) h.0 h.1 h.2 no_imm refl (λ _. refl)
+spelled_by (insn.Call Helper imm) h = one form.Call refl no_reg no_reg no_offset h refl (λ _. refl)
+spelled_by (insn.Call k imm) h = one form.Call refl no_reg (omega arith) no_offset h refl (λ _. refl)
+spelled_by insn.Exit h = one form.Exit refl no_reg no_reg no_offset no_imm refl (λ _. refl)
+spelled_by (insn.Load z dst src offset) h =
+    one (form.Load z) (form_at-opcode (form.Load z)) h.0 h.1 h.2 no_imm refl (λ _. refl)
+spelled_by (insn.LoadSx size.Dw dst src offset) h = tt
+spelled_by (insn.LoadSx z dst src offset) h =
+    one (form.LoadSx z) (form_at-opcode (form.LoadSx z)) h.0 h.1 h.2 no_imm refl (λ _. refl)
+spelled_by (insn.StoreImm z dst offset imm) h =
+    one (form.StoreImm z) (form_at-opcode (form.StoreImm z)) h.0 no_reg h.1 h.2 refl (λ _. refl)
+spelled_by (insn.Store z dst src offset) h =
+    one (form.Store z) (form_at-opcode (form.Store z)) h.0 h.1 h.2 no_imm refl (λ _. refl)
+spelled_by (insn.Atomic w (Simple simple.Add) dst src offset) h =
+    one (form.Atomic w) (form_at-opcode (form.Atomic w)) h.0 h.1 h.2 no_imm refl (λ _. refl)
+spelled_by (insn.Atomic w (Fetch simple.Add) dst src offset) h =
+    one (form.Atomic w) (form_at-opcode (form.Atomic w)) h.0 h.1 h.2 (fits32 1 (omega arith)) refl (λ _. refl)
+spelled_by (insn.Atomic w o dst src offset) h =
+    one (form.Atomic w) (form_at-opcode (form.Atomic w)) h.0 h.1 h.2 (fits32 _ (omega arith)) refl (λ _. refl)
+spelled_by (insn.LoadImm kind dst imm next) h = two_spelled kind (has_next kind) dst imm next h.0 h.1 h.2 refl
 
 -- the slots of an instruction have bytes
 pub spelling_has : (i : Insn) → InsnFits i → IfOk (spelling i) HaveBytes
-spelling_has (insn.Alu w o dst (Imm imm)) h =
-    (record { dst = h.0; src = omega arith; holds = record { offset = op_fits o; imm = h.1 } }, tt)
-spelling_has (insn.Alu w o dst (Reg src)) h =
-    (record { dst = h.0; src = h.1; holds = record { offset = op_fits o; imm = no_imm } }, tt)
-spelling_has (insn.Neg w dst) h = (slot_has (form.Neg w) dst 0 (pos 0) (pos 0) h (omega arith) no_offset no_imm, tt)
-spelling_has (insn.Movsx W32 movsx.B8 dst src) h = (
-  mov_has (form.AluReg W32 alu.Mov) dst src 8 h.0 h.1 (omega arith),
-  tt,
-)
-spelling_has (insn.Movsx W32 movsx.B16 dst src) h = (
-  mov_has (form.AluReg W32 alu.Mov) dst src 16 h.0 h.1 (omega arith),
-  tt,
-)
-spelling_has (insn.Movsx W32 movsx.B32 dst src) h = tt
-spelling_has (insn.Movsx W64 movsx.B8 dst src) h = (
-  mov_has (form.AluReg W64 alu.Mov) dst src 8 h.0 h.1 (omega arith),
-  tt,
-)
-spelling_has (insn.Movsx W64 movsx.B16 dst src) h = (
-  mov_has (form.AluReg W64 alu.Mov) dst src 16 h.0 h.1 (omega arith),
-  tt,
-)
-spelling_has (insn.Movsx W64 movsx.B32 dst src) h = (
-  mov_has (form.AluReg W64 alu.Mov) dst src 32 h.0 h.1 (omega arith),
-  tt,
-)
-spelling_has (insn.Endian o b dst) h = (
-  slot_has (form.Endian o) dst 0 (pos 0) (endian_imm b) h (omega arith) no_offset
-      (endian_fits b),
-  tt,
-)
-spelling_has (insn.Ja offset) h = (slot_has form.Ja 0 0 offset (pos 0) (omega arith) (omega arith) h no_imm, tt)
-spelling_has (insn.Ja32 imm) h = (slot_has form.Ja32 0 0 (pos 0) imm (omega arith) (omega arith) no_offset h, tt)
-spelling_has (insn.Jump w c dst (Imm imm) offset) h =
-    (slot_has (form.JumpImm w c) dst 0 offset imm h.0 (omega arith) h.2 h.1, tt)
-spelling_has (insn.Jump w c dst (Reg src) offset) h =
-    (slot_has (form.JumpReg w c) dst src offset (pos 0) h.0 h.1 h.2 no_imm, tt)
-spelling_has (insn.Call k imm) h = (
-  slot_has form.Call 0 (callee_src k) (pos 0) imm (omega arith) (callee_src-le k)
-      no_offset h,
-  tt,
-)
-spelling_has insn.Exit h = (slot_has form.Exit 0 0 (pos 0) (pos 0) (omega arith) (omega arith) no_offset no_imm, tt)
-spelling_has (insn.Load z dst src offset) h = (slot_has (form.Load z) dst src offset (pos 0) h.0 h.1 h.2 no_imm, tt)
-spelling_has (insn.LoadSx size.B dst src offset) h =
-    (slot_has (form.LoadSx size.B) dst src offset (pos 0) h.0 h.1 h.2 no_imm, tt)
-spelling_has (insn.LoadSx size.H dst src offset) h =
-    (slot_has (form.LoadSx size.H) dst src offset (pos 0) h.0 h.1 h.2 no_imm, tt)
-spelling_has (insn.LoadSx size.W dst src offset) h =
-    (slot_has (form.LoadSx size.W) dst src offset (pos 0) h.0 h.1 h.2 no_imm, tt)
-spelling_has (insn.LoadSx size.Dw dst src offset) h = tt
-spelling_has (insn.StoreImm z dst offset imm) h =
-    (slot_has (form.StoreImm z) dst 0 offset imm h.0 (omega arith) h.1 h.2, tt)
-spelling_has (insn.Store z dst src offset) h = (slot_has (form.Store z) dst src offset (pos 0) h.0 h.1 h.2 no_imm, tt)
-spelling_has (insn.Atomic w o dst src offset) h =
-    (slot_has (form.Atomic w) dst src offset (atomic_imm o) h.0 h.1 h.2 (atomic_fits o), tt)
-spelling_has (insn.LoadImm kind dst imm next) h = two_have kind (has_next kind) dst imm next h.0 h.1 h.2
+spelling_has i h = IfOk-weaker (spelling i) (IsSpelledBy i) HaveBytes (λ ss by. by.have) (spelled_by i h)

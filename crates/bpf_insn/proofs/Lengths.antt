@@ -1,7 +1,7 @@
 -- How many bytes an instruction takes.
-use Rattle.std.proofs.Common.{◌≡◌, ℕ, zero, suc, ◌*◌, Bool, true, false, List, length, Result, Ok, Err, refl, sym, ap}
-use Rattle.std.{proofs.Common.{◌∙◌}, specs.Prelude.{ℤ, pos, negsuc, IfOk}}
-use Rattle.bpf_insn_types.specs.declared.insn.{Width.TheVariants.{W32, W64}, Operand.TheVariants.{Imm, Reg}}
+use Rattle.std.proofs.Common.{◌≡◌, ℕ, zero, ◌*◌, Bool, true, false, List, length, Result, Ok, Err, refl, sym, ap}
+use Rattle.std.{proofs.Common.{◌∙◌}, specs.Prelude.{ℤ, pos, IfOk}}
+use Rattle.bpf_insn_types.specs.declared.insn.{Width.TheVariants.{W32}, Operand.TheVariants.{Imm}}
 use Rattle.bpf_insn_types.specs.{declared.insn.{ImmKind.{ImmKind}, Insn.{Insn}}, Slots.{slots_of}}
 use Rattle.bpf_insn_types.specs.declared.insn.Size.TheVariants as size
 use Rattle.bpf_insn_types.specs.declared.insn.MovsxBits.TheVariants as movsx
@@ -10,39 +10,21 @@ use Rattle.bpf_insn.specs.{declared.{slot.Slot.{Slot}, codec_error.CodecFault.{C
 use Rattle.bpf_insn.specs.Spelling.{two_slots, has_next, spelling, bytes_at}
 
 -- slots of 8 bytes
-abbrev pub TakeSlots : ℕ → Result (List Slot) CodecFault → Type 0
+abbrev TakeSlots : ℕ → Result (List Slot) CodecFault → Type 0
 TakeSlots n r = IfOk r (λ ss. length (slots_bytes ss) ≡ 8 * n)
 
 two_take : (kind : ImmKind) (b : Bool) (dst : ℕ) (imm next : ℤ) → TakeSlots 2 (two_slots kind b dst imm next)
 two_take kind true dst imm next = refl
 two_take kind false dst imm (pos zero) = refl
-two_take kind false dst imm (pos (suc n)) = tt
-two_take kind false dst imm (negsuc n) = tt
+two_take kind false dst imm _ = tt
 
-pub spelling_takes : (i : Insn) → TakeSlots (slots_of i) (spelling i)
-spelling_takes (insn.Alu w o dst (Imm imm)) = refl
-spelling_takes (insn.Alu w o dst (Reg src)) = refl
-spelling_takes (insn.Neg w dst) = refl
-spelling_takes (insn.Movsx W32 movsx.B8 dst src) = refl
-spelling_takes (insn.Movsx W32 movsx.B16 dst src) = refl
-spelling_takes (insn.Movsx W32 movsx.B32 dst src) = tt
-spelling_takes (insn.Movsx W64 bits dst src) = refl
-spelling_takes (insn.Endian order bits dst) = refl
-spelling_takes (insn.Ja offset) = refl
-spelling_takes (insn.Ja32 imm) = refl
-spelling_takes (insn.Jump w c dst (Imm imm) offset) = refl
-spelling_takes (insn.Jump w c dst (Reg src) offset) = refl
-spelling_takes (insn.Call callee imm) = refl
-spelling_takes insn.Exit = refl
-spelling_takes (insn.Load s dst src offset) = refl
-spelling_takes (insn.LoadSx size.B dst src offset) = refl
-spelling_takes (insn.LoadSx size.H dst src offset) = refl
-spelling_takes (insn.LoadSx size.W dst src offset) = refl
-spelling_takes (insn.LoadSx size.Dw dst src offset) = tt
-spelling_takes (insn.StoreImm s dst offset imm) = refl
-spelling_takes (insn.Store s dst src offset) = refl
-spelling_takes (insn.Atomic w o dst src offset) = refl
+spelling_takes : (i : Insn) → TakeSlots (slots_of i) (spelling i)
 spelling_takes (insn.LoadImm kind dst imm next) = two_take kind (has_next kind) dst imm next
+spelling_takes (insn.Movsx W32 movsx.B32 dst src) = tt
+spelling_takes (insn.LoadSx size.Dw dst src offset) = tt
+spelling_takes (insn.Alu w o dst (Imm imm)) = refl
+spelling_takes (insn.Jump w c dst (Imm imm) offset) = refl
+spelling_takes _ = refl
 
 bytes_take : (n k : ℕ) (r : Result (List Slot) CodecFault) (bytes : List ℕ) → TakeSlots k r → bytes_at n r ≡ Ok bytes
     → length bytes ≡ 8 * k

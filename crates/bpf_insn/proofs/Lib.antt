@@ -2,9 +2,9 @@ pub mod Bytes
 pub mod Decoded
 pub mod Encoded
 pub mod Forms
+pub mod Fronts
 pub mod HasBytes
 pub mod Lengths
 pub mod Programs
-pub mod ReadsBack
 pub mod SlotReads
 pub mod Spelled
