@@ -15,7 +15,7 @@ ghost use Rattle.loop_marks.specs.SiteMarks.{kind_looks, kind_reduces_by, kind_w
 
 use crate::comparing::{access_of, is_covered, is_plain, looks, reduces, writes};
 use array_maps::Op;
-use lane_rows::{Mask, Places};
+use lane_rows::{Mask, Places, is_empty};
 use lane_stamps::{Form, Kind, Lanes, Site, element_of, form_of, place_on};
 use loop_core_model::Access;
 use shadow_marks::{OperatorPlanes, Planes, Tested};
@@ -306,6 +306,9 @@ fn end_of(mask: &Mask, greatest: bool, lanes: u32) -> Option<u32>
     ensures end { IfSome result (IsEnd (is_in mask.now) greatest lanes) }
     ensures none { IfNone result (MaskHas lanes (λ _. false) mask.now) }
 {
+    if is_empty(mask, lanes as usize) {
+        return None;
+    }
     for step in 0..lanes {
         let lane = if greatest { lanes - 1 - step } else { step };
         if mask.all || mask.lanes[lane as usize] {

@@ -1,7 +1,7 @@
 //! Sites compared: whether no lane looks where it stored before, and what adds no mark to those of others.
 
 ghost use Rattle.std.specs.{Prelude.{◌≡◌, ℕ, ◌/◌, ◌<◌, ◌≤◌, true, false, slice_index}, List.{All}};
-ghost use Rattle.lane_rows.specs.Rows.{place_at};
+ghost use Rattle.lane_rows.specs.Rows.{is_in, place_at};
 ghost use Rattle.lane_stamps.specs.Forms.{IsFormOf};
 ghost use Rattle.lane_stamps.specs.Sites.{HasRows, element_named, is_of_halves, place_of as place_in, places_of, shown};
 ghost use Rattle.loop_marks.specs.{SiteMarks.{AreUnseen, GoesWith, IsApart, IsUnseen}, LaneMarks.{access_kind}};
@@ -9,7 +9,7 @@ ghost use Rattle.loop_marks.specs.SiteMarks.{AddsNothing, Covers, EachMark, kind
 ghost use Rattle.loop_marks.specs.SiteMarks.{kind_writes};
 
 use array_maps::Op;
-use lane_rows::Places;
+use lane_rows::{Mask, Places};
 use lane_stamps::{Form, Kind, Lanes, Site, element_of, form_of, has, place_of};
 use loop_core_model::Access;
 
@@ -55,7 +55,14 @@ fn is_apart_if_looked(site: &Site, other: &Site, of_lanes: Lanes<'_>, lanes: u32
     ensures { result ≡ true → kind_looks (access_kind other.now.kind) ≡ true
         → (lane : ℕ) → lane < lanes → IsApart (shown of_lanes.entry) lane site.now other.now }
 {
-    if !looks(access_of(other.kind)) || are_forms_apart(site, other, of_lanes, lanes) {
+    if !looks(access_of(other.kind))
+        || are_forms_apart(site, other, of_lanes, lanes)
+        || are_masks_apart(
+            &of_lanes.masks[site.mask],
+            &of_lanes.masks[other.mask],
+            lanes as usize,
+        )
+    {
         return true;
     }
     for lane in 0..lanes {
@@ -64,6 +71,24 @@ fn is_apart_if_looked(site: &Site, other: &Site, of_lanes: Lanes<'_>, lanes: u32
         }
     }
     true
+}
+
+/// Whether it is known that no lane is in two masks. Not where one has all lanes.
+// Not inlined: its loop would spill the registers of the caller's.
+#[inline(never)]
+fn are_masks_apart(first: &Mask, second: &Mask, lanes: usize) -> bool
+    requires { lanes ≤ 512 }
+    ensures { result ≡ true → (lane : ℕ) → lane < lanes → is_in first.now lane ≡ true → is_in second.now lane ≡ true
+        → ⊥ }
+{
+    if first.all || second.all {
+        return false;
+    }
+    let mut meet = false;
+    for lane in 0..lanes {
+        meet = meet | (first.lanes[lane] & second.lanes[lane]);
+    }
+    !meet
 }
 
 /// Whether it is known at once that lanes get to other elements at one site than at another: both run on one after
