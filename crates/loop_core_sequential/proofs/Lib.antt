@@ -1,10 +1,7 @@
 pub mod MapEffects
 pub mod InOrder
-pub mod RunLaws
-pub mod SameLoops
 pub mod SameReplays
 pub mod SameOutcomes
-pub mod Pacing
 pub mod Together
 pub mod WatchedFlow
 pub mod WatchedLaws

@@ -1,92 +1,93 @@
--- Calls with the same iterations have the same verdict and outcome.
-use Rattle.std.proofs.Common.{◌≡◌, ℕ, zero, suc, ◌+◌, ◌<◌, Bool, List, ◌∷◌, map, Option, Some, None, refl, ap, subst}
-use Rattle.std.{proofs.Common.{◌∙◌, arith}, specs.{Prelude.{if◌then◌else◌, length}, List.{range_with_len}}}
-use Rattle.std.specs.Option.{option_or}
+-- Calls with the same iterations are the same loop, and have the same verdict and outcome.
+use Rattle.std.proofs.Common.{◌≡◌, ℕ, zero, suc, ◌+◌, ◌<◌, ◌==◌, List, None, length, inl, inr, refl, sym, ap, ◌∙◌}
+use Rattle.std.proofs.{Common.{arith}, lemmas.Bool.{cases_Bool}}
 use Rattle.array_maps.specs.Accesses.{Access}
 use Rattle.bpf_insn_types.specs.Program.{Program}
-use Rattle.bpf_step_model.specs.{State.{LoopCall}, Run.{BoundedResult, mapped, followed}, LoopInOrder.{loop_in_order}}
-use Rattle.bpf_step_model.specs.Iteration.{Iterated, iteration}
-use Rattle.bpf_verify_sound.specs.Soundness.{IsSoundProgram, AreMapWords, OverApproximatesCall, EachProgramEnds}
-use Rattle.bpf_verify_sound.specs.Soundness.{EachCountIsSmall}
-use Rattle.bpf_step.specs.Turns.{IsFilled}
+use Rattle.bpf_step_model.specs.{State.{LoopCall}, Run.{BoundedResult, Ended, mapped, followed}}
+use Rattle.bpf_step_model.specs.{Iteration.{Iterated, iteration}, LoopInOrder.{behind, loop_from, loop_in_order}}
+use Rattle.bpf_verify_sound.specs.Soundness.{IsSoundProgram, AreMapWords, OverApproximatesCall, IterationEnds}
+use Rattle.bpf_verify_sound.specs.Soundness.{EachProgramEnds, EachCountIsSmall, callback_count}
+use Rattle.bpf_step.{specs.Turns.{IsFilled}, proofs.Limits.{iterations_end}}
 use Rattle.loop_core_model.specs.{declared.{loop_test.Test.{Test}, verdict.Verdict.{Verdict}}, Conflict.{conflicting}}
-use Rattle.loop_core_model.specs.LeastBreak.{least_below, is_break, count_to, counted_iterations, all_ended}
-use Rattle.loop_core_model.{specs.{LeastBreak.{accesses_of_each}, Report.{judged, verdict}}, proofs.Least.{counts_to}}
-use Rattle.loop_core_model.specs.{Split.{split_fault}, declared.event.Event.{Event}, Schedule.{replay}}
+use Rattle.loop_core_model.specs.LeastBreak.{is_break, counted_iterations, all_ended, accesses_of_each}
+use Rattle.loop_core_model.specs.{Report.{judged, verdict}, Scan.{scan}, Split.{split_fault}, Schedule.{replay}}
+use Rattle.loop_core_model.{specs.declared.event.Event.{Event}, proofs.ScanLaws.{counted_are_scanned}}
 use Rattle.loop_core_model.specs.Outcome.{Outcome, judged_as, outcome, breaks_at, unless_fault, replayed}
-use Rattle.loop_core_sequential.{specs.FilledCalls.{AreOneLoop, FilledCallsAreOneLoop}, proofs.SameLoops.{same_loop}}
+use Rattle.loop_core_sequential.specs.FilledCalls.{FilledCallsAreOneLoop}
 use Rattle.loop_core_sequential.proofs.SameReplays.{same_replay}
 
--- tests that agree below a number have the same least one there
-least_same : (a b : ℕ → Bool) (n : ℕ) → ((i : ℕ) → i < n → a i ≡ b i) → least_below a n ≡ least_below b n
-least_same a b zero same = refl
-least_same a b (suc n) same =
-    ap (λ (o : Option ℕ). option_or o (if a n then Some n else None)) (least_same a b n (λ i h. same i (omega arith)))
-    ∙ ap (λ (c : Bool). option_or (least_below b n) (if c then Some n else None)) (same n (omega arith))
-
--- and so do maps of a range
-map_same : {A : Type 0} (f g : ℕ → A) (from count : ℕ) → ((i : ℕ) → i < from + count → f i ≡ g i)
-    → map f (range_with_len from count) ≡ map g (range_with_len from count)
-map_same f g from zero same = refl
-map_same {A} f g from (suc count) same =
-    ap (λ (x : A). x ∷ map f (range_with_len (from + 1) count)) (same from (omega arith))
-    ∙ ap (λ (xs : List A). g from ∷ xs) (map_same f g (from + 1) count (λ i h. same i (omega arith)))
-
--- the counted of n iterations
-abbrev counted_of : (n : ℕ) → (ℕ → BoundedResult Iterated) → List (BoundedResult Iterated)
-counted_of n iterate = map iterate (range_with_len 0 (count_to n (least_below (λ (i : ℕ). is_break (iterate i)) n)))
-
-counted_same : (n : ℕ) (f g : ℕ → BoundedResult Iterated) → ((i : ℕ) → i < n → f i ≡ g i)
-    → counted_of n f ≡ counted_of n g
-counted_same n f g same =
-    let few = (counts_to (λ (i : ℕ). is_break (f i)) n).within in
-    map_same f g 0 (count_to n (least_below (λ (i : ℕ). is_break (f i)) n)) (λ i h. same i (omega arith))
-    ∙ ap (λ (o : Option ℕ). map g (range_with_len 0 (count_to n o)))
-    (least_same (λ (i : ℕ). is_break (f i)) (λ (i : ℕ). is_break (g i)) n (λ i h. ap is_break (same i h)))
+-- the same iterations are scanned the same
+scan_same : (f g : ℕ → BoundedResult Iterated) (left index n : ℕ) → index + left ≡ n
+    → ((i : ℕ) → i < n → f i ≡ g i) → scan f left index ≡ scan g left index
+scan_same f g zero index n all same = refl
+scan_same f g (suc left) index n all same =
+    rw (same index (omega arith), scan_same f g left (index + 1) n (omega arith) same) refl
 
 module _ (laws : EachProgramEnds) (counts : EachCountIsSmall) (program : Program) (sound : IsSoundProgram program)
-    (made call : LoopCall) (filled : IsFilled program made call)
-    (known : OverApproximatesCall program call) (words : List ℕ) (fit : AreMapWords program words) where
-  same_iteration : (index : ℕ) → index < made.n → iteration program 4096 call index words ≡ iteration program 4096 made
-      index words
-  same_iteration index below = filled.same 4096 index below words fit
+    (made call : LoopCall) (filled : IsFilled program made call) (known : OverApproximatesCall program call) where
+  abbrev On : ℕ → ℕ → Type 0
+  On left index = (words : List ℕ) → AreMapWords program words → loop_from program 4096 call left index words
+      ≡ loop_from program 4096 made left index words
 
-  same_counted : counted_iterations program 4096 call words ≡ counted_iterations program 4096 made words
-  same_counted =
-      ap (λ (n : ℕ). counted_of n (λ (i : ℕ). iteration program 4096 call i words)) filled.n
-      ∙ counted_same made.n (λ (i : ℕ). iteration program 4096 call i words) (λ (i : ℕ). iteration program 4096 made i
-      words) same_iteration
+  followed_same : (left index : ℕ) → On left (index + 1) → (e : BoundedResult Iterated)
+      → IterationEnds program (callback_count program call) e →
+      followed (behind (loop_from program 4096 call left (index + 1)) index) e
+      ≡ followed (behind (loop_from program 4096 made left (index + 1)) index) e
+  followed_same left index rest (Ended it) ends = elim (cases_Bool (it.ret == 1)) [
+    | inl one ↦ rw one refl
+    | inr on ↦ rw on (rest it.words ends.2)
+  ]
+  followed_same left index rest _ ends = absurd ends
 
-  same_verdict : (test : Test) → verdict test program 4096 call words ≡ verdict test program 4096 made words
-  same_verdict test =
-      ap (λ (its : List (BoundedResult Iterated)). mapped (λ (runs : List (List Access)).
-      judged (conflicting test runs (length words))) (mapped accesses_of_each (all_ended its))) same_counted
+  same_from : (left index : ℕ) → index + left ≡ call.n → On left index
+  same_from zero index all words fit = refl
+  same_from (suc left) index all words fit =
+      followed_same left index (same_from left (index + 1) (omega arith)) (iteration program 4096 call index words)
+      (iterations_end laws counts program sound call known index (omega arith) words fit)
+      ∙ ap (followed (behind (loop_from program 4096 made left (index + 1)) index))
+      (filled.same 4096 index (omega arith) words fit)
 
-  same_in_order : loop_in_order program 4096 call words ≡ loop_in_order program 4096 made words
-  same_in_order = same_loop laws counts program sound made call filled known words fit
+  module _ (words : List ℕ) (fit : AreMapWords program words) where
+    same_iteration : (index : ℕ) → index < call.n
+        → iteration program 4096 call index words ≡ iteration program 4096 made index words
+    same_iteration index below = filled.same 4096 index (omega arith) words fit
 
-  same_outcome : (test : Test) → outcome test program 4096 call words ≡ outcome test program 4096 made words
-  same_outcome test =
-      ap (λ (v : BoundedResult Verdict). followed (judged_as v) (loop_in_order program 4096 call words))
-      (same_verdict test)
-      ∙ ap (followed (judged_as (verdict test program 4096 made words))) same_in_order
+    same_in_order : loop_in_order program 4096 call words ≡ loop_in_order program 4096 made words
+    same_in_order = same_from call.n 0 (omega arith) words fit
+        ∙ ap (λ (n : ℕ). loop_from program 4096 made n 0 words) filled.n
 
-  same_breaks : (index : ℕ) → index < call.n → breaks_at program 4096 call words index ≡ breaks_at program 4096 made
-      words index
-  same_breaks index below = ap is_break (same_iteration index (subst (λ (n : ℕ). index < n) filled.n below))
+    same_ended : all_ended (counted_iterations program 4096 call words)
+        ≡ all_ended (counted_iterations program 4096 made words)
+    same_ended =
+        counted_are_scanned program 4096 call words
+        ∙ scan_same (λ i. iteration program 4096 call i words) (λ i. iteration program 4096 made i words) call.n 0
+        call.n (omega arith) same_iteration
+        ∙ ap (λ (n : ℕ). scan (λ i. iteration program 4096 made i words) n 0) filled.n
+        ∙ sym (counted_are_scanned program 4096 made words)
 
-  same_replayed : (test : Test) (bounds : List ℕ) (events : List Event) → split_fault bounds call.n ≡ None →
-      replayed test program 4096 call words bounds events ≡ replayed test program 4096 made words bounds events
-  same_replayed test bounds events fine =
-      ap (unless_fault (outcome test program 4096 call words))
-      (same_replay call.n bounds (breaks_at program 4096 call words) (breaks_at program 4096 made words) fine
-      same_breaks events)
-      ∙ ap (λ (o : BoundedResult Outcome). unless_fault o (replay (breaks_at program 4096 made words) bounds events))
-      (same_outcome test)
+    same_verdict : (test : Test) → verdict test program 4096 call words ≡ verdict test program 4096 made words
+    same_verdict test = ap (λ (its : BoundedResult (List Iterated)). mapped (λ (runs : List (List Access)).
+        judged (conflicting test runs (length words))) (mapped accesses_of_each its)) same_ended
 
-  one_loop : AreOneLoop program made call words
-  one_loop = record { orders = same_in_order; judges = same_verdict; comes_to = same_outcome; replays = same_replayed }
+    same_outcome : (test : Test) → outcome test program 4096 call words ≡ outcome test program 4096 made words
+    same_outcome test =
+        ap (λ (v : BoundedResult Verdict). followed (judged_as v) (loop_in_order program 4096 call words))
+        (same_verdict test)
+        ∙ ap (followed (judged_as (verdict test program 4096 made words))) same_in_order
+
+    same_replayed : (test : Test) (bounds : List ℕ) (events : List Event) → split_fault bounds call.n ≡ None →
+        replayed test program 4096 call words bounds events ≡ replayed test program 4096 made words bounds events
+    same_replayed test bounds events fine =
+        ap (unless_fault (outcome test program 4096 call words))
+        (same_replay call.n bounds (breaks_at program 4096 call words) (breaks_at program 4096 made words) fine
+        (λ index below. ap is_break (same_iteration index below)) events)
+        ∙ ap (λ (o : BoundedResult Outcome). unless_fault o (replay (breaks_at program 4096 made words) bounds events))
+        (same_outcome test)
 
 pub filled_calls_are_one_loop : EachProgramEnds → EachCountIsSmall → FilledCallsAreOneLoop
-filled_calls_are_one_loop laws counts program sound made call filled known words fit =
-    one_loop laws counts program sound made call filled known words fit
+filled_calls_are_one_loop laws counts program sound made call filled known words fit = record {
+  orders = same_in_order laws counts program sound made call filled known words fit;
+  judges = same_verdict laws counts program sound made call filled known words fit;
+  comes_to = same_outcome laws counts program sound made call filled known words fit;
+  replays = same_replayed laws counts program sound made call filled known words fit;
+}

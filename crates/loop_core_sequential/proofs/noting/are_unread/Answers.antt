@@ -1,7 +1,7 @@
-use Rattle.std.proofs.lemmas.List.Elements.{All-more}
+use Rattle.std.proofs.lemmas.List.{take_all, Elements.{All-more}}
 use Rattle.lane_stamps.specs.Sites.{shown}
 use Rattle.loop_core_undo.specs.Undo.{is_written}
-use Rattle.loop_core_sequential.{specs.Watched.{IsUnread}, proofs.NotingLaws.{all_taken}}
+use Rattle.loop_core_sequential.specs.Watched.{IsUnread}
 use Rattle.loop_core_sequential.proofs.noting.are_unread.Goals as goal
 
 pub loop-site-preserved : goal.loop-site-preserved
@@ -11,5 +11,4 @@ loop-site-preserved c =
 
 pub returns : goal.returns
 returns c = λ always.
-    all_taken (IsUnread (is_written c.args.log.now) c.args.lanes (shown c.args.of_lanes)) c.args.sites.now
-    c.loop-site.site-index c.loop-site-test.false c.loop-site.invariant
+    rw (take_all c.loop-site.site-index c.args.sites.now c.loop-site-test.false) at c.loop-site.invariant
