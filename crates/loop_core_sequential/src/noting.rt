@@ -144,6 +144,9 @@ fn note_each(halves: bool, mask: &Mask, places: &Places, lanes: u32, log: &mut U
     requires count { length maps.now.words ≡ log_elements log.old }
     ensures { LanesNoted maps.now.words lanes halves mask.now places.now log.old log.new }
 {
+    if is_empty(mask, lanes as usize) {
+        return;
+    }
     for lane in 0..lanes as usize {
         note_if_made(halves, mask, places, lane, log, maps);
     }
