@@ -1,7 +1,7 @@
 -- Lemmas on sums over lists, and on how often a number is in one.
-use Rattle.std.proofs.Common.{◌≡◌, ◌⊎◌, ℕ, zero, suc, ◌+◌, ◌*◌, ◌<◌, ◌≤◌, ◌==◌, if◌then◌else◌, List, [], ◌∷◌, ◌++◌, map}
-use Rattle.std.proofs.Common.{length, replicate, set, slice_index_or, All, ⊎_elim, refl, sym, ap, arith}
-use Rattle.std.{specs.List.{flat_map}, proofs.lemmas.Bool.{cases_lt, Decides.{nat_tests}}}
+use Rattle.std.proofs.Common.{min, ◌≡◌, ◌⊎◌, ℕ, zero, suc, ◌+◌, ◌<◌, ◌≤◌, ◌==◌, if◌then◌else◌, List, [], ◌∷◌, ◌++◌}
+use Rattle.std.proofs.Common.{length, set, slice_index_or, All, ⊎_elim, refl, sym, ap, arith}
+use Rattle.std.proofs.lemmas.Bool.{cases_lt, Decides.{nat_tests}}
 use mathlib.Core.Option.{some, some-injective, some-ne-none}
 use lib.ListN.{get_elem?}
 use Rattle.loop_board.specs.Sums.{total, times, once_below}
@@ -12,10 +12,6 @@ module _ {A : Type 0} where
   total-append f [] ys = omega arith
   total-append f (x ∷ xs) ys = let r = total-append f xs ys in omega arith
 
-  -- the sum with one more element at the end
-  pub total-push : (f : A → ℕ) (xs : List A) (x : A) → total f (xs ++ x ∷ []) ≡ total f xs + f x
-  total-push f xs x = let r = total-append f xs (x ∷ []) in omega arith
-
   -- the sum after a write at i
   pub total-set : (f : A → ℕ) (xs : List A) (i : ℕ) (x y : A) → get_elem? xs i ≡ some x → total f (set xs i y) + f x
       ≡ total f xs + f y
@@ -23,83 +19,12 @@ module _ {A : Type 0} where
   total-set f (z ∷ zs) zero x y e = let is : f z ≡ f x = ap f (some-injective z x e) in omega arith
   total-set f (z ∷ zs) (suc i) x y e = let r = total-set f zs i x y e in omega arith
 
-  -- no element is more than the sum
-  pub le_total : (f : A → ℕ) (xs : List A) (i : ℕ) (x : A) → get_elem? xs i ≡ some x → f x ≤ total f xs
-  le_total f [] i x e = absurd (some-ne-none x (sym e))
-  le_total f (z ∷ zs) zero x e = let is : f z ≡ f x = ap f (some-injective z x e) in omega arith
-  le_total f (z ∷ zs) (suc i) x e = let r = le_total f zs i x e in omega arith
-
   -- a sum of what is less element by element is less
   pub total_le : (f g : A → ℕ) (xs : List A) → ((i : ℕ) (x : A) → get_elem? xs i ≡ some x → f x ≤ g x)
       → total f xs ≤ total g xs
   total_le f g [] below = omega arith
   total_le f g (x ∷ xs) below = let here = below 0 x refl in let r = total_le f g xs (λ i y e. below (suc i) y e) in
       omega arith
-
--- how often x is in two lists, one after the other
-pub times-append : (x : ℕ) (xs ys : List ℕ) → times x (xs ++ ys) ≡ times x xs + times x ys
-times-append x [] ys = omega arith
-times-append x (z ∷ zs) ys = let r = times-append x zs ys in omega arith
-
--- how often x is in a list with one more element
-pub times-push : (x : ℕ) (xs : List ℕ) (y : ℕ) → times x (xs ++ y ∷ []) ≡ times x xs + (if x == y then 1 else 0)
-times-push x xs y = let r = times-append x xs (y ∷ []) in omega arith
-
--- x is in a list that begins with x
-pub times_first : (x : ℕ) (xs : List ℕ) → 0 < times x (x ∷ xs)
-times_first x xs = grind (arith, nat_tests)
-
--- what is in a longer list is in the rest, or is the first
-pub times_more : (x y : ℕ) (ys : List ℕ) → 0 < times x (y ∷ ys) → (x ≡ y) ⊎ (0 < times x ys)
-times_more x y ys h = grind (arith, nat_tests)
-
--- what holds of each number that is in the list holds of all its elements
-pub All-times : (P : ℕ → Type 0) (xs : List ℕ) → ((x : ℕ) → 0 < times x xs → P x) → All P xs
-All-times P [] f k d h = absurd (omega arith)
-All-times P (x ∷ xs) f zero d h = f x (times_first x xs)
-All-times P (x ∷ xs) f (suc k) d h = All-times P xs (λ y at. f y (let r = at in omega arith)) k d (omega arith)
-
--- the number n is one more below n + 1
-pub once_below-next : (x n : ℕ) → once_below x n + (if x == n then 1 else 0) ≡ once_below x (n + 1)
-once_below-next x n = grind (arith, nat_tests)
-
--- what is below n is counted once, and what is counted is below n
-pub below_from_once : (x n : ℕ) → 0 < once_below x n → x < n
-below_from_once x n h = grind (arith, nat_tests)
-
--- a number below n counts once
-pub once_below-below : (x n : ℕ) → x < n → once_below x n ≡ 1
-once_below-below x n h = grind (arith, nat_tests)
-
-module _ {A : Type 0} where
-  -- two functions that agree on each element have one sum
-  pub total-same : (f g : A → ℕ) (xs : List A) → ((k : ℕ) (d : A) → k < length xs → f (slice_index_or xs k d)
-      ≡ g (slice_index_or xs k d)) → total f xs ≡ total g xs
-  total-same f g [] same = refl
-  total-same f g (x ∷ xs) same = let here = same 0 x (omega arith) in let r =
-      total-same f g xs (λ k d below. same (suc k) d (omega arith)) in omega arith
-
-  -- the sum of two functions is the sum of their sums
-  pub total-sum : (f g : A → ℕ) (xs : List A) → total (λ x. f x + g x) xs ≡ total f xs + total g xs
-  total-sum f g [] = refl
-  total-sum f g (x ∷ xs) = let r = total-sum f g xs in omega arith
-
-  -- ones add up to the length
-  pub total-one : (xs : List A) → total (λ _. 1) xs ≡ length xs
-  total-one [] = refl
-  total-one (x ∷ xs) = let r = total-one xs in omega arith
-
-  -- where each element counts 0, so do all
-  pub total-zero : (f : A → ℕ) (xs : List A) → ((k : ℕ) (d : A) → k < length xs → f (slice_index_or xs k d) ≡ 0)
-      → total f xs ≡ 0
-  total-zero f [] none = refl
-  total-zero f (x ∷ xs) none = let here = none 0 x (omega arith) in let r =
-      total-zero f xs (λ k d below. none (suc k) d (omega arith)) in omega arith
-
-  -- n copies of x count n times as much
-  pub total-replicate : (f : A → ℕ) (n : ℕ) (x : A) → total f (replicate n x) ≡ n * f x
-  total-replicate f zero x = omega arith
-  total-replicate f (suc n) x = let r = total-replicate f n x in omega arith
 
   -- where the sum isn't 0, some element isn't
   pub some_in_total : (f : A → ℕ) (xs : List A) → 0 < total f xs → (k : ℕ) × (k < length xs)
@@ -124,24 +49,34 @@ module _ {A : Type 0} where
   two_in_total f (x ∷ xs) (suc j) (suc k) d before below = let r = two_in_total f xs j k d (omega arith) (omega arith)
       in omega arith
 
-  -- how often x is in the joined lists
-  pub times-flat_map : (x : ℕ) (g : A → List ℕ) (xs : List A) → times x (flat_map g xs) ≡ total (λ y. times x (g y)) xs
-  times-flat_map x g [] = refl
-  times-flat_map x g (y ∷ ys) = let r = times-flat_map x g ys in let a = times-append x (g y) (flat_map g ys) in
-      omega arith
+-- how often x is in two lists, one after the other
+pub times-append : (x : ℕ) (xs ys : List ℕ) → times x (xs ++ ys) ≡ times x xs + times x ys
+times-append x [] ys = omega arith
+times-append x (z ∷ zs) ys = let r = times-append x zs ys in omega arith
 
-module _ {A B : Type 0} where
-  -- the sum over mapped elements
-  pub total-map : (f : B → ℕ) (g : A → B) (xs : List A) → total f (map g xs) ≡ total (λ x. f (g x)) xs
-  total-map f g [] = refl
-  total-map f g (x ∷ xs) = let r = total-map f g xs in omega arith
+-- x is in a list that begins with x
+pub times_first : (x : ℕ) (xs : List ℕ) → 0 < times x (x ∷ xs)
+times_first x xs = grind (arith, nat_tests)
 
-  -- two lists that agree place by place have one sum
-  pub total-zip : (f : A → ℕ) (g : B → ℕ) (xs : List A) (ys : List B) → length xs ≡ length ys
-      → ((k : ℕ) (c : A) (d : B) → k < length xs → f (slice_index_or xs k c) ≡ g (slice_index_or ys k d))
-      → total f xs ≡ total g ys
-  total-zip f g [] [] long same = refl
-  total-zip f g [] (y ∷ ys) long same = absurd (omega arith)
-  total-zip f g (x ∷ xs) [] long same = absurd (omega arith)
-  total-zip f g (x ∷ xs) (y ∷ ys) long same = let here = same 0 x y (omega arith) in let r =
-      total-zip f g xs ys (omega arith) (λ k c d below. same (suc k) c d (omega arith)) in omega arith
+-- what is in a longer list is in the rest, or is the first
+pub times_more : (x y : ℕ) (ys : List ℕ) → 0 < times x (y ∷ ys) → (x ≡ y) ⊎ (0 < times x ys)
+times_more x y ys h = grind (arith, nat_tests)
+
+-- what holds of each number that is in the list holds of all its elements
+pub All-times : (P : ℕ → Type 0) (xs : List ℕ) → ((x : ℕ) → 0 < times x xs → P x) → All P xs
+All-times P [] f k d h = absurd (omega arith)
+All-times P (x ∷ xs) f zero d h = f x (times_first x xs)
+All-times P (x ∷ xs) f (suc k) d h = All-times P xs (λ y at. f y (let r = at in omega arith)) k d (omega arith)
+
+-- one more number is below n + 1, unless it is past the blocks
+pub once_below-next : (x n blocks : ℕ) → n < blocks
+    → once_below x (min n blocks) + (if x == n then 1 else 0) ≡ once_below x (min (n + 1) blocks)
+once_below-next x n blocks below = grind (arith, nat_tests)
+
+-- what is below n is counted once, and what is counted is below n
+pub below_from_once : (x n : ℕ) → 0 < once_below x n → x < n
+below_from_once x n h = grind (arith, nat_tests)
+
+-- a number below n counts once
+pub once_below-below : (x n : ℕ) → x < n → once_below x n ≡ 1
+once_below-below x n h = grind (arith, nat_tests)
