@@ -1,8 +1,7 @@
-use Rattle.std.proofs.Common.{◌≡◌, ◌+◌, ◌-◌, ◌++◌, ℕ, List, [], ◌∷◌, map, vec_len, ◌∙◌, ap, subst, rules, arith, IfOk}
-use Rattle.std.proofs.lemmas.{Grind.{common_steps}, List.{map-append}}
-use Rattle.loop_core_block.specs.{declared.block.Block.{Block}, Shown.{shown}}
-use Rattle.spec_run_workers.specs.{declared.worker.Worker.{Worker}, Workers.{board_worker, IsWorkerAt, AreOfWorkers}}
-use Rattle.spec_run_workers.proofs.WorkerLaws.{popped, one_more}
+use Rattle.std.proofs.Common.{◌≡◌, ◌-◌, ◌++◌, ℕ, Some, [], ◌∷◌, map, vec_len, subst, rules, arith, IfOk}
+use Rattle.std.proofs.lemmas.{Grind.{common_steps}, List.{map-append, Elements.{All-pop}}, Result.{IfOk-at_ok}}
+use Rattle.loop_core_block.specs.Shown.{shown}
+use Rattle.spec_run_workers.{specs.Workers.{board_worker, IsWorkerAt, AreOfWorkers}, proofs.WorkerLaws.{one_more}}
 use Rattle.spec_run_workers.proofs.worker.seats_and_blocks.Goals as goal
 
 pub loop-worker-preserved : goal.loop-worker-preserved
@@ -10,10 +9,8 @@ loop-worker-preserved c = record {
   count = omega (arith, c.loop-worker.invariant.count, c.in-Some.ensures.len);
   parts = λ of board all.
       let so_far = c.loop-worker.invariant.parts of board all in
-      let less = popped (λ (w : Worker). IsWorkerAt of board (board_worker w)) c.loop-worker.done.items
-      c.pop.new.self.items c.in-Some.worker c.in-Some.ensures.items so_far.0 in
-      let number : vec_len c.args.done - vec_len c.loop-worker.done + 1 ≡ vec_len c.args.done - vec_len c.pop.new.self =
-      omega (arith, c.loop-worker.invariant.count, c.in-Some.ensures.len) in
+      let less = All-pop (λ r. IfOk r (λ w. IsWorkerAt of board (board_worker w))) c.loop-worker.done.items
+      c.pop.new.self.items (Some c.in-Some.worker) c.in-Some.ensures.items so_far.0 in
       let pushed = c.in_ok-push.ensures.items in
       let appended = c.in_ok-append.ensures.items in
       let same_seat = c.in_ok-seat.seat-is in
@@ -23,15 +20,10 @@ loop-worker-preserved c = record {
       let blocks_are : c.append.new.self.items ≡ c.loop-worker.blocks.items ++ c.in_ok-seat.field-0.blocks.items =
       first_of (cc, search rules, grind (arith, common_steps)) in (
         less.0,
-        subst (λ (n : ℕ). AreOfWorkers of board n c.push.new.self.items (map shown c.append.new.self.items)) number
-            (one_more of board (vec_len c.args.done - vec_len c.loop-worker.done) c.loop-worker.seats.items
-            c.push.new.self.items
-            (map shown c.loop-worker.blocks.items) (map shown c.append.new.self.items)
-            (board_worker c.in_ok-seat.field-0) so_far.1
-            (subst (λ r. IfOk r (λ (w : Worker). IsWorkerAt of board (board_worker w))) c.in_ok-seat.was less.1)
-            seats_are
-            (ap (λ (bs : List Block). map shown bs) blocks_are
-            ∙ map-append shown c.loop-worker.blocks.items c.in_ok-seat.field-0.blocks.items)),
+        one_more of board _ _ _ _ _ _ (board_worker c.in_ok-seat.field-0) so_far.1
+            (IfOk-at_ok (λ w. IsWorkerAt of board (board_worker w)) c.in_ok-seat.was less.1)
+            (omega (arith, c.loop-worker.invariant.count, c.in-Some.ensures.len)) seats_are
+            (rw blocks_are (map-append shown _ _)),
       );
 }
 
