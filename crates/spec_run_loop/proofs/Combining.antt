@@ -1,8 +1,8 @@
 -- Words that are combined, element by element.
-use Rattle.std.proofs.Common.{◌≡◌, ℕ, zero, suc, ◌+◌, ◌-◌, ◌<◌, ◌≤◌, ◌^◌, Bool, true, false, List, [], ◌∷◌, length}
+use Rattle.std.proofs.Common.{◌≡◌, ℕ, zero, suc, ◌+◌, ◌-◌, ◌<◌, ◌≤◌, ◌^◌, true, inl, inr, List, [], ◌∷◌, length}
 use Rattle.std.{proofs.Common.{slice_set, refl, sym, ap, ◌∙◌, subst, arith}, specs.Int.Bits.{or_zero_r, xor_zero_r}}
-use Rattle.std.specs.{Prelude.{slice_index, ◌==◌, ◌%◌, bit_and, bit_or, bit_xor}, List.{list_all}}
-use Rattle.std.proofs.lemmas.{Bool.{eqb-true, eqb-false}, List.{get_or-set_same, get_or-set_other}, Nat.{and_mask}}
+use Rattle.std.specs.{Prelude.{slice_index, ◌%◌, bit_and, bit_or, bit_xor}, List.{list_all}}
+use Rattle.std.proofs.lemmas.{Bool.{cases_eq}, List.{get_or-set_same, get_or-set_other}, Nat.{and_mask}}
 use Rattle.std.proofs.lemmas.List.FromFn.{fill_by_all}
 use Rattle.bpf_insn_types.specs.Words.{alu}
 use Rattle.array_maps.specs.{declared.access.Op.{Op, TheVariants.{Add, Or, And, Xor, AddH}}, Accesses.{words_after_all}}
@@ -61,9 +61,6 @@ sums_combine laws op made all words fit base same is =
     ∙ ap (combined op (slice_index words e)) (ap (left_by_all (actions_at e made)) (sym (is e inside))
     ∙ sym (element_after_all made base e inside)))
 
-earlier : (e count : ℕ) → e < suc count → ¬ (e ≡ count) → e < count
-earlier e count early apart = omega (arith, early, apart)
-
 -- reduces at elements in a row, from the first on
 module _ (op : Op) (operands words : List ℕ) where
   abbrev pub after_run : ℕ → List ℕ
@@ -96,23 +93,17 @@ module _ (op : Op) (operands words : List ℕ) where
       ∙ ap (λ (word : ℕ). combined op word (slice_index operands count)) (not_yet count e (omega (arith, same)))
       ∙ ap (λ (k : ℕ). combined op (slice_index words e) (slice_index operands k)) (sym same))
 
-  one_done : (count e : ℕ) → e < suc count → e < length words
-      → (e < count → slice_index (after_run count) e ≡ combined op (slice_index words e) (slice_index operands e))
-      → (here : Bool) → (e == count) ≡ here
-      → slice_index (after_run (suc count)) e ≡ combined op (slice_index words e) (slice_index operands e)
-  one_done count e early inside before true same = done_last count e (eqb-true e count same) inside
-  one_done count e early inside before false other =
-      let apart = eqb-false e count other in
-      get_or-set_other (after_run count) (0 + count) e
-      (combined op (slice_index (after_run count) (0 + count)) (slice_index operands count)) 0
-      (λ same. apart (omega (arith, same)))
-      ∙ before (earlier e count early apart)
-
   done : (count e : ℕ) → e < count → e < length words
       → slice_index (after_run count) e ≡ combined op (slice_index words e) (slice_index operands e)
   done zero e early inside = absurd (omega arith)
-  done (suc count) e early inside =
-      one_done count e early inside (λ before. done count e before inside) (e == count) refl
+  done (suc count) e early inside = elim (cases_eq e count) [
+    | inl same ↦ done_last count e same inside
+    | inr apart ↦
+        get_or-set_other (after_run count) (0 + count) e
+        (combined op (slice_index (after_run count) (0 + count)) (slice_index operands count)) 0
+        (λ same. apart (omega arith))
+        ∙ done count e (omega arith) inside
+  ]
 
   -- where there is one for each word, all words are combined
   pub run_is_combined : length operands ≡ length words → after_run (length operands) ≡ combined_words op words operands

@@ -1,7 +1,8 @@
 -- What pays.
-use Rattle.std.proofs.Common.{◌≡◌, ℕ, suc, ◌<◌, ◌≤◌, Bool, true, false, ◌||◌, List, [], ◌∷◌, length, get_or, refl, sym}
-use Rattle.std.proofs.{Common.{ap, ◌∙◌, subst, arith, lt-ltb, le-ltb, ◌+◌, ◌*◌, ◌/◌, ◌≢◌}, lemmas.Nat.{mul-le}}
-use Rattle.std.{specs.{Prelude.{◌==◌, min, if◌then◌else◌}, List.{list_any}}, proofs.lemmas.Bool.Decides.{nat_tests}}
+use Rattle.std.proofs.Common.{◌≡◌, ℕ, suc, ◌<◌, ◌≤◌, true, false, List, [], ◌∷◌, length, get_or, refl}
+use Rattle.std.proofs.{Common.{inl, inr, sym, ◌∙◌, arith, lt-ltb, le-ltb, ◌+◌, ◌*◌, ◌/◌, ◌≢◌}, lemmas.Nat.{mul-le}}
+use Rattle.std.specs.{Prelude.{◌==◌, min}, List.{list_any}}
+use Rattle.std.proofs.lemmas.Bool.{eqb-true, cases_Bool, Decides.{nat_tests}}
 use Rattle.bpf_insn_types.specs.Program.{Program, callback_starts}
 use Rattle.bpf_verify_model.specs.Count.{count_of, function_start}
 use Rattle.bpf_step_model.specs.SoundMachine.{IsStart}
@@ -9,7 +10,7 @@ use Rattle.bpf_verify_sound.specs.Soundness.{most_from}
 use Rattle.loop_core_block.proofs.MostLaws.{count_is}
 use Rattle.loop_core_model.specs.Split.{even_bounds}
 use Rattle.loop_core_split.specs.declared.{plan.Plan.{Plan}, strategy.BlocksReason.{BlocksReason}}
-use Rattle.spec_run_loop.specs.declared.strategy.{BlockPlan.{BlockPlan}, Executor.TheVariants.{Caller, Workers}}
+use Rattle.spec_run_loop.specs.declared.strategy.{Executor.TheVariants.{Caller, Workers}}
 use Rattle.spec_run_loop.specs.{Jobs.{JobOf}, Costs.{useful_blocks}, StrategyPlans.{profitable_blocks}}
 use Rattle.spec_run_loop.specs.Costs.{share, least_shares, cost_of_elements, shares_of, useful_workers, work_by_blocks}
 
@@ -21,16 +22,12 @@ record IsAt (starts : List ℕ) (slot : ℕ) : Type 0 where
 
 among : (starts : List ℕ) (slot : ℕ) → list_any (λ start. start == slot) starts ≡ true → IsAt starts slot
 among [] slot there = absurd cc
-among (start ∷ starts) slot there = by_test (start == slot) refl there (among starts slot)
-  where
-    by_test : (here : Bool) → (start == slot) ≡ here
-        → (here || list_any (λ start. start == slot) starts) ≡ true
-        → (list_any (λ start. start == slot) starts ≡ true → IsAt starts slot) → IsAt (start ∷ starts) slot
-    by_test true e there go = record { at = 0; inside = omega arith; is = grind (arith, nat_tests) }
-    by_test false e there go =
-        let rest : IsAt starts slot = go there in
-        let low : rest.at < length starts = rest.inside in
-        record { at = suc rest.at; inside = omega (arith, low); is = rest.is }
+among (start ∷ starts) slot there = elim (cases_Bool (start == slot)) [
+  | inl here ↦ record { at = 0; inside = omega arith; is = eqb-true start slot here }
+  | inr other ↦
+      let rest : IsAt starts slot = among starts slot (rw other at there) in
+      record { at = suc rest.at; inside = omega (arith, rest.inside); is = rest.is }
+]
 
 -- the count of the callback that starts at a slot is of its longest path
 pub most_is : (program : Program) (slot most : ℕ) → IsStart program slot
@@ -50,15 +47,13 @@ most_work n most few low =
 
 few_shared : (workers shares blocks : ℕ) → workers ≤ 16
     → min (min workers (min shares 16)) blocks ≡ min (min workers shares) blocks
-few_shared workers shares blocks few = omega (arith, few)
+few_shared workers shares blocks few = omega arith
 
 -- few shares keep one worker busy
 pub keeps_one : (work elements cost : ℕ) (plan : Plan) → cost ≡ cost_of_elements elements
     → work / (share + cost) < least_shares → 1 ≡ useful_workers work elements plan
 keeps_one work elements cost plan is few =
-    let low : shares_of work elements < least_shares =
-    subst (λ (c : ℕ). work / (share + c) < least_shares) is few in
-    rw (lt-ltb (shares_of work elements) least_shares low) refl
+    rw (lt-ltb (shares_of work elements) least_shares (rw is at few)) refl
 
 -- more keep busy those of the plan, which has at most 16 workers
 pub keeps_some : (work elements cost : ℕ) (plan : Plan) (shared busy : ℕ) → plan.workers ≤ 16
@@ -66,36 +61,18 @@ pub keeps_some : (work elements cost : ℕ) (plan : Plan) (shared busy : ℕ) �
     → shared ≡ min (work / (share + cost)) 16 → busy ≡ min (min plan.workers shared) plan.blocks
     → busy ≡ useful_workers work elements plan
 keeps_some work elements cost plan shared busy few is enough up are =
-    let high : least_shares ≤ shares_of work elements =
-    subst (λ (c : ℕ). least_shares ≤ work / (share + c)) is enough in
-    let capped : shared ≡ min (shares_of work elements) 16 =
-    up ∙ ap (λ (c : ℕ). min (work / (share + c)) 16) is in
-    let same : busy ≡ min (min plan.workers (shares_of work elements)) plan.blocks =
-    are ∙ ap (λ (s : ℕ). min (min plan.workers s) plan.blocks) capped
-    ∙ few_shared plan.workers (shares_of work elements) plan.blocks few in
-    rw (le-ltb (shares_of work elements) least_shares high) same
+    rw (le-ltb (shares_of work elements) least_shares (rw is at enough))
+    (rw (are, up, is) (few_shared plan.workers (shares_of work elements) plan.blocks few))
 
 -- the blocks that pay for one worker, and for several
-abbrev blocks_by : JobOf → (elements workers : ℕ) → BlocksReason → Bool → BlockPlan
-blocks_by job elements workers why one = record {
-  split = even_bounds job.call.n (if one then 1
-      else useful_blocks (work_by_blocks job) elements job.plan.blocks workers);
-  executor = if one then Caller else Workers workers;
-  why = why;
-}
-
 pub pays_alone : (job : JobOf) (elements workers : ℕ) (why : BlocksReason) (split : List ℕ) → workers ≡ 1
     → split ≡ even_bounds job.call.n 1
     → record { split = split; executor = Caller; why = why } ≡ profitable_blocks job elements workers why
 pays_alone job elements workers why split alone is =
-    let one : (workers == 1) ≡ true = grind (arith, nat_tests) in
-    let with_split : List ℕ → BlockPlan = λ s. record { split = s; executor = Caller; why = why } in
-    ap with_split is ∙ sym (ap (blocks_by job elements workers why) one)
+    let one : (workers == 1) ≡ true = grind (arith, nat_tests) in rw (is, one)
 
 pub pays_together : (job : JobOf) (elements workers : ℕ) (why : BlocksReason) (split : List ℕ) → workers ≢ 1
     → split ≡ even_bounds job.call.n (useful_blocks (work_by_blocks job) elements job.plan.blocks workers)
     → record { split = split; executor = Workers workers; why = why } ≡ profitable_blocks job elements workers why
 pays_together job elements workers why split several is =
-    let one : (workers == 1) ≡ false = grind (arith, nat_tests) in
-    let with_split : List ℕ → BlockPlan = λ s. record { split = s; executor = Workers workers; why = why } in
-    ap with_split is ∙ sym (ap (blocks_by job elements workers why) one)
+    let one : (workers == 1) ≡ false = grind (arith, nat_tests) in rw (is, one)

@@ -2,7 +2,6 @@
 use Rattle.std.proofs.Common.{◌≡◌, ℕ, ◌+◌, ◌<◌, List, length, Some, None, sym, ap, ◌∙◌, subst, arith}
 use Rattle.std.specs.{Prelude.{slice_index_or}, List.{sum}}
 use Rattle.array_maps.specs.MapList.{MapList, AreWords}
-use Rattle.bpf_verify_sound.specs.Soundness.{AreMapWords}
 use Rattle.loop_core_sequential.{specs.Rests.{RanOn, RanTo}, proofs.InOrder.{stayed, ran_both, broke_before}}
 use Rattle.spec_run_loop.specs.{declared.partial_reduction.PartialReduction.{PartialReduction}, SumLoops.{SumLoopOf}}
 use Rattle.spec_run_loop.specs.Sums.{combined_words, IsSumFor, IsSumOf, AreSumsOf}
@@ -20,43 +19,26 @@ module _ (l : SumLoopOf) (from to : ℕ) (sums : List PartialReduction) (are : A
       subst (λ (index : ℕ). RanOn l.program l.call from index old old) (sym first)
       (stayed l.program l.call from old (omega (arith, low, first, high)))
 
-  -- the maps are of the program's sizes on the way
-  pub fit_on_the_way : (share : ℕ) (now : MapList) → Added share now → old.sizes ≡ l.program.sizes
-      → length now.words ≡ sum now.sizes → AreWords now.words → AreMapWords l.program now.words
-  fit_on_the_way share now added sizes count fit = record {
-    count = count ∙ ap sum (added.sizes ∙ sizes);
-    fit = fit;
-  }
+  -- one more: the maps are of the program's sizes on the way
+  module _ (share : ℕ) (s : PartialReduction) (now new : MapList) (below : share < length sums)
+      (here : s ≡ slice_index_or sums share s) (added : Added share now) (sizes : old.sizes ≡ l.program.sizes)
+      (count : length now.words ≡ sum now.sizes) (fit : AreWords now.words)
+      (is : new ≡ record { sizes = now.sizes; words = combined_words l.op now.words s.maps.words }) where
+    one_ran : RanTo l.program l.call from (are.start (share + 1)) old new s.broke
+    one_ran =
+        let its : IsSumOf l (are.start share) (are.start (share + 1)) s =
+        subst (IsSumOf l (are.start share) (are.start (share + 1))) (sym here) (are.each share s below) in
+        ran_both l.program l.call from (are.start share) (are.start (share + 1)) old now new s.broke added
+        (rw is (its.adds now (record { count = count ∙ ap sum (added.sizes ∙ sizes); fit = fit })))
 
-  -- one more
-  one_ran : (share : ℕ) (s : PartialReduction) (now new : MapList) → share < length sums → s ≡ slice_index_or sums share s
-      → Added share now → AreMapWords l.program now.words
-      → new ≡ record { sizes = now.sizes; words = combined_words l.op now.words s.maps.words }
-      → RanTo l.program l.call from (are.start (share + 1)) old new s.broke
-  one_ran share s now new below here added fit is =
-      let its : IsSumOf l (are.start share) (are.start (share + 1)) s =
-      subst (IsSumOf l (are.start share) (are.start (share + 1))) (sym here) (are.each share s below) in
-      ran_both l.program l.call from (are.start share) (are.start (share + 1)) old now new s.broke added
-      (subst (λ (maps : MapList). RanTo l.program l.call (are.start share) (are.start (share + 1)) now maps
-      s.broke) (sym is) (its.adds now fit))
+    pub one_added : s.broke ≡ None → Added (share + 1) new
+    one_added none = subst (RanTo l.program l.call from (are.start (share + 1)) old new) none one_ran
 
-  pub one_added : (share : ℕ) (s : PartialReduction) (now new : MapList) → share < length sums
-      → s ≡ slice_index_or sums share s → Added share now → AreMapWords l.program now.words
-      → new ≡ record { sizes = now.sizes; words = combined_words l.op now.words s.maps.words } → s.broke ≡ None
-      → Added (share + 1) new
-  one_added share s now new below here added fit is none =
-      subst (RanTo l.program l.call from (are.start (share + 1)) old new) none
-      (one_ran share s now new below here added fit is)
-
-  pub broke_off : (share : ℕ) (s : PartialReduction) (now new : MapList) (answer : ℕ) → share < length sums
-      → s ≡ slice_index_or sums share s → Added share now → AreMapWords l.program now.words
-      → new ≡ record { sizes = now.sizes; words = combined_words l.op now.words s.maps.words }
-      → s.broke ≡ Some answer → RanTo l.program l.call from to old new (Some answer)
-  broke_off share s now new answer below here added fit is broke =
-      broke_before l.program l.call from (are.start (share + 1)) to old new answer
-      (are.before (share + 1) (omega (arith, below)))
-      (subst (RanTo l.program l.call from (are.start (share + 1)) old new) broke
-      (one_ran share s now new below here added fit is))
+    pub broke_off : (answer : ℕ) → s.broke ≡ Some answer → RanTo l.program l.call from to old new (Some answer)
+    broke_off answer broke =
+        broke_before l.program l.call from (are.start (share + 1)) to old new answer
+        (are.before (share + 1) (omega (arith, below)))
+        (subst (RanTo l.program l.call from (are.start (share + 1)) old new) broke one_ran)
 
   pub all_added : (share : ℕ) (now : MapList) → share ≡ length sums → Added share now
       → RanTo l.program l.call from to old now None

@@ -93,19 +93,11 @@ module _ (program : Program) (call : LoopCall) where
       absurd (not_both to y others words (λ past over. sym (same past over)))
 
   -- the same in the words of loops in order
-  rest_of : (from to : ℕ) (old new : MapList) (broke : Option ℕ) → RanTo program call from to old new broke
-      → (past : ℕ) → to ≤ past → rest_to program call past from old.words ≡ goes program call to past broke new.words
-  rest_of from to old new (Some answer) ran = ran.rest
-  rest_of from to old new None ran = ran.rest
-
-  on_of : (from to : ℕ) (old new : MapList) (broke : Option ℕ) → RanTo program call from to old new broke → from ≤ to
-  on_of from to old new (Some answer) ran = ran.on
-  on_of from to old new None ran = ran.on
-
-  pub sizes_of : (from to : ℕ) (old new : MapList) (broke : Option ℕ) → RanTo program call from to old new broke
-      → new.sizes ≡ old.sizes
-  sizes_of from to old new (Some answer) ran = ran.sizes
-  sizes_of from to old new None ran = ran.sizes
+  ran_as : (from to : ℕ) (old new : MapList) (broke : Option ℕ) → RanTo program call from to old new broke
+      → (from ≤ to) × (new.sizes ≡ old.sizes) × ((past : ℕ) → to ≤ past
+      → rest_to program call past from old.words ≡ goes program call to past broke new.words)
+  ran_as from to old new (Some answer) ran = (ran.on, ran.sizes, ran.rest)
+  ran_as from to old new None ran = (ran.on, ran.sizes, ran.rest)
 
   as_ran : (from to : ℕ) (old new : MapList) (broke : Option ℕ) → from ≤ to → to ≤ call.n → new.sizes ≡ old.sizes
       → ((past : ℕ) → to ≤ past → rest_to program call past from old.words ≡ goes program call to past broke new.words)
@@ -176,11 +168,7 @@ module _ (l : SumLoopOf) (is : IsSumLoop l) (each : EachIterationEnds l.program)
       ≡ (if b then Ended (record { answer = from + 1; words = words_after_all one.it.accesses words })
       else rest_to l.program l.call past (from + 1) (words_after_all one.it.accesses words))
   one_done from past over one words fit b test =
-      ap (λ (left : ℕ). loop_from l.program 4096 l.call left from words) (one_more past from over)
-      ∙ ap (followed (behind (loop_from l.program 4096 l.call (past - (from + 1)) (from + 1)) from))
-      (one.again words fit)
-      ∙ ap (λ (t : Bool). if t then Ended (record { answer = from + 1; words = words_after_all one.it.accesses words })
-      else rest_to l.program l.call past (from + 1) (words_after_all one.it.accesses words)) test
+      rw (one_more past from over, one.again words fit, test)
 
   in_front : (from to : ℕ) → from < to → (one : OneAdds from) (b : Bool) → (one.it.ret == 1) ≡ b
       → Range (from + 1) to → Range from to
@@ -228,14 +216,15 @@ module _ (l : SumLoopOf) (is : IsSumLoop l) (each : EachIterationEnds l.program)
       → to ≤ l.call.n → (old : MapList) → old.words ≡ base → old.sizes ≡ l.program.sizes → (s : PartialReduction)
       → RanTo l.program l.call from to old s.maps s.broke → IsSumOf l from to s
   carried laws base_is from to within old old_is sizes s ran =
-      let on = on_of l.program l.call from to old s.maps s.broke ran in
+      let was = ran_as l.program l.call from to old s.maps s.broke ran in
+      let on = was.0 in
       let r = range to (to - from) from within (omega (arith, on)) in
       let same = same_end l.program l.call to r.broke s.broke (words_after_all r.made base) s.maps.words
       (λ past over. sym (r.leaves base base_fits past over)
       ∙ sym (ap (rest_to l.program l.call past from) old_is)
-      ∙ rest_of l.program l.call from to old s.maps s.broke ran past over) in
+      ∙ was.2 past over) in
       record {
-        fits = sizes_of l.program l.call from to old s.maps s.broke ran ∙ sizes;
+        fits = was.1 ∙ sizes;
         adds = λ maps fit. as_ran l.program l.call from to maps
             (record { sizes = maps.sizes; words = combined_words l.op maps.words s.maps.words }) s.broke on within refl
             (λ past over.

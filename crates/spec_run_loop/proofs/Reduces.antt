@@ -1,6 +1,6 @@
 -- Accesses that reduce elements by one operator alone.
-use Rattle.std.proofs.Common.{◌≡◌, ℕ, Bool, true, false, ◌&&◌, List, [], ◌∷◌, ◌++◌, refl, ap, ◌∙◌, subst}
-use Rattle.std.specs.{Prelude.{slice_index, if◌then◌else◌, ◌==◌}, List.{list_all}}
+use Rattle.std.proofs.Common.{◌≡◌, ℕ, Bool, true, ◌&&◌, inl, inr, List, [], ◌∷◌, ◌++◌, refl, ap, ◌∙◌, subst}
+use Rattle.std.{specs.{Prelude.{slice_index, ◌==◌}, List.{list_all}}, proofs.lemmas.Bool.{cases_Bool}}
 use Rattle.array_maps.specs.declared.access.Op.{Op}
 use Rattle.array_maps.specs.Accesses.{Action, Read, Write, ReadWrite, Reduce, Access, combined, left_by_all, actions_at}
 use Rattle.loop_core_model.{specs.{Actions.{is_same, reduces_by}, Kept.{OperatorsAssociate}}, proofs.Turns.{Saws}}
@@ -19,13 +19,13 @@ all_both op (x ∷ xs) ys first second = (first.0, all_both op xs ys first.1 sec
 pub reduces_at : (op : Op) (made : List Access) → AllReduce op made → (e : ℕ)
     → list_all (reduces_by op) (actions_at e made) ≡ true
 reduces_at op [] all e = refl
-reduces_at op (access ∷ made) all e = go (access.element == e) access.action all.0 (reduces_at op made all.1 e)
-  where
-    go : (here : Bool) (action : Action) → reduces_by op action ≡ true
-        → list_all (reduces_by op) (actions_at e made) ≡ true →
-        list_all (reduces_by op) (if here then action ∷ actions_at e made else actions_at e made) ≡ true
-    go false action one rest = rest
-    go true action one rest = and_both (reduces_by op action) (list_all (reduces_by op) (actions_at e made)) one rest
+reduces_at op (access ∷ made) all e =
+    let rest = reduces_at op made all.1 e in
+    elim (cases_Bool (access.element == e)) [
+      | inl here ↦ rw here (and_both (reduces_by op access.action) (list_all (reduces_by op) (actions_at e made)) all.0
+          rest)
+      | inr other ↦ rw other rest
+    ]
 
 -- they saw nothing
 pub saw_nothing : (op : Op) (made : List Access) → AllReduce op made → (words : List ℕ) → Saws made words

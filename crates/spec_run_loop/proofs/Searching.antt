@@ -1,6 +1,6 @@
 -- How far operations that add up were found.
-use Rattle.std.proofs.Common.{◌≡◌, ℕ, ◌+◌, ◌≤◌, ◌<◌, Bool, true, false, ◌==◌, List, length, slice_index_or, refl, sym}
-use Rattle.std.proofs.{Common.{◌∙◌, subst, arith}, lemmas.{Bool.{eqb-true, eqb-false}, List.{get_or_default}}}
+use Rattle.std.proofs.Common.{◌≡◌, ℕ, ◌+◌, ◌≤◌, ◌<◌, inl, inr, List, length, slice_index_or, sym}
+use Rattle.std.proofs.{Common.{◌∙◌, subst, arith}, lemmas.{Bool.{cases_eq}, List.{get_or_default}}}
 use Rattle.array_maps.specs.declared.access.Op.{Op}
 use Rattle.bpf_step_ir.specs.{declared.ir_op.IrOp.{IrOp, TheVariants.{Stop}}, PlainRun.{op_of}}
 use Rattle.spec_run_loop.specs.SumOps.{IsSumOp, AddUp}
@@ -10,9 +10,6 @@ module _ (op : Op) (ops : List IrOp) (from past : ℕ) where
   abbrev pub SumsTo : ℕ → Type 0
   SumsTo reached = (slot : ℕ) → from ≤ slot → slot < reached → IsSumOp op from past slot (op_of ops slot)
 
-  earlier : (slot reached : ℕ) → slot < reached + 1 → ¬ (slot ≡ reached) → slot < reached
-  earlier slot reached early apart = omega (arith, early, apart)
-
   -- what was read at a slot is the operation there
   pub is_read : (slot : ℕ) (at : IrOp) → slot < length ops → at ≡ slice_index_or ops slot at → at ≡ op_of ops slot
   is_read slot at inside read = read ∙ get_or_default ops slot at Stop inside
@@ -20,11 +17,10 @@ module _ (op : Op) (ops : List IrOp) (from past : ℕ) where
   -- one more
   pub sums_more : (reached : ℕ) → SumsTo reached → IsSumOp op from past reached (op_of ops reached)
       → SumsTo (reached + 1)
-  sums_more reached before one slot low early = go (slot == reached) refl
-    where
-      go : (here : Bool) → (slot == reached) ≡ here → IsSumOp op from past slot (op_of ops slot)
-      go true same = subst (λ (s : ℕ). IsSumOp op from past s (op_of ops s)) (sym (eqb-true slot reached same)) one
-      go false other = before slot low (earlier slot reached early (eqb-false slot reached other))
+  sums_more reached before one slot low early = elim (cases_eq slot reached) [
+    | inl same ↦ subst (λ (s : ℕ). IsSumOp op from past s (op_of ops s)) (sym same) one
+    | inr other ↦ before slot low (omega arith)
+  ]
 
   -- none yet, and all
   pub sums_none : SumsTo from

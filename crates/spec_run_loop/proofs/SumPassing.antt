@@ -1,16 +1,16 @@
 -- A loop that adds up conflicts at no element.
-use Rattle.std.proofs.Common.{◌≡◌, ℕ, zero, suc, ◌+◌, ◌<◌, ◌≤◌, Bool, true, false, ◌==◌, if◌then◌else◌, ◌&&◌, List, []}
-use Rattle.std.{proofs.Common.{◌∷◌, length, Some, None, refl, ap, ◌∙◌, subst, arith}, specs.Prelude.{is_none}}
+use Rattle.std.proofs.Common.{◌≡◌, ℕ, zero, suc, ◌+◌, ◌<◌, ◌≤◌, Bool, true, false, ◌==◌, List, []}
+use Rattle.std.{proofs.Common.{◌∷◌, length, refl, ap, ◌∙◌, arith}}
 use Rattle.std.{specs.List.{AllByRecursion, list_all}, proofs.lemmas.List.Folds.{list_all-append}}
 use Rattle.array_maps.specs.declared.access.Op.{Op}
 use Rattle.array_maps.specs.Accesses.{Access, actions_at}
-use Rattle.bpf_step_model.specs.{Run.{BoundedResult, Ended, mapped, followed}, Iteration.{Iterated, iteration}}
+use Rattle.bpf_step_model.specs.{Run.{BoundedResult, Ended, mapped}, Iteration.{Iterated, iteration}}
 use Rattle.bpf_verify_sound.specs.Soundness.{AreMapWords, callback_count}
 use Rattle.bpf_step.specs.Iterations.{EachIterationEnds}
 use Rattle.loop_core_model.specs.{declared.loop_test.Test.{Test}, Report.{judged, verdict}}
-use Rattle.loop_core_model.specs.{Actions.{reduces_by, joined}, Scan.{up_to_break, scan}}
+use Rattle.loop_core_model.specs.{Actions.{reduces_by, joined}, Scan.{scan}}
 use Rattle.loop_core_model.specs.Conflict.{conflicts, at_element, conflicting}
-use Rattle.loop_core_model.{specs.LeastBreak.{in_front_of, accesses_of_each}, proofs.PlaneLaws.{filter-none}}
+use Rattle.loop_core_model.{specs.LeastBreak.{accesses_of_each}, proofs.PlaneLaws.{filter-none}}
 use Rattle.{loop_core_model.proofs.ScanLaws.{counted_are_scanned}, loop_inspector.proofs.Conflicts.{by_actions}}
 use Rattle.spec_run_loop.specs.{SumLaw.{AllReduce}, SumLoops.{SumLoopOf, IsSumLoop, AlwaysPasses}}
 use Rattle.spec_run_loop.proofs.{Reduces.{and_both, reduces_at}, Ranges.{ends_known}}
@@ -47,15 +47,12 @@ module _ (l : SumLoopOf) (is : IsSumLoop l) (each : EachIterationEnds l.program)
       → (b : Bool) → (it.ret == 1) ≡ b → Scanned left (index + 1) → Scanned (suc left) index
   one_more left index it told reduces true test rest = record {
     ran = it ∷ [];
-    told = ap (followed (up_to_break (scan at_index left (index + 1)))) told
-        ∙ ap (λ (b : Bool). if b then Ended (it ∷ []) else in_front_of (scan at_index left (index + 1)) it) test;
+    told = rw (told, test);
     reduce = (reduces, tt);
   }
   one_more left index it told reduces false test rest = record {
     ran = it ∷ rest.ran;
-    told = ap (followed (up_to_break (scan at_index left (index + 1)))) told
-        ∙ ap (λ (b : Bool). if b then Ended (it ∷ []) else in_front_of (scan at_index left (index + 1)) it) test
-        ∙ ap (λ (behind : BoundedResult (List Iterated)). in_front_of behind it) rest.told;
+    told = rw (told, test, rest.told);
     reduce = (reduces, rest.reduce);
   }
 

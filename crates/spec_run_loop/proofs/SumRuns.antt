@@ -1,25 +1,19 @@
 -- Runs through operations that add up.
-use Rattle.std.{proofs.Common.{◌≡◌, ℕ, zero, suc, true, List, [], ◌∷◌, Option, Some, None}, specs.Prelude.{slice_get}}
+use Rattle.std.{proofs.Common.{ℕ, zero, suc, List, [], ◌∷◌, Option, Some, None}, specs.Prelude.{slice_get}}
 use Rattle.array_maps.specs.{declared.access.Op.{Op}, Accesses.{Access, words_after}}
-use Rattle.loop_core_model.specs.Actions.{reduces_by}
 use Rattle.bpf_step_model.specs.{Step.{Request}, Run.{BoundedResult, Ended, Stuck, Unfinished, action_of, mapped}}
 use Rattle.bpf_step_ir.specs.{declared.ir_op.IrOp.{IrOp}, Plain.{CallsLoop, RefusesLoop, Ends}}
 use Rattle.bpf_step_ir.specs.Plain.{plain_step, plain_after_request, Plain, PlainStepOutcome, Halts, Goes, Wants}
 use Rattle.bpf_step_ir.specs.PlainRun.{PlainRunSegment, op_of, with_op, after_plain_access, after_plain_step, plain_run}
-use Rattle.spec_run_loop.specs.{SumOps.{AddUp}, SumLaw.{EndsReducing, SumsReduceAlone}}
-use Rattle.spec_run_loop.proofs.SumSteps.{IsAt, LeadsReducing, op_leads}
+use Rattle.spec_run_loop.specs.{SumOps.{AddUp}, SumLaw.{AllReduce, EndsReducing, SumsReduceAlone}}
+use Rattle.spec_run_loop.proofs.{Reduces.{all_both}, SumSteps.{IsAt, LeadsReducing, op_leads}}
 
--- an operation in front that makes no access, and one that reduces
-none_more : (op : Op) (e : BoundedResult PlainRunSegment) → EndsReducing op e → EndsReducing op (mapped (with_op []) e)
-none_more op (Ended s) all = all
-none_more op Stuck all = tt
-none_more op Unfinished all = tt
-
-one_more : (op : Op) (access : Access) (e : BoundedResult PlainRunSegment) → reduces_by op access.action ≡ true
-    → EndsReducing op e → EndsReducing op (mapped (with_op (access ∷ [])) e)
-one_more op access (Ended s) reduces all = (reduces, all)
-one_more op access Stuck reduces all = tt
-one_more op access Unfinished reduces all = tt
+-- an operation in front whose accesses reduce
+more : (op : Op) (made : List Access) (e : BoundedResult PlainRunSegment) → AllReduce op made → EndsReducing op e
+    → EndsReducing op (mapped (with_op made) e)
+more op made (Ended s) first all = all_both op made s.accesses first all
+more op made Stuck first all = tt
+more op made Unfinished first all = tt
 
 module _ (op : Op) (ops : List IrOp) (from past : ℕ) (add_up : AddUp op ops from past) where
   -- what is claimed of each run with this bound
@@ -33,13 +27,13 @@ module _ (op : Op) (ops : List IrOp) (from past : ℕ) (add_up : AddUp op ops fr
   access_reduces bound runs element request next words leads (Some n) =
       let access : Access = record { element = element; action = action_of request n } in
       let here = leads n in
-      one_more op access (plain_run ops bound (plain_after_request request n next) (words_after access words)) here.0
-      (runs (plain_after_request request n next) (words_after access words) here.1)
+      more op (access ∷ []) (plain_run ops bound (plain_after_request request n next) (words_after access words))
+      (here.0, tt) (runs (plain_after_request request n next) (words_after access words) here.1)
 
   step_reduces : (bound : ℕ) → RunsReduce bound → (slot : ℕ) (outcome : PlainStepOutcome) (words : List ℕ)
       → LeadsReducing op from past outcome → EndsReducing op (after_plain_step (plain_run ops bound) slot outcome words)
   step_reduces bound runs slot Halts words leads = tt
-  step_reduces bound runs slot (Goes next) words leads = none_more op (plain_run ops bound next words)
+  step_reduces bound runs slot (Goes next) words leads = more op [] (plain_run ops bound next words) tt
       (runs next words leads)
   step_reduces bound runs slot (Wants element request next) words leads = access_reduces bound runs element request next
       words leads (slice_get words element)

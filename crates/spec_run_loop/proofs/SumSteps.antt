@@ -1,18 +1,18 @@
 -- Where an operation that adds up leads, and what it asks for.
-use Rattle.std.proofs.Common.{◌≡◌, ℕ, ◌+◌, ◌≤◌, ◌<◌, Bool, true, false, List, Option, Some, None, refl, arith}
+use Rattle.std.proofs.Common.{◌≡◌, ℕ, ◌+◌, ◌≤◌, ◌<◌, Bool, true, false, Option, Some, None, refl, arith}
 use Rattle.std.{specs.Prelude.{nat_le, nat_lt, if◌then◌else◌}, proofs.lemmas.Bool.{leb-true, ltb-true}}
 use Rattle.bpf_insn_types.specs.{declared.insn.Width.TheVariants.{W32, W64}, Sizes.{bytes_of, atomic_bytes}}
 use Rattle.bpf_insn_types.specs.{declared.insn.AtomicOp.TheVariants.{Simple, Fetch, Xchg, Cmpxchg}, Words.{holds}}
 use Rattle.array_maps.specs.declared.access.Op.{Op}
 use Rattle.loop_core_model.{specs.Actions.{reduces_by}, proofs.OneElement.{and_true_left, and_true_right}}
 use Rattle.bpf_step_model.specs.{AtomicRegisters.{told_register}, LoopCalls.{Validity, RefusedAs, Valid, call_validity}}
-use Rattle.bpf_step_model.specs.{Run.{action_of}, Step.{extended, atomic_left}, AreaWords.{looked_up_word}}
+use Rattle.bpf_step_model.specs.{Run.{action_of}}
 use Rattle.bpf_step_ir.specs.declared.ir_op.IrOp.{IrOp, TheVariants.{LoadElement, StoreElement, ChangeElement, Lookup}}
 use Rattle.bpf_step_ir.specs.declared.ir_op.IrOp.TheVariants.{CallLoop, Stop, Alu, Neg, Movsx, Endian, SetWide, Jump}
 use Rattle.bpf_step_ir.specs.declared.ir_op.IrOp.TheVariants.{JumpIf, Exit, LoadFrame, StoreFrame, ChangeFrame}
-use Rattle.bpf_step_ir.specs.Plain.{Plain, word, plain_operand, further, landed, with_word, with_bytes}
-use Rattle.bpf_step_ir.specs.Plain.{PlainStepOutcome, Halts, Goes, Wants, CallsLoop, RefusesLoop, Ends, bytes_in}
-use Rattle.bpf_step_ir.specs.Plain.{plain_number_at, plain_written_at, plain_puts, compared_word, plain_loop_call_step}
+use Rattle.bpf_step_ir.specs.Plain.{Plain, word, plain_operand, further, landed}
+use Rattle.bpf_step_ir.specs.Plain.{PlainStepOutcome, Halts, Goes, Wants, CallsLoop, RefusesLoop, Ends}
+use Rattle.bpf_step_ir.specs.Plain.{plain_puts, plain_loop_call_step}
 use Rattle.bpf_step_ir.specs.Plain.{plain_step, plain_after_request}
 use Rattle.spec_run_loop.specs.SumOps.{is_between, keeps_to, stays_within}
 
@@ -86,21 +86,12 @@ module _ (op : Op) (from past : ℕ) where
       stays))
   op_leads Exit p low keeps stays = tt
   op_leads (LoadFrame frame size extension dst position) p low keeps stays =
-      let n : ℕ = extended extension (bytes_of size) (plain_number_at (bytes_in p frame) position (bytes_of size)) in
-      if_goes (nat_le (position + bytes_of size) 512) (with_word dst n (further 1 p))
-      (behind p.slot 1 (with_word dst n (further 1 p)) low refl stays)
+      if_goes (nat_le (position + bytes_of size) 512) _ (behind p.slot 1 _ low refl stays)
   op_leads (StoreFrame size position value) p low keeps stays =
-      let bytes : List ℕ = plain_written_at p.frame position (bytes_of size) (plain_operand p value) in
-      if_goes (nat_le (position + bytes_of size) 512) (with_bytes bytes (further 1 p))
-      (behind p.slot 1 (with_bytes bytes (further 1 p)) low refl stays)
+      if_goes (nat_le (position + bytes_of size) 512) _ (behind p.slot 1 _ low refl stays)
   op_leads (ChangeFrame width atomic position src) p low keeps stays =
-      let old : ℕ = plain_number_at p.frame position (atomic_bytes width) in
-      let bytes : List ℕ = plain_written_at p.frame position (atomic_bytes width)
-      (atomic_left width atomic old (word p src) (compared_word p atomic)) in
-      if_goes (nat_le (position + atomic_bytes width) 512)
-      (plain_puts (told_register atomic src) old (with_bytes bytes (further 1 p)))
-      (puts_at (told_register atomic src) old (with_bytes bytes (further 1 p))
-      (behind p.slot 1 (with_bytes bytes (further 1 p)) low refl stays))
+      if_goes (nat_le (position + atomic_bytes width) 512) _
+      (puts_at (told_register atomic src) _ _ (behind p.slot 1 _ low refl stays))
   op_leads (LoadElement width extension dst base offset) p low keeps stays = absurd (cc)
   op_leads (StoreElement width base offset value) p low keeps stays = absurd (cc)
   op_leads (ChangeElement W32 atomic base offset src) p low keeps stays = absurd (cc)
@@ -110,7 +101,5 @@ module _ (op : Op) (from past : ℕ) where
   op_leads (ChangeElement W64 Xchg base offset src) p low keeps stays = absurd (cc)
   op_leads (ChangeElement W64 Cmpxchg base offset src) p low keeps stays = absurd (cc)
   op_leads (Lookup first count frame position) p low keeps stays =
-      let found : ℕ = looked_up_word first count (plain_number_at (bytes_in p frame) position 4) in
-      if_goes (nat_le (position + 4) 512) (with_word 0 found (further 1 p))
-      (behind p.slot 1 (with_word 0 found (further 1 p)) low refl stays)
+      if_goes (nat_le (position + 4) 512) _ (behind p.slot 1 _ low refl stays)
   op_leads (CallLoop callback ctx) p low keeps stays = calls p callback ctx (call_validity (word p 1) (word p 4))

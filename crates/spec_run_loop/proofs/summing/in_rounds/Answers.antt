@@ -1,5 +1,5 @@
-use Rattle.std.proofs.Common.{ℕ, Option, Some, ap, ◌∙◌, subst, arith}
-use Rattle.loop_core_sequential.{specs.Rests.{RanTo}, proofs.InOrder.{stayed, went_both}}
+use Rattle.std.proofs.Common.{ap, ◌∙◌, arith}
+use Rattle.loop_core_sequential.proofs.InOrder.{stayed, went_both}
 use Rattle.spec_run_loop.{specs.SumLoops.{SumLoopOf}, proofs.RoundLaws.{broke_in_round}}
 use Rattle.spec_run_loop.proofs.summing.in_rounds.Goals as goal
 
@@ -13,13 +13,11 @@ returns-in-Some g c =
 
 pub loop-from-init : goal.loop-from-init
 loop-from-init g c =
-    let of = c.args.of.now in
     let alone = c.requires.alone in
     record {
       some = λ below. omega (arith, alone, below);
       fit = c.requires.fit;
-      ran = subst (λ (answer : Option ℕ). RanTo of.program of.call 0 c.min-from.result c.args.maps.now
-          c.run_alone.new.maps answer) c.in_default.is c.run_alone.ensures;
+      ran = rw c.in_default.is at c.run_alone.ensures;
     }
 
 pub loop-from-preserved : goal.loop-from-preserved
@@ -32,10 +30,7 @@ loop-from-preserved g c =
       fit = c.run_round.ensures.fit;
       ran = went_both of.program of.call 0 c.loop-from.from round.to c.args.maps.now c.loop-from.maps
           c.run_round.new.maps c.loop-from.invariant.ran
-          (subst (λ (answer : Option ℕ). RanTo of.program of.call c.loop-from.from round.to c.loop-from.maps
-          c.run_round.new.maps answer) c.in_default-run_round.is
-          (subst (λ (from : ℕ). RanTo of.program of.call from round.to c.loop-from.maps c.run_round.new.maps
-          c.run_round.result) c.next_round-round.ensures.from c.run_round.ensures.ran));
+          (rw (c.next_round-round.ensures.from, c.in_default-run_round.is) at c.run_round.ensures.ran);
     }
 
 pub returns-in-Some-run_round : goal.returns-in-Some-run_round
@@ -45,5 +40,4 @@ returns-in-Some-run_round g c =
     broke_in_round of c.loop-from.from round.to c.n-n.result c.args.maps.now c.loop-from.maps c.run_round.new.maps
     c.in-Some-run_round.answer (c.n-n.ensures ∙ ap (λ (l : SumLoopOf). l.call.n) c.of.view_is)
     c.next_round-round.ensures.within c.loop-from.invariant.ran
-    (subst (λ (from : ℕ). RanTo of.program of.call from round.to c.loop-from.maps c.run_round.new.maps
-    (Some c.in-Some-run_round.answer)) c.next_round-round.ensures.from c.in-Some-run_round.ensures.ran)
+    (rw c.next_round-round.ensures.from at c.in-Some-run_round.ensures.ran)

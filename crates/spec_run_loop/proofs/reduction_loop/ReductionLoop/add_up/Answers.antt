@@ -1,7 +1,7 @@
 use Rattle.std.proofs.Common.{refl, ap, ◌∙◌, subst, arith}
 use Rattle.array_maps.specs.MapList.{MapList, AreWords}
 use Rattle.spec_run_loop.specs.{SumLoops.{SumLoopOf}, Sums.{combined_words}}
-use Rattle.spec_run_loop.proofs.RangeByRange.{none_added, fit_on_the_way, as_long, one_added, broke_off, all_added}
+use Rattle.spec_run_loop.proofs.RangeByRange.{none_added, as_long, one_added, broke_off, all_added}
 use Rattle.spec_run_loop.proofs.reduction_loop.ReductionLoop.add_up.Goals as goal
 
 pub loop-sum-init : goal.loop-sum-init
@@ -30,9 +30,8 @@ loop-sum-preserved c =
           let added = c.loop-sum.invariant.added from to are in
           one_added l from to c.args.sums.now are c.args.maps.now c.loop-sum.sum-index c.sum-item.result
           c.loop-sum.maps c.combine_with.new.maps c.loop-sum-test.true c.sum-item.is added
-          (fit_on_the_way l from to c.args.sums.now are c.args.maps.now c.loop-sum.sum-index
-          c.loop-sum.maps added c.requires.sizes c.sizes-sizes.ensures.words
-          (subst AreWords c.words-words.ensures.words c.words-words.ensures.fit)) is c.in_default.is;
+          c.requires.sizes c.sizes-sizes.ensures.words
+          (subst AreWords c.words-words.ensures.words c.words-words.ensures.fit) is c.in_default.is;
     }
 
 pub returns-in-Some : goal.returns-in-Some
@@ -40,16 +39,15 @@ returns-in-Some c = λ from to are.
     let l = c.args.self.now in
     let added = c.loop-sum.invariant.added from to are in
     broke_off l from to c.args.sums.now are c.args.maps.now c.loop-sum.sum-index c.sum-item.result c.loop-sum.maps
-    c.combine_with.new.maps c.in-Some.answer c.loop-sum-test.true c.sum-item.is added
-    (fit_on_the_way l from to c.args.sums.now are c.args.maps.now c.loop-sum.sum-index
-    c.loop-sum.maps added c.requires.sizes c.sizes-sizes.ensures.words
-    (subst AreWords c.words-words.ensures.words c.words-words.ensures.fit))
+    c.combine_with.new.maps c.loop-sum-test.true c.sum-item.is added
+    c.requires.sizes c.sizes-sizes.ensures.words
+    (subst AreWords c.words-words.ensures.words c.words-words.ensures.fit)
     (c.combine_with.ensures
     ∙ ap (λ (l : SumLoopOf). (let maps : MapList = record {
       sizes = c.loop-sum.maps.sizes;
       words = combined_words l.op c.loop-sum.maps.words c.sum-item.result.maps.words;
     } in maps)) c.self.view_is)
-    c.in-Some.is
+    c.in-Some.answer c.in-Some.is
 
 pub returns : goal.returns
 returns c = λ from to are.
