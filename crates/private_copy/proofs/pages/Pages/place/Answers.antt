@@ -1,22 +1,18 @@
-use Rattle.std.proofs.Common.{rules, vec_len, ◌≡◌, ◌<◌, ◌+◌, ◌-◌, sym, ◌∙◌, ap, subst, arith, length, length-set, take}
-use Rattle.std.proofs.{Common.{get_or, None, false, [], ◌∷◌, ◌++◌}, lemmas.List.{length-take, get_or-take, length-map}}
-use Rattle.std.proofs.lemmas.List.Edits.{length-swap}
-use Rattle.private_copy.specs.{Cells.{PlacedPages, total_of, cells_of, IsBlank}, Touched.{has_page}}
-use Rattle.private_copy.proofs.PageLaws.{Stands, where_stands, take_swap, cells_stay, agree_more, spare_blank}
-use Rattle.private_copy.proofs.PageLaws.{blank_is_some}
+use Rattle.std.proofs.Common.{rules, vec_len, ◌≡◌, ◌<◌, ◌+◌, ◌-◌, sym, ◌∙◌, ap, arith, length, length-set, take}
+use Rattle.std.proofs.{Common.{None, false, [], ◌∷◌, ◌++◌}, lemmas.List.{length-take, get_or-take, length-map}}
+use Rattle.std.proofs.lemmas.{List.Edits.{length-swap}, Option.{same_Some}}
+use Rattle.private_copy.specs.{Cells.{PlacedPages, cells_of, IsBlank}, Touched.{has_page}}
+use Rattle.private_copy.proofs.PageLaws.{Stands, where_stands, take_swap, cells_stay, agree_more, blank_is_some}
 use Rattle.private_copy.proofs.pages.Pages.place.Goals.{In-Some, In-Some-pop, in-Some-1, in-None-1}
 use Rattle.private_copy.proofs.pages.Pages.place.Goals as goal
 
 -- the page has a place in the table
 within : (c : In-Some) → c.args.number < length c.self.inside.table.items
-within c =
-    let long = ap total_of c.self.view_is in
-    let all = length-map c.self.inside.table.items cells_of in
-    omega (arith, c.requires.within, long, all)
+within c = rw (← c.self.view_is, length-map c.self.inside.table.items cells_of) at c.requires.within
 
 -- and isn't placed
 absent : (c : In-Some) → has_page (take c.self.inside.placed c.self.inside.order.keys) c.args.number ≡ false
-absent c = ap (λ (v : PlacedPages). has_page v.order c.args.number) c.self.view_is ∙ c.requires.absent
+absent c = rw (← c.self.view_is) at c.requires.absent
 
 -- so it stands among those that aren't
 stands : (c : In-Some) → Stands c.self.inside.order.keys c.self.inside.placed c.args.number c.in-Some.at
@@ -32,8 +28,8 @@ blank c =
     let many = vec_len c.self.inside.spare in
     let spare = ap (λ (v : PlacedPages). v.spare) c.self.view_is in
     let left : 0 < many = omega (arith, c.requires.spare, spare, long_spare c) in
-    spare_blank c.self.inside.spare.items c.in-Some-pop.page many (long_spare c) c.self.invariant.blank left
-    (sym c.in-Some-pop.is ∙ c.pop.ensures.value None left)
+    rw (same_Some _ _ (sym c.in-Some-pop.is ∙ c.pop.ensures.value None left))
+    (c.self.invariant.blank (many - 1) (omega (arith, left, long_spare c)))
 
 pub invariant_of-self-in-Some-pop-2 : goal.invariant_of-self-in-Some-pop-2
 invariant_of-self-in-Some-pop-2 c =
@@ -47,22 +43,19 @@ invariant_of-self-in-Some-pop-2 c =
     let stand = stands at.In-Some in
     let after = length-set table c.args.number page in
     let swapped = ap length c.swap_indices.ensures.keys ∙ length-swap keys c.in-Some.at placed in
-    let rest = ap length c.pop.ensures.rest in
-    let few = length-take (many - 1) spares in
+    let few = ap length c.pop.ensures.rest ∙ length-take (many - 1) spares in
     record {
       most = omega (arith, c.self.invariant.most, after);
       numbers = swapped ∙ c.self.invariant.numbers ∙ sym after;
       all = λ other inside. c.swap_indices.ensures.reordered.2 other
           ∙ c.self.invariant.all other (omega (arith, inside, after));
       within = omega (arith, stand.behind, stand.within, swapped);
-      placed = λ other inside.
-          agree_more keys placed c.args.number c.in-Some.at table page stand (within at.In-Some)
-          (blank_is_some page (blank at.In-Some-pop)) c.self.invariant.placed other inside
-          ∙ ap (λ l. has_page (take (placed + 1) l) other) (sym c.swap_indices.ensures.keys);
+      placed = rw c.swap_indices.ensures.keys
+          (agree_more keys placed c.args.number c.in-Some.at table page stand (within at.In-Some)
+          (blank_is_some page (blank at.In-Some-pop)) c.self.invariant.placed);
       blank = λ k inside.
-          subst IsBlank (sym (ap (λ l. get_or l k None) c.pop.ensures.rest ∙ get_or-take (many - 1) spares k None
-          (omega (arith, inside, rest, few))))
-          (c.self.invariant.blank k (omega (arith, inside, rest, few, long_spare at.In-Some-pop)));
+          rw (c.pop.ensures.rest, get_or-take (many - 1) spares k None (omega (arith, inside, few)))
+          (c.self.invariant.blank k (omega (arith, inside, few, long_spare at.In-Some-pop)));
     }
 
 pub returns-in-Some-pop-clause-pages : goal.returns-in-Some-pop-clause-pages

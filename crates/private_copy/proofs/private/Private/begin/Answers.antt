@@ -1,18 +1,15 @@
 use Rattle.std.proofs.Common.{◌≡◌, ℕ, ap, refl, arith}
-use Rattle.private_copy.specs.{declared.page.Cell.{Cell}, Cells.{cell_at, reduction_in}, Shown.{copy_of, last_in}}
-use Rattle.private_copy.proofs.{AccessLaws.{same_cell}, BeginLaws.{shows_start, none_flagged, begins}}
+use Rattle.private_copy.specs.{Cells.{cell_at, reduction_in}, Shown.{copy_of, last_in}}
+use Rattle.private_copy.proofs.BeginLaws.{shows_start, none_flagged, begins}
 use Rattle.private_copy.proofs.private.Private.begin.Goals as goal
 
 pub returns-clause-ok : goal.returns-clause-ok
 returns-clause-ok c =
     let old = c.args.self.now in
-    let cells : (e : ℕ) → cell_at c.prepare.new.self e ≡ cell_at old.pages e =
-    λ e. same_cell c.prepare.new.self old.pages e c.prepare.ensures.pages in
+    let cells : (e : ℕ) → cell_at c.prepare.new.self e ≡ cell_at old.pages e = λ e. rw c.prepare.ensures.pages refl in
     record {
       start = refl;
-      words = shows_start c.prepare.new.self old.begun old.start.now (λ e.
-          let same = ap (λ (cell : Cell). cell.writer) (cells e) in let early = old.writers e in
-          omega (arith, same, early));
+      words = shows_start c.prepare.new.self old.begun old.start.now (λ e. rw c.prepare.ensures.pages (old.writers e));
       flags = none_flagged old.flags (let none = old.settled c.requires.ended in omega (arith, none));
       elements = old.flagged;
       last = λ e. ap last_in (cells e);

@@ -1,7 +1,7 @@
-use Rattle.std.{proofs.Common.{◌∙◌, ap, refl}, specs.Prelude.{slice_index}}
+use Rattle.std.{proofs.Common.{refl}, specs.Prelude.{slice_index}}
 use Rattle.array_maps.specs.Accesses.{ReadWrite, exchanged}
-use Rattle.loop_core_model.specs.declared.access.Access.TheVariants.{Both}
-use Rattle.private_copy.{specs.{declared.reduction.Reduction.TheVariants.{Mixed}, Shown.{copy_of}}, proofs.AccessLaws.{in_range, leaves}}
+use Rattle.private_copy.specs.{declared.reduction.Reduction.TheVariants.{Mixed}, Shown.{copy_of}}
+use Rattle.private_copy.proofs.AccessLaws.{in_range, leaves}
 use Rattle.private_copy.proofs.store.PrivateStore.fetch.Goals as goal
 
 pub admit-old-requires-clause-within : goal.admit-old-requires-clause-within
@@ -10,8 +10,6 @@ admit-old-requires-clause-within c = in_range c.args.self.now c.args.e c.require
 pub returns-clause-done : goal.returns-clause-done
 returns-clause-done c =
     let word = slice_index (copy_of c.args.self.now).words c.args.e in
-    leaves c.args.self.now c.admit-old.new.self c.keep.new.self c.args.e Both
-    (ReadWrite word (exchanged c.args.part c.args.rmw word c.args.value c.args.compare))
-    c.exchange.result Mixed c.admit-old.ensures.admitted c.keep.ensures c.requires.within refl refl
-    (c.exchange.ensures ∙ ap (λ w. exchanged c.args.part c.args.rmw w c.args.value c.args.compare)
-    c.admit-old.ensures.word) refl
+    leaves c.args.self.now c.admit-old.new.self c.keep.new.self c.args.e
+    (ReadWrite word (exchanged c.args.part c.args.rmw word c.args.value c.args.compare)) c.exchange.result Mixed
+    c.admit-old.ensures.admitted c.keep.ensures refl (rw c.admit-old.ensures.word at c.exchange.ensures) refl

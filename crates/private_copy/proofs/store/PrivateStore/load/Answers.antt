@@ -7,6 +7,4 @@ admit-word-requires-clause-within c = in_range c.args.self.now c.args.e c.requir
 pub returns-clause-done : goal.returns-clause-done
 returns-clause-done c =
     reads c.args.self.now c.admit-word.new.self c.mark_mixed.new.self c.args.e c.admit-word.result.1
-    c.admit-word.result.0
-    c.admit-word.ensures.admitted c.admit-word.ensures.cell c.mark_mixed.ensures
-    c.requires.within
+    c.admit-word.ensures.admitted (rw c.admit-word.ensures.cell at c.mark_mixed.ensures) c.requires.within

@@ -1,6 +1,5 @@
 use Rattle.std.proofs.Common.{refl}
 use Rattle.array_maps.specs.Accesses.{Write}
-use Rattle.loop_core_model.specs.declared.access.Access.TheVariants.{Write as Writes}
 use Rattle.private_copy.{specs.declared.reduction.Reduction.TheVariants.{Mixed}, proofs.AccessLaws.{in_range, leaves}}
 use Rattle.private_copy.proofs.store.PrivateStore.store.Goals as goal
 
@@ -9,6 +8,6 @@ admit-requires-clause-within c = in_range c.args.self.now c.args.e c.requires.wi
 
 pub returns : goal.returns
 returns c = record {
-  done = leaves c.args.self.now c.admit.new.self c.keep.new.self c.args.e Writes (Write c.args.value) c.args.value
-      Mixed c.admit.ensures.admitted c.keep.ensures c.requires.within refl refl refl refl;
+  done = leaves c.args.self.now c.admit.new.self c.keep.new.self c.args.e (Write c.args.value) c.args.value Mixed
+      c.admit.ensures.admitted c.keep.ensures refl refl refl;
 }
