@@ -30,12 +30,14 @@ pub use workspace::CopyWorkspace;
 
 /// The law of partials: the partial of iterations at an element is what was combined there, where there
 /// was one operator alone.
+#[tactic(auto, using(crate::proofs::ReductionLaws::partial_is_combination))]
 pub fn law_of_partials()
     ensures { PartialIsCombination }
 {}
 
 /// The law of accesses: a run's accesses, each by its effect, lead to a copy that records the
 /// iteration with those accesses more.
+#[tactic(auto, using(crate::proofs::FollowLaws::accesses_follow))]
 pub fn law_of_accesses()
     ensures { AccessesFollow }
 {}

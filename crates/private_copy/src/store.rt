@@ -1,4 +1,5 @@
 //! A private copy as a store: its words are what the iteration under way sees.
+#![tactic(auto, using(crate::proofs::AccessLaws::shown_length))]
 
 ghost use Rattle.std.specs.Prelude.{◌≡◌, ◌/◌, ◌^◌, ◌<◌, ◌≤◌, true, length, slice_index};
 

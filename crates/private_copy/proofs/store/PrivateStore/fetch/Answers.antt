@@ -1,11 +1,8 @@
 use Rattle.std.{proofs.Common.{refl}, specs.Prelude.{slice_index}}
 use Rattle.array_maps.specs.Accesses.{ReadWrite, exchanged}
 use Rattle.private_copy.specs.{declared.reduction.Reduction.TheVariants.{Mixed}, Shown.{copy_of}}
-use Rattle.private_copy.proofs.AccessLaws.{in_range, leaves}
+use Rattle.private_copy.proofs.AccessLaws.{leaves}
 use Rattle.private_copy.proofs.store.PrivateStore.fetch.Goals as goal
-
-pub admit-old-requires-clause-within : goal.admit-old-requires-clause-within
-admit-old-requires-clause-within c = in_range c.args.self.now c.args.e c.requires.within
 
 pub returns-clause-done : goal.returns-clause-done
 returns-clause-done c =

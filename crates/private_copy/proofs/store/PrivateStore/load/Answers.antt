@@ -1,8 +1,5 @@
-use Rattle.private_copy.proofs.AccessLaws.{in_range, reads}
+use Rattle.private_copy.proofs.AccessLaws.{reads}
 use Rattle.private_copy.proofs.store.PrivateStore.load.Goals as goal
-
-pub admit-word-requires-clause-within : goal.admit-word-requires-clause-within
-admit-word-requires-clause-within c = in_range c.args.self.now c.args.e c.requires.within
 
 pub returns-clause-done : goal.returns-clause-done
 returns-clause-done c =

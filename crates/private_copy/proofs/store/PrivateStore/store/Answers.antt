@@ -1,10 +1,7 @@
 use Rattle.std.proofs.Common.{refl}
 use Rattle.array_maps.specs.Accesses.{Write}
-use Rattle.private_copy.{specs.declared.reduction.Reduction.TheVariants.{Mixed}, proofs.AccessLaws.{in_range, leaves}}
+use Rattle.private_copy.{specs.declared.reduction.Reduction.TheVariants.{Mixed}, proofs.AccessLaws.{leaves}}
 use Rattle.private_copy.proofs.store.PrivateStore.store.Goals as goal
-
-pub admit-requires-clause-within : goal.admit-requires-clause-within
-admit-requires-clause-within c = in_range c.args.self.now c.args.e c.requires.within
 
 pub returns : goal.returns
 returns c = record {

@@ -1,11 +1,8 @@
 use Rattle.std.{proofs.Common.{refl}, specs.Prelude.{slice_index}}
 use Rattle.array_maps.specs.{Accesses.{ReadWrite}, Halves.{with_half}}
 use Rattle.private_copy.specs.{declared.reduction.Reduction.TheVariants.{Mixed}, Shown.{copy_of}}
-use Rattle.private_copy.proofs.AccessLaws.{in_range, leaves}
+use Rattle.private_copy.proofs.AccessLaws.{leaves}
 use Rattle.private_copy.proofs.store.PrivateStore.store_half.Goals as goal
-
-pub admit-word-requires-clause-within : goal.admit-word-requires-clause-within
-admit-word-requires-clause-within c = in_range c.args.self.now c.args.e c.requires.within
 
 pub returns : goal.returns
 returns c =

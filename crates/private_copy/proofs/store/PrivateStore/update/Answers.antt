@@ -1,10 +1,7 @@
 use Rattle.std.proofs.Common.{refl}
 use Rattle.array_maps.specs.Accesses.{Reduce}
-use Rattle.private_copy.{proofs.AccessLaws.{in_range, leaves}}
+use Rattle.private_copy.{proofs.AccessLaws.{leaves}}
 use Rattle.private_copy.proofs.store.PrivateStore.update.Goals as goal
-
-pub admit-word-requires-clause-within : goal.admit-word-requires-clause-within
-admit-word-requires-clause-within c = in_range c.args.self.now c.args.e c.requires.within
 
 pub returns : goal.returns
 returns c = record {
