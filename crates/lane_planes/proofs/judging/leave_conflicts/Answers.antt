@@ -1,6 +1,6 @@
-use Rattle.std.proofs.Common.{◌≡◌, length, sym, ◌∙◌, subst, arith}
+use Rattle.std.proofs.Common.{◌≡◌, length, sym, ◌∙◌, arith}
 use Rattle.shadow_marks.proofs.FoldLaws.{each_plane}
-use Rattle.lane_planes.{specs.Conflicts.{FailingWords}, proofs.ConflictLaws.{conflict_plane}}
+use Rattle.lane_planes.proofs.ConflictLaws.{conflict_plane}
 use Rattle.lane_planes.proofs.judging.leave_conflicts.Goals as goal
 
 pub clear_reductions-requires-clause-operators : goal.clear_reductions-requires-clause-operators
@@ -12,9 +12,9 @@ returns g c =
     let cleared = c.clear_reductions.ensures.words in
     let long : length c.clear_reductions.new.into ≡ length c.args.into.now = cleared.long in
     conflict_plane c.args.planes.now _ c.requires.whole (long ∙ c.requires.words)
-    (λ i small. c.clear_reductions.ensures.fit i (omega (arith, small, long))) c.have_numbers.ensures
     (record {
       failing = c.args.into.now;
-      fails = subst (λ n. FailingWords c.args.planes.now.tested n c.args.into.now) (sym long) c.requires.failing;
+      fails = rw long c.requires.failing;
       each = λ i small. cleared.written i (omega arith) (omega (arith, small, long));
     })
+    (λ i small. c.clear_reductions.ensures.fit i (omega (arith, small, long))) c.have_numbers.ensures

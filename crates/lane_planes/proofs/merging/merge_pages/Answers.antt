@@ -1,4 +1,4 @@
-use Rattle.std.proofs.Common.{sym, ◌∙◌, ap, subst, ◌≤◌}
+use Rattle.std.proofs.Common.{sym, ◌∙◌, ap}
 use Rattle.array_maps.specs.declared.access.Op.TheVariants.{Add}
 use Rattle.shadow_marks.{specs.Standing.{words_for}, proofs.FoldLaws.{each_plane}}
 use Rattle.lane_planes.proofs.merging.merge_pages.Goals as goal
@@ -14,5 +14,4 @@ merge_operators-requires-clause-theirs g c =
 
 pub merge_operators-requires-clause-room : goal.merge_operators-requires-clause-room
 merge_operators-requires-clause-room g c =
-    subst (λ n. c.args.past ≤ n) (ap words_for c.requires.elements ∙ sym (c.requires.theirs.by Add).count)
-    c.requires.room
+    rw (c.requires.elements, ← (c.requires.theirs.by Add).count) at c.requires.room

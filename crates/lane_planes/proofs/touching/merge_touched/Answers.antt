@@ -1,7 +1,7 @@
-use Rattle.std.proofs.Common.{◌≡◌, ◌*◌, ◌<◌, ◌≤◌, rules, subst, arith}
+use Rattle.std.proofs.Common.{◌≡◌, ◌<◌, rules, arith}
 use Rattle.shadow_marks.specs.Standing.{words_for}
-use Rattle.lane_planes.{specs.Merged.{MergedPages}, proofs.{WholeLaws.{merge_keeps, merges}, IdleLaws.{untouched_idle}}}
-use Rattle.lane_planes.proofs.PageLaws.{merged_on, merged_idle}
+use Rattle.lane_planes.{proofs.{WholeLaws.{merge_keeps, merges}, IdleLaws.{merged_idle}}}
+use Rattle.lane_planes.proofs.PageLaws.{merged_on}
 use Rattle.lane_planes.proofs.touching.merge_touched.Goals as goal
 
 pub merge_pages-requires-clause-mine : goal.merge_pages-requires-clause-mine
@@ -11,41 +11,36 @@ merge_pages-requires-clause-mine g c =
 
 pub loop-page-preserved-then-is_marked : goal.loop-page-preserved-then-is_marked
 loop-page-preserved-then-is_marked g c =
-    let page = c.loop-page.page in
-    let past = c.touched_up_to-past.result in
-    let order = c.touched_up_to-past.ensures.order in
-    let within = c.touched_up_to-past.ensures.within in
-    let start : 64 * c.loop-page.page ≤ c.args.into.now.elements = omega (arith, order, within, c.requires.elements) in
+    let reach = c.touched_up_to-past.ensures in
     record {
-      within = within;
-      words = merged_on page past (omega (arith, order)) c.args.into.now c.args.from.now c.loop-page.into
-          c.merge_pages.new.into c.requires.mine start c.loop-page.invariant.words c.merge_pages.ensures;
+      within = reach.within;
+      words = merged_on c.loop-page.page c.touched_up_to-past.result (omega (arith, reach.order)) c.args.into.now
+          c.args.from.now c.loop-page.into c.merge_pages.new.into c.requires.mine
+          (omega (arith, reach.order, reach.within, c.requires.elements)) c.loop-page.invariant.words
+          c.merge_pages.ensures;
     }
 
 pub loop-page-preserved : goal.loop-page-preserved
 loop-page-preserved g c =
-    let page = c.loop-page.page in
     let count = c.requires.theirs.stand.whole.plain.count in
     let long = c.args.from.now.plain.ok.0 in
     let below : c.loop-page.page < words_for c.args.from.now.elements =
     first_of (search rules, omega (arith, count, long, c.loop-page-test.true)) in
-    let start : 64 * c.loop-page.page ≤ c.args.into.now.elements = omega (arith, below, c.requires.elements) in
-    let idle = untouched_idle c.args.from.now page c.requires.theirs (c.is_marked.ensures.0 c.if-is_marked.false)
-    c.have_numbers-2.ensures in
     record {
       within = omega (arith, below);
-      words = merged_idle page c.args.into.now c.args.from.now c.loop-page.into c.requires.mine
-          c.requires.theirs.stand.whole c.requires.elements start c.have_numbers.ensures idle c.loop-page.invariant.words;
+      words = merged_idle c.loop-page.page c.args.into.now c.args.from.now c.loop-page.into c.requires.mine
+          c.requires.theirs (c.is_marked.ensures.0 c.if-is_marked.false) c.requires.elements
+          (omega (arith, below, c.requires.elements)) c.have_numbers.ensures c.have_numbers-2.ensures
+          c.loop-page.invariant.words;
     }
 
 pub returns : goal.returns
 returns g c =
     let theirs = c.requires.theirs.stand.whole in
-    let count = c.requires.theirs.stand.whole.plain.count in
+    let count = theirs.plain.count in
     let long = c.args.from.now.plain.ok.0 in
     let within = c.loop-page.invariant.within in
     let all : c.loop-page.page ≡ words_for c.args.into.now.elements =
     first_of (search rules, omega (arith, count, long, within, c.requires.elements, c.loop-page-test.false)) in
     merges c.args.into.now c.args.from.now c.loop-page.into c.requires.mine theirs c.requires.elements
-    c.have_numbers.ensures c.have_numbers-2.ensures
-    (subst (λ n. MergedPages 0 n c.args.into.now c.args.from.now c.loop-page.into) all c.loop-page.invariant.words)
+    c.have_numbers.ensures c.have_numbers-2.ensures (rw all at c.loop-page.invariant.words)
