@@ -113,11 +113,9 @@ module _ (program : Program) (call : LoopCall) (words : List ℕ) (element : ℕ
         → OtherIs program call index words element accesses first other → end_slot kept first other ≡ Some slot →
         EndsReduction program call words element (Iterations ran) (record { index = index; slot = slot })
     ended_here None index slot below first other accesses is reduce was found =
-        let same : other ≡ Some slot = found in
-        by_other None index slot below first tt is (rw same at was)
+        by_other None index slot below first tt is (rw found at was)
     ended_here (Some op) index slot below None other accesses is reduce was found =
-        let same : other ≡ Some slot = found in
-        by_other (Some op) index slot below None tt is (rw same at was)
+        by_other (Some op) index slot below None tt is (rw found at was)
     ended_here (Some op) index slot below (Some first) other accesses is reduce was found =
         elim (cases_Bool (is_same op first.op)) [
           | inl same ↦

@@ -2,7 +2,7 @@
 use Rattle.std.proofs.Common.{◌≡◌, ℕ, inl, inr, zero, suc, true, false, List, [], ◌∷◌, ◌++◌, take, Option, Some, None}
 use Rattle.std.{proofs.Common.{refl, sym, ap, ◌∙◌}, specs.Prelude.{is_some, slice_index_or}}
 use Rattle.std.{specs.List.{list_all}, proofs.lemmas.List.{append-nil, append_assoc, Folds.{list_all-append}}}
-use Rattle.array_maps.specs.{declared.access.Op.{Op}, Accesses.{Action, Read, Write, ReadWrite, Reduce}}
+use Rattle.array_maps.specs.{declared.access.Op.{Op}, Accesses.{Action, Reduce}}
 use Rattle.std.proofs.lemmas.Bool.{and_parts, cases_Bool}
 use Rattle.loop_core_model.{specs.Actions.{is_same, reduces_by, joined, only_operator}, proofs.OneElement.{same_op}}
 use Rattle.loop_core_trace.specs.declared.slots.FirstReduce.{FirstReduce}
@@ -25,10 +25,8 @@ IsKept None actions = actions ≡ []
 IsKept (Some op) actions = only_operator actions ≡ Some op
 
 by_is : (first : FirstReduce) (a : Action) → reduces_by first.op a ≡ reduces_alike (Some first) (operator_of a)
-by_is first (Read saw) = refl
-by_is first (Write left) = refl
-by_is first (ReadWrite saw left) = refl
 by_is first (Reduce other operand) = refl
+by_is first _ = refl
 
 -- an action that isn't so
 abbrev pub IsOff : Option Op → Action → Type 0
@@ -36,10 +34,8 @@ IsOff None a = operator_of a ≡ None
 IsOff (Some op) a = reduces_by op a ≡ false
 
 off_first : (a : Action) → reduces_alike None (operator_of a) ≡ false → operator_of a ≡ None
-off_first (Read saw) off = refl
-off_first (Write left) off = refl
-off_first (ReadWrite saw left) off = refl
 off_first (Reduce op operand) off = absurd cc
+off_first _ off = refl
 
 pub off_other : (op other : Op) (a : Action) → operator_of a ≡ Some other → is_same op other ≡ false
     → reduces_by op a ≡ false
@@ -87,25 +83,19 @@ kept_reduces (Some op) (a ∷ actions) is = ap is_some is
 -- and with an action that is off it isn't
 pub kept_ends : (kept : Option Op) (actions : List Action) (a : Action) → IsKept kept actions → IsOff kept a
     → are_reduces (actions ++ a ∷ []) ≡ false
-kept_ends None actions a is off =
-    rw (is, of_one a, off) refl
-kept_ends (Some op) [] a is off = absurd cc
-kept_ends (Some op) (Read saw ∷ actions) a is off = absurd cc
-kept_ends (Some op) (Write left ∷ actions) a is off = absurd cc
-kept_ends (Some op) (ReadWrite saw left ∷ actions) a is off = absurd cc
+kept_ends None actions a is off = rw (is, of_one a, off) refl
 kept_ends (Some op) (Reduce other operand ∷ actions) a is off =
     let parts = chosen (list_all (reduces_by other) actions) other op is in
     rw (list_all-append (reduces_by other) actions (a ∷ []), parts.0, parts.1, off) refl
+kept_ends (Some op) _ a is off = absurd cc
 
 -- actions that are all by one operator
 all_by : (op : Op) (a : Action) (here : List Action) → list_all (reduces_by op) (a ∷ here) ≡ true
     → only_operator (a ∷ here) ≡ Some op
-all_by op (Read saw) here all = absurd cc
-all_by op (Write left) here all = absurd cc
-all_by op (ReadWrite saw left) here all = absurd cc
 all_by op (Reduce other operand) here all =
     let parts = and_parts (is_same op other) (list_all (reduces_by op) here) all in
     rw (← same_op op other parts.0, parts.1) refl
+all_by op _ here all = absurd cc
 
 -- and so does one whose actions go on with it
 pub kept_quiet : (kept : Option Op) (earlier here : List Action) → IsKept kept earlier → GoOn kept here

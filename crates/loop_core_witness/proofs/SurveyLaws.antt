@@ -4,9 +4,9 @@ use Rattle.std.proofs.Common.{List, [], ◌∷◌, length, Option, Some, None, r
 use Rattle.std.specs.{Prelude.{if◌then◌else◌, ◌==◌, nat_lt}, List.{list_any, list_all}}
 use Rattle.std.proofs.lemmas.Bool.{and_from, and_parts, cases_Bool, cases_eq, ltb-true, not-true, or_parts}
 use Rattle.array_maps.specs.declared.access.Op.{Op, TheVariants.{Add, Or, And, Xor, AddH}}
-use Rattle.array_maps.specs.Accesses.{Action, Read, Write, ReadWrite, Reduce, Access, actions_at}
+use Rattle.array_maps.specs.Accesses.{Action, Reduce, Access, actions_at}
 use Rattle.bpf_insn_types.specs.Program.{Program}
-use Rattle.bpf_step_model.specs.{State.{LoopCall}, Run.{BoundedResult, Ended, Stuck, Unfinished, followed}}
+use Rattle.bpf_step_model.specs.{State.{LoopCall}, Run.{BoundedResult, Ended, followed}}
 use Rattle.bpf_step_model.{specs.Iteration.{Iterated, iteration}, proofs.Endings.{mapped_from}}
 use Rattle.loop_core_model.specs.{Actions.{is_same, writes, exposed, reduces_by}, Block.{break_from}, Flags.{is_plain}}
 use Rattle.loop_core_model.specs.{Conflict.{at_element}, LeastBreak.{in_front_of, accesses_of_each}, Planes.{bit_of}}
@@ -36,18 +36,13 @@ module _ (iterate : ℕ → BoundedResult Iterated) where
       → first ≤ index → index < first + suc left →
       (first + 1 ≤ index → index < first + 1 + left → RanAt iterate others index) → RanAt iterate (it ∷ others) index
   goes_on left first it others told index low high later =
+      let parts = λ (p : List Access → Bool). or_parts (p it.accesses) (list_any p (accesses_of_each others)) in
       elim (cases_eq index first) [
-        | inl same ↦ record {
-          it = it;
-          ended = ap iterate same ∙ told;
-          none = λ p none. (or_parts (p it.accesses) (list_any p (accesses_of_each others)) none).0;
-        }
-        | inr apart ↦ (let there = later (omega arith) (omega arith) in record {
-          it = there.it;
-          ended = there.ended;
-          none = λ p none.
-              there.none p (or_parts (p it.accesses) (list_any p (accesses_of_each others)) none).1;
-        })
+        | inl same ↦ record { it = it; ended = ap iterate same ∙ told; none = λ p none. (parts p none).0 }
+        | inr apart ↦ (
+            let there = later (omega arith) (omega arith) in
+            record { it = there.it; ended = there.ended; none = λ p none. there.none p (parts p none).1 }
+            )
       ]
 
   -- each iteration of a scan that didn't break
@@ -75,9 +70,8 @@ module _ (iterate : ℕ → BoundedResult Iterated) where
 
       by_first : (e : BoundedResult Iterated) → iterate first ≡ e
           → followed (up_to_break (scan iterate left (first + 1))) e ≡ Ended ran → Later → RanAt iterate ran index
-      by_first Stuck same h later = absurd cc
-      by_first Unfinished same h later = absurd cc
       by_first (Ended it) same h later = by_break it same (it.ret == 1) refl h later
+      by_first _ same h later = absurd cc
 
 -- what none of a set's iterations does at an element
 pub any_at : (element : ℕ) (p : List Action → Bool) (runs : List (List Access)) (first : ℕ) →
@@ -97,9 +91,6 @@ alone : (kept : Option Op) (actions : List Action) → list_any is_plain actions
     → ((op : Op) → is_other kept op ≡ true → list_any (reduces_by op) actions ≡ false) → GoOn kept actions
 alone None [] plain others = refl
 alone (Some op) [] plain others = refl
-alone kept (Read saw ∷ rest) plain others = absurd cc
-alone kept (Write left ∷ rest) plain others = absurd cc
-alone kept (ReadWrite saw left ∷ rest) plain others = absurd cc
 alone None (Reduce by operand ∷ rest) plain others =
     absurd (let off = rw is_same-refl at (others by refl) in cc)
 alone (Some op) (Reduce by operand ∷ rest) plain others =
@@ -109,6 +100,7 @@ alone (Some op) (Reduce by operand ∷ rest) plain others =
           (or_parts (is_same other by) (list_any (reduces_by other) rest) (others other apart)).1))
       | inr apart ↦ absurd (let off = rw is_same-refl at (others by (ap not apart)) in cc)
     ]
+alone kept (_ ∷ rest) plain others = absurd cc
 
 -- where a test passes for no operator
 none_of : (p : Op → Bool) → ((((p Add || p Or) || p And) || p Xor) || p AddH) ≡ false → (op : Op) → p op ≡ false

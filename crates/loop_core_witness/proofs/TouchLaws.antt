@@ -3,7 +3,7 @@ use Rattle.std.proofs.Common.{◌≡◌, ℕ, ◌<◌, inl, inr, Bool, false, �
 use Rattle.std.{proofs.Common.{arith}, specs.List.{list_any}}
 use Rattle.std.proofs.lemmas.Bool.{both_ways, cases_Bool, or_parts, true_from_ne_false}
 use Rattle.array_maps.specs.declared.access.Op.{Op, TheVariants.{Add, Or, And, Xor, AddH}}
-use Rattle.array_maps.specs.Accesses.{Action, Read, Write, ReadWrite, Reduce, Access}
+use Rattle.array_maps.specs.Accesses.{Action, Reduce, Access}
 use Rattle.bpf_insn_types.specs.Program.{Program}
 use Rattle.bpf_step_model.specs.{State.{LoopCall}}
 use Rattle.loop_core_model.specs.{declared.loop_test.Test.{Test}, Actions.{reduces_by}}
@@ -29,11 +29,9 @@ none_left : (all : List (List Action)) → list_any (λ actions. list_any is_pla
     → list_any is_some_action all ≡ false
 none_left [] plain by = refl
 none_left ([] ∷ rest) plain by = none_left rest plain by
-none_left ((Read saw ∷ actions) ∷ rest) plain by = absurd cc
-none_left ((Write left ∷ actions) ∷ rest) plain by = absurd cc
-none_left ((ReadWrite saw left ∷ actions) ∷ rest) plain by = absurd cc
 none_left ((Reduce op operand ∷ actions) ∷ rest) plain by =
     absurd (let off = rw is_same-refl at (by op) in cc)
+none_left ((_ ∷ actions) ∷ rest) plain by = absurd cc
 
 -- planes tell of an element whether an iteration accesses it
 marked_is : (planes : Planes) (e first : ℕ) (runs : List (List Access))
@@ -54,22 +52,15 @@ marked_is planes e first runs stand =
     ] in
     marked ∙ any_at e is_some_action runs first
 
--- what a block's planes tell of each element
-marked_in : (test : Test) (program : Program) (call : LoopCall) (words : List ℕ) (b : BlockOf)
-    (ran : RecordsRun test program call words b) (e : ℕ) → e < length words
-    → does_more b.planes None e ≡ is_accessed (accesses_of_each ran.ran) e
-marked_in test program call words b ran e below =
-    let count = ran.elements in
-    marked_is b.planes e b.first (accesses_of_each ran.ran) (ran.planes.marks e (omega (arith, count, below)))
+-- what a block's planes tell of each element, and the iterations of its span
+module _ {test : Test} {program : Program} {call : LoopCall} {words : List ℕ} {b : BlockOf}
+    (ran : RecordsRun test program call words b) where
+  marked_in : (e : ℕ) → e < length words → does_more b.planes None e ≡ is_accessed (accesses_of_each ran.ran) e
+  marked_in e below = marked_is b.planes e b.first (accesses_of_each ran.ran) (ran.planes.marks e (omega arith))
 
-span_ran : (test : Test) (program : Program) (call : LoopCall) (words : List ℕ) (span : Span) (b : BlockOf)
-    (ran : RecordsRun test program call words b) → b.first ≡ span.from → b.past ≡ span.past
-    → SpanRuns program call words span (accesses_of_each ran.ran)
-span_ran test program call words span b ran first past = record {
-  ran = ran.ran;
-  ended = rw (← first, ← past) ran.ended;
-  accesses = refl;
-}
+  span_ran : (span : Span) → b.first ≡ span.from → b.past ≡ span.past
+      → SpanRuns program call words span (accesses_of_each ran.ran)
+  span_ran span first past = record { ran = ran.ran; ended = rw (← first, ← past) ran.ended; accesses = refl }
 
 -- the elements that the planes of two blocks tell
 pub are_touched : (test : Test) (program : Program) (call : LoopCall) (words : List ℕ) (lower upper : Span)
@@ -83,15 +74,11 @@ are_touched test program call words lower upper below above elements ran first p
     let upper_runs : List (List Access) = accesses_of_each other.ran in
     record {
       lower_runs = lower_runs;
-      lower_ran = span_ran test program call words lower below ran first past;
+      lower_ran = span_ran ran lower first past;
       upper_runs = upper_runs;
-      upper_ran = span_ran test program call words upper above other other_first other_past;
+      upper_ran = span_ran other upper other_first other_past;
       all = rw (marked, ran.elements) (filter-same
           (λ (e : ℕ). does_more below.planes None e || does_more above.planes None e)
           (λ (e : ℕ). is_accessed lower_runs e || is_accessed upper_runs e) 0 (length words)
-          (λ e low high.
-          rw (
-            marked_in test program call words below ran e (omega arith),
-            marked_in test program call words above other e (omega arith),
-          ) refl));
+          (λ e low high. rw (marked_in ran e (omega arith), marked_in other e (omega arith)) refl));
     }
