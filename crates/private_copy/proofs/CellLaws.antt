@@ -1,7 +1,8 @@
 -- The cells of pages in the table, after a page has changed.
 use Rattle.std.proofs.Common.{◌≡◌, ◌≢◌, ℕ, ◌/◌, ◌%◌, ◌<◌, List, length, get_or, set, Some, None, inl, inr, refl}
 use Rattle.std.{proofs.Common.{sym, ◌∙◌, ap, arith, get_or-set_same, get_or-set_other}, specs.Prelude.{Box}}
-use Rattle.std.{specs.declared.alloc.Global.{Global}, proofs.lemmas.{Bool.{cases_eq}, List.{get_or_default, length-map}}}
+use Rattle.std.{specs.declared.alloc.Global.{Global}}
+use Rattle.std.{proofs.lemmas.{Bool.{cases_eq}, List.{get_or_default, length-map}}}
 use Rattle.private_copy.specs.{declared.{page.Page.{Page}, pages.Pages.TheInside.{Inside}}, Inside.{pages_in}}
 use Rattle.private_copy.specs.Cells.{PlacedPages, total_of, cell_in, cells_of, cell_at}
 use Rattle.private_copy.proofs.PageLaws.{Slot, cell_of, slot_cell, cell_of_slot}
@@ -52,7 +53,8 @@ shows_page inside shown e item owner page view low read is same =
             ∙ ap (λ (p : Page). cell_in p (other % 64)) same ∙ sym (at.cells other on)
         | inr another ↦
             cell_of_slot (set table (e / 64) new) other
-            ∙ ap (λ (s : Slot). slot_cell s (other % 64)) (get_or-set_other table (e / 64) (other / 64) new None another)
+            ∙ ap (λ (s : Slot). slot_cell s (other % 64)) (get_or-set_other table (e / 64) (other / 64) new None
+            another)
             ∙ sym (cell_of_slot table other) ∙ ap (λ (v : PlacedPages). cell_at v other) view
       ];
     }

@@ -19,8 +19,8 @@ one_more : (P : List Action → Type 0) (e : ℕ) (accesses : List Access) (acce
 one_more P e accesses access here other = rw (actions_at-append e accesses (access ∷ [])) (
     elim (cases_Bool (access.element == e)) [
       | inl same ↦ rw same (here (eqb-true access.element e same))
-      | inr differs ↦ rw (differs, append-nil (actions_at e accesses)) (other (λ same. eqb-false access.element e differs
-          (sym same)))
+      | inr differs ↦ rw (differs, append-nil (actions_at e accesses)) (other
+          (λ same. eqb-false access.element e differs (sym same)))
     ])
 
 -- one access more

@@ -1,6 +1,6 @@
 -- Words that are overwritten one after another.
-use Rattle.std.proofs.Common.{◌≡◌, ℕ, ◌+◌, ◌*◌, ◌%◌, ◌<◌, ◌≤◌, List, length, set, Option, Some, None, inl, inr, refl, sym}
-use Rattle.std.proofs.Common.{◌∙◌, ap, arith, get_or-set_same, get_or-set_other}
+use Rattle.std.proofs.Common.{◌≡◌, ℕ, ◌+◌, ◌*◌, ◌%◌, ◌<◌, ◌≤◌, List, length, set, Option, Some, None, inl, inr, refl}
+use Rattle.std.proofs.Common.{sym, ◌∙◌, ap, arith, get_or-set_same, get_or-set_other}
 use Rattle.std.{proofs.lemmas.Bool.{cases_eq}, specs.{Prelude.{Box, slice_index}, declared.alloc.Global.{Global}}}
 use Rattle.std.specs.Option.{unwrap_or}
 use Rattle.private_copy.specs.{declared.page.{Cell.{Cell}, Page.{Page}}, Cells.{PlacedPages, cell_at}}

@@ -1,13 +1,15 @@
 -- What placing a page does to the lists of pages.
-use Rattle.std.proofs.Common.{◌≡◌, ℕ, ◌+◌, ◌/◌, ◌%◌, ◌<◌, ◌≤◌, true, false, ◌||◌, eqb, ltb, Option, Some, None, List, []}
-use Rattle.std.proofs.Common.{◌∷◌, ◌++◌, length, take, get_or, set, replicate, is_some, map, sym, ◌∙◌, ap, inl, inr, arith}
-use Rattle.std.proofs.Common.{length-set, get_or-set_same, get_or-set_other, eq-eqb, ne_eqb, refl}
-use Rattle.std.{specs.List.{position, swap}, proofs.{lemmas.Bool.{eqb-true, cases_eq, cases_lt, true≢false}, Math.Nat.{mod-lt}}}
+use Rattle.std.proofs.Common.{◌≡◌, ℕ, ◌+◌, ◌/◌, ◌%◌, ◌<◌, ◌≤◌, true, false, ◌||◌, eqb, ltb, Option, Some, None, List}
+use Rattle.std.proofs.Common.{◌∷◌, ◌++◌, length, take, get_or, set, replicate, is_some, map, sym, ◌∙◌, ap, inl, inr}
+use Rattle.std.proofs.Common.{[], arith, length-set, get_or-set_same, get_or-set_other, eq-eqb, ne_eqb, refl}
+use Rattle.std.{specs.List.{position, swap}}
+use Rattle.std.{proofs.{lemmas.Bool.{eqb-true, cases_eq, cases_lt, true≢false}, Math.Nat.{mod-lt}}}
 use Rattle.std.proofs.lemmas.{Bool.Decides.{nat_tests}, List.Edits.{swap_is}, List.Quantifiers.{position-Some}}
 use Rattle.std.proofs.lemmas.List.{take_all, take-set-le, take_more_set, get_or-take, length-take, get_or-replicate}
 use Rattle.std.proofs.lemmas.List.{length-replicate, get_or_past, Folds.{list_any-append, list_any_at}}
 use Rattle.std.{specs.Prelude.{Box, slice_get, IfSome}, specs.declared.alloc.Global.{Global}}
-use Rattle.std.proofs.{lemmas.Option.{slice_get_within, slice_get-get_or, get_or_from_slice_get}, Math.Bool.{or-false, or-true}}
+use Rattle.std.proofs.{lemmas.Option.{slice_get_within, slice_get-get_or, get_or_from_slice_get}}
+use Rattle.std.proofs.{Math.Bool.{or-false, or-true}}
 use Rattle.std.proofs.Math.{ListN.{get_or-map}, Seq.{map-set_same}}
 use Rattle.private_copy.specs.{declared.page.Cell.{Cell}, Touched.{has_page}}
 use Rattle.private_copy.specs.{declared.page.Page.{Page}, Cells.{blank, blank_cells, cell_in, cells_of, IsBlank}}
@@ -78,7 +80,12 @@ agree_more keys n p at table slot stands within some agree page inside =
       | inl same ↦ rw (eq-eqb page p same, or-true (has_page (take n keys) page))
           (rw (same, get_or-set_same table p slot None within) some)
       | inr other ↦
-          rw (ne_eqb page p other, or-false (has_page (take n keys) page), get_or-set_other table p page slot None other)
+          rw (
+            ne_eqb page p other,
+            or-false (has_page (take n keys) page),
+            get_or-set_other table p page slot None
+                other,
+          )
           (agree page (rw (length-set table p slot) at inside))
     ])
 

@@ -1,5 +1,6 @@
 -- An iteration more among visits.
-use Rattle.std.proofs.{Common.{◌≡◌, ℕ, ◌+◌, List, [], ◌∷◌, ◌++◌, length, refl, sym, ◌∙◌, ap, arith}, lemmas.List.{length-map}}
+use Rattle.std.proofs.{Common.{◌≡◌, ℕ, ◌+◌, List, [], ◌∷◌, ◌++◌, length, refl, sym, ◌∙◌, ap, arith}}
+use Rattle.std.proofs.{lemmas.List.{length-map}}
 use Rattle.array_maps.specs.Accesses.{Access, Action, actions_at}
 use Rattle.loop_core_model.specs.{Conflict.{at_element}, Marks.{Visit, numbered}}
 use Rattle.shadow_marks.specs.Standing.{one_more}

@@ -1,4 +1,5 @@
-use Rattle.std.proofs.Common.{◌≡◌, ◌-◌, refl, sym, ◌∙◌, arith, length-set, get_or-set_same, get_or-set_other, None, Some}
+use Rattle.std.proofs.Common.{◌≡◌, ◌-◌, refl, sym, ◌∙◌, arith, length-set, get_or-set_same, get_or-set_other, None}
+use Rattle.std.proofs.Common.{Some}
 use Rattle.std.{specs.Prelude.{slice_get}, proofs.lemmas.List.{get_or_past}}
 use Rattle.private_copy.proofs.{ClearLaws.{placed_among, one_back, all_blank}, pages.Pages.clear.Goals.{In-Some}}
 use Rattle.private_copy.proofs.pages.Pages.clear.Goals as goal

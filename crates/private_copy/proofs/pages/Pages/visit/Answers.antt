@@ -12,7 +12,8 @@ returns-in-Some-clause-cell c =
 
 -- the page isn't placed
 unplaced : (c : In_default) → Reads c.self.inside.table.items c.args.self.now (c.args.e / 64) None
-unplaced c = reads c.self.inside c.args.self.now (c.args.e / 64) c.index.result.now None c.self.view_is c.requires.within
+unplaced c = reads c.self.inside c.args.self.now (c.args.e / 64) c.index.result.now None c.self.view_is
+    c.requires.within
     c.index.ensures c.in_default.is
 
 pub place-requires-clause-spare : goal.place-requires-clause-spare
