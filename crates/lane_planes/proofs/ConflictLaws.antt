@@ -2,7 +2,8 @@
 use Rattle.std.proofs.Common.{◌≡◌, ℕ, ◌+◌, ◌-◌, ◌*◌, ◌/◌, ◌%◌, ◌<◌, ◌≤◌, min, false, List, inl, inr}
 use Rattle.std.{proofs.Common.{length, sym, ◌∙◌, ap, arith}}
 use Rattle.std.{specs.Prelude.{◌==◌, ◌&&◌, ◌||◌, not, nat_lt, slice_index}, proofs.Math.Bool.{and_comm}}
-use Rattle.std.proofs.lemmas.{Bool.{cases_lt, Decides.{nat_tests}}, List.{get_or_past}, Nat.Bits.{bit_at-zero, bit_at_above}}
+use Rattle.std.proofs.lemmas.{Bool.{cases_lt, Decides.{nat_tests}}, List.{get_or_past}}
+use Rattle.std.proofs.lemmas.{Nat.Bits.{bit_at-zero, bit_at_above}}
 use Rattle.loop_core_model.specs.Marks.{Marks, marks_of, first_number, marked_reduction, marked_fails}
 use Rattle.loop_core_model.specs.{Marks.{marked_conflict}, Planes.{bit_of}}
 use Rattle.loop_core_model.proofs.{MarkLaws.{first_is_number}, PlaneLaws.{plane_has_elements}}
@@ -10,7 +11,8 @@ use Rattle.shadow_marks.specs.declared.planes.{Tested.{Tested, TheVariants.{Lrpd
 use Rattle.shadow_marks.specs.declared.planes.LrpdPlanes.{LrpdPlanes}
 use Rattle.shadow_marks.specs.Standing.{ArePlanes, AreTested, StandAt, TestedStandAt, test_of, words_for}
 use Rattle.lane_planes.specs.{Merged.{NumbersFit}}
-use Rattle.lane_planes.specs.Conflicts.{lrpd_word, words_by, FailingWords, OperatorWordsFit, ConflictWords, IsConflictPlane}
+use Rattle.lane_planes.specs.Conflicts.{lrpd_word, words_by, FailingWords, OperatorWordsFit, ConflictWords}
+use Rattle.lane_planes.specs.Conflicts.{IsConflictPlane}
 use Rattle.lane_planes.proofs.{BitMeaning.{bit, bit-and}, MergeLaws.{either_bit}}
 use Rattle.lane_planes.proofs.ReductionLaws.{marked_bit, clear_bit}
 

@@ -3,7 +3,8 @@ use Rattle.std.proofs.Common.{◌≡◌, ℕ, zero, suc, ◌+◌, ◌-◌, ◌*�
 use Rattle.std.{proofs.Common.{length, take, drop, get_or, ◌∙◌, sym, ap, Fits, w64, inl, inr, arith}}
 use Rattle.std.specs.{Simd.{first_chunks, Lanes.{fold_l, chunk}}, Prelude.{count_ones, bit_or}}
 use Rattle.std.proofs.Math.Nat.{mod-eq_of_lt, div-mul-le_self, mul-le-mul_right}
-use Rattle.std.proofs.lemmas.{Bool.{cases_lt}, List.{drop-drop, drop_more, get_or_past}, Nat.{ones-le, le_or_l, le_or_r}}
+use Rattle.std.proofs.lemmas.{Bool.{cases_lt}, List.{drop-drop, drop_more, get_or_past}}
+use Rattle.std.proofs.lemmas.{Nat.{ones-le, le_or_l, le_or_r}}
 use Rattle.std.proofs.lemmas.Simd.{chunk-drop, chunk-fits, get_or-chunk, Each1-get_or}
 use Rattle.loop_core_model.specs.Planes.{set_bits, least_bit}
 

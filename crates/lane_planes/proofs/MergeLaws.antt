@@ -49,8 +49,8 @@ tested_at elements e (Flow mine) (Flow theirs) (Flow joined) a b below whole wor
     }
 tested_at elements e _ _ _ a b below whole words fit_a fit_b at_a at_b = absurd words
 
-pub merged_at : (mine theirs joined : Planes) → ArePlanes mine → MergedPlanes mine theirs joined → NumbersFit mine.tested
-    → NumbersFit theirs.tested →
+pub merged_at : (mine theirs joined : Planes) → ArePlanes mine → MergedPlanes mine theirs joined
+    → NumbersFit mine.tested → NumbersFit theirs.tested →
     (e : ℕ) (a b : Marks) → e < mine.elements → StandAt mine e a → StandAt theirs e b → StandAt joined e (merged a b)
 merged_at mine theirs joined whole words fit_a fit_b e a b below at_a at_b =
     let many = words_for mine.elements in

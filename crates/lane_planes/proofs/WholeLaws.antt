@@ -26,7 +26,8 @@ module _ (elements at upto : ℕ) where
 
   ored_whole : {mine theirs joined : List ℕ} → IsBitPlane elements mine → IsBitPlane elements theirs
       → Ored at upto mine theirs joined → IsBitPlane elements joined
-  ored_whole a b ored = written_whole a ored (λ e out. either_bit _ _ (e % 64) false false (a.past e out) (b.past e out))
+  ored_whole a b ored = written_whole a ored
+      (λ e out. either_bit _ _ (e % 64) false false (a.past e out) (b.past e out))
 
   tested_whole : (mine theirs joined : Tested) → AreTested elements mine → AreTested elements theirs
       → MergedTested at upto mine theirs joined → AreTested elements joined × (test_of joined ≡ test_of mine)

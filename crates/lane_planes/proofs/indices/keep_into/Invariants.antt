@@ -10,8 +10,8 @@ abbrev pub decreases-loop-at : goal.decreases-loop-at
 decreases-loop-at g l = l.end - l.at
 
 abbrev pub invariant-loop-at-2 : goal.invariant-loop-at-2
-invariant-loop-at-2 g l = IsWritten (λ i. kept_of l.kept (slice_index l.fn.into i) (slice_index l.from i)) (64 * l.first)
-    l.at l.end l.fn.into l.into
+invariant-loop-at-2 g l = IsWritten (λ i. kept_of l.kept (slice_index l.fn.into i) (slice_index l.from i))
+    (64 * l.first) l.at l.end l.fn.into l.into
 
 abbrev pub decreases-loop-at-2 : goal.decreases-loop-at-2
 decreases-loop-at-2 g l = l.end - l.at
