@@ -1,9 +1,9 @@
 -- Lists whose operations are cut one after another.
-use Rattle.std.proofs.Common.{◌≡◌, ◌∙◌, ℕ, zero, suc, ◌+◌, ◌<◌, ◌⊎◌, Bool, true, false, List, [], ◌∷◌, ◌++◌}
+use Rattle.std.proofs.Common.{◌≡◌, ◌∙◌, ℕ, zero, suc, ◌+◌, ◌<◌, ◌⊎◌, Bool, true, List, [], ◌∷◌, ◌++◌}
 use Rattle.std.proofs.Common.{length, map, take, sym, ap, subst, inl, inr, arith}
 use Rattle.std.specs.Prelude.{slice_get, Some}
 use Rattle.std.proofs.lemmas.{Grind.{common_steps}, List.{length_push}, Option.{slice_get-map, slice_get_within}}
-use Rattle.std.{specs.Option.{option_map}, proofs.lemmas.List.Elements.{filter-append}}
+use Rattle.std.{specs.Option.{option_map}}
 use Rattle.row_list.specs.{declared.row_op.RowOp.{RowOp}, Places.{is_access}}
 use Rattle.row_facts.{specs.{declared.site.Site.{Site}, Sites.{sites_of}}, proofs.FactLaws.{get-more}}
 use Rattle.row_facts.proofs.SiteLaws.{some-same}
@@ -35,7 +35,7 @@ pub opens-more : (sites : List Site) (spans : List Span) (ops : List RowOp) (ope
     → AreOpens sites spans ops opens → AreOpens sites spans (ops ++ op ∷ []) (opens ++ flag ∷ [])
 opens-more sites spans ops opens op flag count here before k one there is = elim (get-more ops op one k there) [
   | inl old ↦ elim (before k one old is) [
-    | inl set ↦ inl (get-kept opens flag true k set)
+    | inl set ↦ inl (get-kept opens (flag ∷ []) true k set)
     | inr closed ↦ inr closed
   ]
   | inr new ↦ elim (here (ap is_access new.1 ∙ is)) [
@@ -57,23 +57,10 @@ cuts-more sites spans needed number list cuts op made here before = record {
     ]
     | inr new ↦ elim (get-more cuts made cut k cut_there) [
       | inl same ↦ absurd (omega (arith, new.0, before.count, slice_get_within cuts k cut same))
-      | inr past ↦
-          let n = new.0 in
-          subst (λ (j : ℕ). IsCut sites spans needed j number one cut) (sym n)
-          (subst (λ (o : RowOp). IsCut sites spans needed (length list) number o cut) new.1
-          (subst (λ (m : RowOp). IsCut sites spans needed (length list) number op m) past.1 here))
+      | inr past ↦ rw (new.0, ← new.1, ← past.1) here
     ]
   ];
 }
-
--- how many accesses there are, with one operation more
-pub more-access : (ops : List RowOp) (op : RowOp) → is_access op ≡ true
-    → length (sites_of (ops ++ op ∷ [])) ≡ length (sites_of ops) + 1
-more-access ops op is = grind (arith, common_steps, filter-append is_access ops (op ∷ []), is)
-
-pub no-access : (ops : List RowOp) (op : RowOp) → is_access op ≡ false
-    → length (sites_of (ops ++ op ∷ [])) ≡ length (sites_of ops)
-no-access ops op is = grind (arith, common_steps, filter-append is_access ops (op ∷ []), is)
 
 -- the site of an access has its operation
 pub site-is : (sites : List Site) (ops : List RowOp) (k : ℕ) (site : Site) (op : RowOp)

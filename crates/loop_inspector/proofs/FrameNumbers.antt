@@ -1,8 +1,8 @@
 -- Numbers that bytes of a frame spell are words.
 use Rattle.std.proofs.Common.{◌≡◌, ℕ, zero, suc, ◌+◌, ◌-◌, ◌*◌, ◌^◌, ◌<◌, ◌≤◌, Bool, true, false, if◌then◌else◌, List}
-use Rattle.std.{proofs.Common.{[], ◌∷◌, length, map, Some, subst, arith}, specs.Prelude.{nat_lt, take, drop}}
-use Rattle.std.specs.List.{AllByRecursion}
-use Rattle.bpf_insn_types.specs.declared.{insn.Size.{Size, TheVariants.{B, H, W, Dw}}, extension.Extension.{Extension}}
+use Rattle.std.{proofs.Common.{[], ◌∷◌, map, Some, arith}, specs.{Prelude.{nat_lt, take, drop}, List.{AllByRecursion}}}
+use Rattle.std.proofs.Math.Nat.{pow-succ'}
+use Rattle.bpf_insn_types.specs.declared.{insn.Size.{Size, TheVariants.{B}}, extension.Extension.{Extension}}
 use Rattle.bpf_insn_types.specs.{declared.extension.Extension.TheVariants.{Zeros, Signs}, Sizes.{bytes_of}}
 use Rattle.bpf_step_model.specs.{Step.{extended}, SoundMachine.{SoundByte}}
 use Rattle.bpf_step_ir.specs.Plain.{plain_number, plain_number_at}
@@ -11,32 +11,17 @@ use Rattle.bpf_step_ir.specs.Plain.{plain_number, plain_number_at}
 abbrev pub AreBytes : List ℕ → Type 0
 AreBytes bytes = AllByRecursion (λ byte. byte < 256) bytes
 
--- what is one more than the greatest number of so many bytes
-abbrev past_bytes : ℕ → ℕ
-past_bytes zero = 1
-past_bytes (suc count) = 256 * past_bytes count
-
-past_some : (count : ℕ) → 0 < past_bytes count
+past_some : (count : ℕ) → 0 < 256 ^ count
 past_some zero = omega arith
-past_some (suc count) = omega (arith, past_some count)
+past_some (suc count) = omega (arith, pow-succ' 256 count, past_some count)
 
-spelled : (bytes : List ℕ) (count : ℕ) → AreBytes bytes → length bytes ≤ count → plain_number bytes < past_bytes count
-spelled [] count fit few = past_some count
-spelled (byte ∷ bytes) zero fit few = absurd (omega (arith, few))
-spelled (byte ∷ bytes) (suc count) fit few =
+-- at most so many of them spell no more than as many can
+taken_below : (count : ℕ) (bytes : List ℕ) → AreBytes bytes → plain_number (take count bytes) < 256 ^ count
+taken_below zero bytes fit = omega arith
+taken_below (suc count) [] fit = past_some (suc count)
+taken_below (suc count) (byte ∷ bytes) fit =
     let low : byte < 256 = fit.0 in
-    let rest = spelled bytes count fit.1 (omega (arith, few)) in
-    omega (arith, low, rest)
-
-taken_few : (count : ℕ) (bytes : List ℕ) → length (take count bytes) ≤ count
-taken_few zero bytes = omega arith
-taken_few (suc count) [] = omega arith
-taken_few (suc count) (byte ∷ bytes) = omega (arith, taken_few count bytes)
-
-taken_fit : (count : ℕ) (bytes : List ℕ) → AreBytes bytes → AreBytes (take count bytes)
-taken_fit zero bytes fit = tt
-taken_fit (suc count) [] fit = tt
-taken_fit (suc count) (byte ∷ bytes) fit = (fit.0, taken_fit count bytes fit.1)
+    omega (arith, low, pow-succ' 256 count, taken_below count bytes fit.1)
 
 dropped_fit : (count : ℕ) (bytes : List ℕ) → AreBytes bytes → AreBytes (drop count bytes)
 dropped_fit zero bytes fit = fit
@@ -44,34 +29,30 @@ dropped_fit (suc count) [] fit = tt
 dropped_fit (suc count) (byte ∷ bytes) fit = dropped_fit count bytes fit.1
 
 number_below : (frame : List ℕ) (position count : ℕ) → AreBytes frame
-    → plain_number_at frame position count < past_bytes count
+    → plain_number_at frame position count < 256 ^ count
 number_below frame position count fit =
     let many : position + count - position ≡ count = omega arith in
-    spelled (take (position + count - position) (drop position frame)) count
-    (taken_fit (position + count - position) (drop position frame) (dropped_fit position frame fit))
-    (subst (λ (n : ℕ). length (take (position + count - position) (drop position frame)) ≤ n) many
-    (taken_few (position + count - position) (drop position frame)))
+    rw many (taken_below count (drop position frame) (dropped_fit position frame fit))
 
-signed : (b : Bool) (m x : ℕ) → x < m → m ≤ 2 ^ 64 → (if b then x else x + (2 ^ 64 - m)) < 2 ^ 64
-signed true m x h k = omega (arith, h, k)
-signed false m x h k = omega (arith, h, k)
+pub chosen_small : (b : Bool) (n m : ℕ) → n < 2 ^ 64 → m < 2 ^ 64 → (if b then n else m) < 2 ^ 64
+chosen_small true n m x y = x
+chosen_small false n m x y = y
 
-word_of_bytes : (size : Size) (extension : Extension) (n : ℕ) → n < past_bytes (bytes_of size)
-    → extended extension (bytes_of size) n < 2 ^ 64
-word_of_bytes B Zeros n h = let small : n < 2 ^ 8 = h in omega (arith, small)
-word_of_bytes H Zeros n h = let small : n < 2 ^ 16 = h in omega (arith, small)
-word_of_bytes W Zeros n h = let small : n < 2 ^ 32 = h in omega (arith, small)
-word_of_bytes Dw Zeros n h = let small : n < 2 ^ 64 = h in small
-word_of_bytes B Signs n h = signed (nat_lt (2 * n) (2 ^ 8)) (2 ^ 8) n h (omega arith)
-word_of_bytes H Signs n h = signed (nat_lt (2 * n) (2 ^ 16)) (2 ^ 16) n h (omega arith)
-word_of_bytes W Signs n h = signed (nat_lt (2 * n) (2 ^ 32)) (2 ^ 32) n h (omega arith)
-word_of_bytes Dw Signs n h = signed (nat_lt (2 * n) (2 ^ 64)) (2 ^ 64) n h (omega arith)
+-- a number of at most eight bytes is a word, however it is extended
+pub extended_fits : (extension : Extension) (size n : ℕ) → n < 256 ^ size → 256 ^ size ≤ 2 ^ 64
+    → extended extension size n < 2 ^ 64
+extended_fits Zeros size n h k = omega (arith, h, k)
+extended_fits Signs size n h k = chosen_small (nat_lt (2 * n) (256 ^ size)) n (n + (2 ^ 64 - 256 ^ size))
+    (omega (arith, h, k)) (omega (arith, h, k))
+
+few_bytes : (size : Size) → 256 ^ bytes_of size ≤ 2 ^ 64
+few_bytes B = omega arith
+few_bytes _ = omega arith
 
 pub frame_number : (frame : List ℕ) → AreBytes frame → (size : Size) (extension : Extension) (position : ℕ)
     → extended extension (bytes_of size) (plain_number_at frame position (bytes_of size)) < 2 ^ 64
 frame_number frame fit size extension position =
-    word_of_bytes size extension (plain_number_at frame position (bytes_of size))
-    (number_below frame position (bytes_of size) fit)
+    extended_fits extension (bytes_of size) _ (number_below frame position (bytes_of size) fit) (few_bytes size)
 
 pub filled_fit : (bytes : List ℕ) → AllByRecursion SoundByte (map Some bytes) → AreBytes bytes
 filled_fit [] fit = tt

@@ -1,19 +1,20 @@
 -- Lanes that find at an access what was there before they changed anything.
-use Rattle.std.proofs.Common.{◌≡◌, ℕ, zero, suc, ◌+◌, ◌<◌, Bool, true, false, if◌then◌else◌, List, [], ◌∷◌, ◌++◌}
+use Rattle.std.proofs.Common.{◌≡◌, ℕ, zero, suc, ◌+◌, ◌<◌, Bool, true, false, if◌then◌else◌, List, [], ◌∷◌}
 use Rattle.std.proofs.Common.{slice_index, refl, sym, ◌∙◌, subst, arith}
-use Rattle.std.specs.Prelude.{slice_get, Option, Some, None}
-use Rattle.array_maps.specs.{Accesses.{Access, words_after_all}, Halves.{part_of}, MapList.{AreWords}}
-use Rattle.loop_core_model.specs.Effects.{Effect, accesses_on, deed_loads, deed_part, with_effect}
+use Rattle.std.{specs.Prelude.{slice_get, Option, Some, None}, proofs.{Common.{inl, inr}, lemmas.Bool.{cases_Bool}}}
+use Rattle.array_maps.specs.{Accesses.{words_after_all}, Halves.{part_of}, MapList.{AreWords}}
+use Rattle.loop_core_model.specs.Effects.{Effect, deed_loads, deed_part, with_effect}
 use Rattle.loop_core_model.proofs.Sparing.{FitsFor, fits_for, word_fits}
 use Rattle.lane_rows.{specs.Places.{IsPlaceOf, element_at, place_of as place_by}, proofs.PlaceLaws.{is_place}}
 use Rattle.lane_stamps.specs.{declared.site.Site.{Site}, Sites.{Covers, LaneRows, effect_by, is_of_halves}}
-use Rattle.row_list.specs.{declared.row_op.RowOp.{RowOp}, Agreement.{SeesBefore}, Lanes.{row_accesses, run_words}}
-use Rattle.row_list.specs.{Places.{is_access}, Rows.{IsRowValue, byte_at, is_in, row_access, row_effects, row_value}}
-use Rattle.row_list.proofs.EffectLaws.{value_on}
+use Rattle.row_list.specs.{declared.row_op.RowOp.{RowOp}, Lanes.{row_accesses, run_words}}
+use Rattle.row_list.specs.{Places.{is_access}, Rows.{IsRowValue, byte_at, is_in, row_access}}
+use Rattle.row_list.specs.Rows.{row_effects, row_value}
+use Rattle.row_list.proofs.{EffectLaws.{value_on}, ReadLaws.{no_access}}
 use Rattle.row_facts.specs.{Meetings.{Touches, leaves, loads}, SiteKinds.{HasSite, kind_of}}
 use Rattle.row_run.{specs.{Places.{place_of}, Sites.{value_of}}, proofs.SiteLaws.{does_op, kind_halves}}
 use Rattle.row_run.proofs.{ApartLaws.{half_of_byte, said}, OwnLaws.{spared}, SeenLaws.{IsSparedBy}}
-use Rattle.loop_inspector.proofs.{ActLaws.{KindIfAccess, acts_alike}, Deeds.{no_effects}}
+use Rattle.loop_inspector.proofs.ActLaws.{KindIfAccess, acts_alike}
 
 module _ (values words : List ℕ) where
   -- the place of a lane's access, and what it does there, if it makes it
@@ -75,31 +76,21 @@ module _ (values words : List ℕ) where
   module _ (at : RowOp) (has_at : HasSite at) (there : is_in values (place_of at).mask ≡ true) where
     after : (by : RowOp) → KindIfAccess by → IsApart at by → (now : List ℕ) → Finds at now
         → Finds at (words_after_all (row_accesses by values now) now)
-    after by has apart now before =
-        subst (λ (accesses : List Access). Finds at (words_after_all accesses now))
-        (sym (acts_alike by has values words now)) (by_kind (is_access by) refl)
-      where
-        by_mask : (b : Bool) → is_in values (place_of by).mask ≡ b → HasSite by
-            → Finds at (words_after_all (accesses_on now (with_effect (if b then Some (done by) else None) [])) now)
-        by_mask false is kind = before
-        by_mask true is kind = record {
+    after by has apart now before = rw (acts_alike by has values words now) (elim (cases_Bool (is_access by)) [
+      | inl is ↦ rw (does by (has is)) (elim (cases_Bool (is_in values (place_of by).mask)) [
+        | inl in_mask ↦ rw in_mask (record {
           finds = λ loaded.
               let old = before.finds loaded in
               let free : IsSparedBy (done by) (done at) =
               spared (rows by at) 0 (site by 0) (site at 1) (λ left loading half covers other.
-              apart ((said by kind).leaving ∙ left) ((said at has_at).loading ∙ loading) half
-              (touches at half has_at there covers) (touches by half kind is other)) in
+              apart ((said by (has is)).leaving ∙ left) ((said at has_at).loading ∙ loading) half
+              (touches at half has_at there covers) (touches by half (has is) in_mask other)) in
               let kept = free.spares loaded now old.1 in (kept.0 ∙ old.0, kept.1);
-        }
-
-        by_kind : (b : Bool) → is_access by ≡ b
-            → Finds at (words_after_all (accesses_on now (row_effects by values words)) now)
-        by_kind false is =
-            subst (λ (effects : List Effect). Finds at (words_after_all (accesses_on now effects) now))
-            (sym (no_effects by values words is)) before
-        by_kind true is =
-            subst (λ (effects : List Effect). Finds at (words_after_all (accesses_on now effects) now))
-            (sym (does by (has is))) (by_mask (is_in values (place_of by).mask) refl (has is))
+        })
+        | inr out ↦ rw out before
+      ])
+      | inr none ↦ rw (no_access by none values) before
+    ])
 
     finds_on : (k : ℕ) (ops : List RowOp) (now : List ℕ)
         → ((j : ℕ) (by : RowOp) → j < k → slice_get ops j ≡ Some by → KindIfAccess by × IsApart at by)
@@ -117,20 +108,18 @@ module _ (values words : List ℕ) where
       → (n : ℕ) → IsRowValue at index caller values words n
       → IsRowValue at index caller values (run_words list values words k) n
   finds_same fit index caller list k at has free n is =
-      value_on words (run_words list values words k) [] (row_access at values) values (row_value at index caller values) n
-      (subst (λ (effects : List Effect). SeesBefore words (run_words list values words k) (effects ++ [])) (sym (does at has))
-      (by_mask (is_in values (place_of at).mask) refl)) is
-    where
-      by_mask : (b : Bool) → is_in values (place_of at).mask ≡ b
-          → SeesBefore words (run_words list values words k) (with_effect (if b then Some (done at) else None) [] ++ [])
-      by_mask false there = tt
-      by_mask true there = (
-        λ loaded. ((finds_on at has there k list words free (record {
-          finds = λ loading. (
-            refl,
-            fits_for (deed_part (done at).deed) (slice_index words (done at).element)
-                (word_fits words (done at).element fit),
-          );
-        })).finds loaded).0,
-        tt,
-      )
+      value_on words (run_words list values words k) [] (row_access at values) values (row_value at index caller
+      values) n
+      (rw (does at has) (elim (cases_Bool (is_in values (place_of at).mask)) [
+        | inl there ↦ rw there (
+          λ loaded. ((finds_on at has there k list words free (record {
+            finds = λ loading. (
+              refl,
+              fits_for (deed_part (done at).deed) (slice_index words (done at).element)
+                  (word_fits words (done at).element fit),
+            );
+          })).finds loaded).0,
+          tt,
+        )
+        | inr out ↦ rw out tt
+      ])) is

@@ -1,304 +1,252 @@
 -- The lanes of a slice are those of its list.
-use Rattle.std.proofs.Common.{◌≡◌, ℕ, suc, ◌/◌, ◌^◌, ◌<◌, Bool, true, false, ◌==◌, ◌⊎◌, inl, inr, List, [], ◌∷◌, ◌++◌}
-use Rattle.std.proofs.Common.{zero, ◌≤◌, take, arith, length, map, get_or, slice_index, refl, sym, ap, ap₂, ◌∙◌, subst}
-use Rattle.std.{specs.{Prelude.{slice_get, Some}, List.{AllByRecursion}}, proofs.lemmas.Bool.{cases_lt}}
-use Rattle.std.proofs.lemmas.{Option.{slice_get_within, slice_get-get_or}, List.{map-append}}
+use Rattle.std.proofs.Common.{◌≡◌, ℕ, zero, suc, ◌/◌, ◌^◌, ◌<◌, ◌≤◌, Bool, true, false, inl, inr, List, []}
+use Rattle.std.proofs.Common.{◌∷◌, ◌++◌, take, arith, length, map, get_or, slice_index, refl, sym, ap, ap₂, ◌∙◌, subst}
+use Rattle.std.{specs.{Prelude.{slice_get, Some}, List.{AllByRecursion}}, proofs.lemmas.Bool.{cases_Bool, cases_lt}}
+use Rattle.std.proofs.lemmas.{Option.{get_or_from_slice_get, slice_get_within, slice_get-get_or}, List.{map-append}}
 use Rattle.array_maps.specs.{MapList.{AreWords}, Accesses.{Access, Action, actions_at, words_after_all}}
 use Rattle.array_maps.specs.declared.access.Part.{Part, TheVariants.{Whole, Half as Of}}
 use Rattle.bpf_insn_types.specs.{declared.insn.SimpleOp.{SimpleOp}, WordBounds.{ResultsFit}}
 use Rattle.bpf_step_model.specs.Step.{Request, Load as Loads, store_of, update_of}
-use Rattle.bpf_step_model.specs.AreaWords.{byte_named, part_named}
+use Rattle.bpf_step_model.specs.AreaWords.{part_named}
 use Rattle.loop_core_model.specs.{declared.access.Access.{Access as Kind}, Effects.{Effect, accesses_on, kind_of_deed}}
 use Rattle.loop_core_model.proofs.Turns.{actions_at-append}
-use Rattle.row_list.specs.declared.row_op.{Place.{Place}, RowOp.{RowOp, TheVariants.{Number, Load, Store, Reduce, Fetch}}}
+use Rattle.row_list.specs.declared.row_op.{Place.{Place}, RowOp.{RowOp, TheVariants.{Number, Load, Store, Reduce}}}
 use Rattle.row_list.specs.Lanes.{run_words}
-use Rattle.row_list.specs.Rows.{AreValues, AreValuesOn, IsRowValue, byte_at, row_effects, effects_by, effects_if, deed_of, is_in}
-use Rattle.row_list.proofs.EffectLaws.{accesses_both}
-use Rattle.row_list.specs.Places.{is_access, taken_by}
-use Rattle.row_facts.specs.{declared.{fact.Fact.{Fact}, site.Site.{Site}}, Elements.{Touches}, Ordered.{IsOrdered}}
-use Rattle.row_facts.specs.{Facts.{AreFacts}, Meetings.{leaves}, Sites.{AreSites, sites_of}}
-use Rattle.loop_marks.{specs.Touches.{Touch, touch_by, touch_of, touches_of}, proofs.VisitLaws.{touches_on}}
-use Rattle.loop_inspector.specs.{declared.reach.Span.{Span}, Reach.{Misses}, Open.{IsInSome}}
-use Rattle.loop_inspector.specs.Slices.{with_number, IsNeeded, IsChangeAt, IsClosed, IsCut, AreCuts, NeedsNoOwn}
+use Rattle.row_list.specs.Rows.{AreValues, AreValuesOn, IsRowValue, row_effects, effects_by}
+use Rattle.row_list.specs.Rows.{access_at, access_effects, byte_at, deed_of, is_in}
+use Rattle.row_list.proofs.{EffectLaws.{accesses_both}, ReadLaws.{no_access}}
 use Rattle.row_list.proofs.SameLanes.{all_by, same_value, same_effects}
-use Rattle.loop_inspector.proofs.{CutLaws.{site-at, site-before}, OwnLaws.{IsApart, finds_same}}
-use Rattle.loop_inspector.proofs.FrameNumbers.{AreBytes}
-use Rattle.loop_inspector.proofs.Values.{are_lane_values, lane_made, lane_past, lane_values, made_of_own, takes_below}
-use Rattle.loop_inspector.proofs.Deeds.{HasEffect, effect_of, effect_or_none, touches_here, no_effects, with_first}
-use Rattle.loop_inspector.proofs.{ActLaws.{KindIfAccess}, Deeds.{action_of_first}}
+use Rattle.row_list.specs.Places.{is_access, taken_by}
+use Rattle.row_facts.specs.{Elements.{Touches}, Meetings.{leaves}}
+use Rattle.row_facts.{specs.Sites.{IsSite, sites_of}, proofs.SiteLaws.{has-place}}
+use Rattle.loop_marks.{specs.Touches.{Touch, touch_by, touch_of, touches_of}, proofs.VisitLaws.{touches_on}}
+use Rattle.loop_inspector.specs.{Open.{IsInSome}, Inspections.{IsSurvey}}
+use Rattle.loop_inspector.specs.Slices.{with_number, IsNeeded, IsChangeAt, IsClosed, IsCut, IsSlice}
+use Rattle.loop_inspector.specs.declared.{survey.Survey.{Survey}, slice.Slice.{Slice}}
+use Rattle.loop_inspector.proofs.{ActLaws.{KindIfAccess}, CalmLaws.{named}, FrameNumbers.{AreBytes}}
+use Rattle.loop_inspector.proofs.OwnLaws.{IsApart, finds_same}
+use Rattle.loop_inspector.proofs.{CutLaws.{site-at, site-before}, Deeds.{IsDone, all_done, each_action}}
+use Rattle.loop_inspector.proofs.Values.{After, are_values, lane_after, made_of_own, takes_below}
 
--- the values of a list in a lane that alone changes the words, of which a slice has some
-pub record Extended (list : List RowOp) (needed : List Bool) (index : ℕ) (caller words cut_values : List ℕ)
-    : Type 0 where
+-- accesses that touch this, and are all those of effects at open elements
+pub record Keeps (survey : Survey) (touches : List Touch) (effects : List Effect) (now : List ℕ) : Type 0 where
+  pub made : List Access
+  pub touch : touches_of made ≡ touches
+  pub at_open : (e : ℕ) → IsInSome survey.spans.items e → actions_at e made ≡ actions_at e (accesses_on now effects)
+
+-- a lane of a list, that alone changes the words: it returns what the slice's lane returns, and touches what that
+-- touches, but for what isn't open
+pub record Extended (list : List RowOp) (n : ℕ) (survey : Survey) (result : ℕ) (slice : Slice) (index : ℕ)
+    (caller words cut_values : List ℕ) : Type 0 where
   pub values : List ℕ
   pub are : AreValuesOn list index caller (run_words list values words) values
-  pub same : (k : ℕ) → IsNeeded needed k → slice_index values k ≡ slice_index cut_values k
-
--- a slice has something for each operation
-cut_at : (list cuts : List RowOp) → length cuts ≡ length list → (k : ℕ) (op : RowOp) → slice_get list k ≡ Some op
-    → (cut : RowOp) × (slice_get cuts k ≡ Some cut)
-cut_at list cuts count k op there = (
-  get_or cuts k op,
-  slice_get-get_or cuts k op
-      (subst (λ (n : ℕ). k < n) (sym count) (slice_get_within list k op there)),
-)
+  pub same : slice_index values result ≡ slice_index cut_values result
+  pub kept : Keeps survey (map touch_by (effects_by slice.list.list.items cut_values words)) (effects_by list values
+      words)
+      words
 
 -- what leaves something is an access
 leaving_access : (op : RowOp) → leaves op ≡ true → is_access op ≡ true
-leaving_access (Store place value) left = refl
-leaving_access (Reduce place op value) left = refl
-leaving_access (Fetch place op value compare) left = refl
-leaving_access _ left = absurd (cc)
-
--- the value of any other operation hangs on no words
-no_words : (op : RowOp) (index : ℕ) (caller values words now : List ℕ) (n : ℕ) → is_access op ≡ false
-    → IsRowValue op index caller values words n → IsRowValue op index caller values now n
-no_words (Load place extension) index caller values words now n none is = absurd (cc)
-no_words (Store place value) index caller values words now n none is = absurd (cc)
-no_words (Reduce place op value) index caller values words now n none is = absurd (cc)
-no_words (Fetch place op value compare) index caller values words now n none is = absurd (cc)
-no_words _ index caller values words now n none is = is
+leaving_access RowOp.All left = cc
+leaving_access _ left = cc
 
 all_with : {P Q R : ℕ → Type 0} (ks : List ℕ) → ((k : ℕ) → P k → Q k → R k) → AllByRecursion P ks
     → AllByRecursion Q ks → AllByRecursion R ks
 all_with [] f one two = tt
 all_with (k ∷ ks) f one two = (f k one.0 two.0, all_with ks f one.1 two.1)
 
--- so the lane that alone changes the words has those values, and at accesses that it doesn't make the slice's
-module _ (fits : ResultsFit) (sites : List Site) (spans : List Span) (needed : List Bool) (number : ℕ)
-    (list cuts : List RowOp) (ordered : IsOrdered list) (cut : AreCuts sites spans needed number list cuts)
-    (has : (k : ℕ) (op : RowOp) → slice_get list k ≡ Some op → KindIfAccess op) (facts : List Fact)
-    (are_facts : AreFacts list facts) (are_sites : AreSites list facts list sites)
-    (own : NeedsNoOwn sites list needed) (index : ℕ) (caller words : List ℕ) (bytes : AreBytes caller)
-    (fit : AreWords words) (low : index ≤ 2 ^ 23) (cut_values : List ℕ)
-    (are : AreValues cuts index caller words cut_values) where
+-- stores and reductions of other numbers touch the same
+abbrev SameKinds : (Part → ℕ → Request) → Type 0
+SameKinds request = (part : Part) (n m word : ℕ) → kind_of_deed (deed_of (request part n) word)
+    ≡ kind_of_deed (deed_of (request part m) word)
+
+stores_alike : SameKinds store_of
+stores_alike Whole n m word = refl
+stores_alike (Of half) n m word = refl
+
+updates_alike : (op : SimpleOp) → SameKinds (λ part n. update_of part op n)
+updates_alike op Whole n m word = refl
+updates_alike op (Of half) n m word = refl
+
+both_kept : (survey : Survey) (one two : List Touch) (effects more : List Effect) (now : List ℕ)
+    → Keeps survey one effects now → Keeps survey two more (words_after_all (accesses_on now effects) now)
+    → Keeps survey (one ++ two) (effects ++ more) now
+both_kept survey one two effects more now first rest = record {
+  made = first.made ++ rest.made;
+  touch = map-append touch_of first.made rest.made ∙ ap₂ (λ (a b : List Touch). a ++ b) first.touch rest.touch;
+  at_open = λ e is. actions_at-append e first.made rest.made
+      ∙ ap₂ (λ (a b : List Action). a ++ b) (first.at_open e is) (rest.at_open e is)
+      ∙ sym (ap (actions_at e) (accesses_both now effects more) ∙ actions_at-append e (accesses_on now effects) _);
+}
+
+none_left : (actions : List Action) → AllByRecursion (λ action. ⊥) actions → [] ≡ actions
+none_left [] all = refl
+none_left (action ∷ actions) all = absurd all.0
+
+-- a list, its sites and the slice for the elements that are open, and a lane of the slice
+module _ (fits : ResultsFit) (list : List RowOp) (n : ℕ) (survey : Survey) (known : IsSurvey list n survey) (result : ℕ)
+    (slice : Slice) (is : IsSlice survey.sites.items survey.spans.items list result slice)
+    (has : (k : ℕ) (op : RowOp) → slice_get list k ≡ Some op → KindIfAccess op) (index : ℕ) (caller words : List ℕ)
+    (bytes : AreBytes caller) (fit : AreWords words) (low : index ≤ 2 ^ 23) (cut_values : List ℕ)
+    (are : AreValues slice.list.list.items index caller words cut_values) where
+  abbrev Needed : ℕ → Type 0
+  Needed k = IsNeeded is.needed k
+
+  lane : After fits index caller cut_values [] list words
+  lane = lane_after fits index caller cut_values list words known.ordered
+
   abbrev all : List ℕ
-  all = lane_values fits index caller cut_values list words
+  all = lane.values
 
   abbrev found : ℕ → List ℕ
   found = run_words list all words
 
   run : AreValuesOn list index caller found all
-  run = are_lane_values fits index caller cut_values bytes (omega (arith, low)) are.fit list words fit ordered
+  run = are_values fits index caller cut_values list words lane bytes (omega (arith, low)) are.fit fit
 
-  free : (k : ℕ) (op : RowOp) → slice_get list k ≡ Some op → is_access op ≡ true → IsNeeded needed k → (j : ℕ)
+  free : (k : ℕ) (op : RowOp) → slice_get list k ≡ Some op → is_access op ≡ true → Needed k → (j : ℕ)
       (by : RowOp) → j < k → slice_get list j ≡ Some by → KindIfAccess by × IsApart all words op by
-  free k op there is need j by less here = (
+  free k op there access need j by less here = (
     has j by here,
     λ left loaded half touch touched.
-        let access = leaving_access by left in
-        ((own facts are_facts are_sites k op there is need).each (length (sites_of (take j list))) op by
-        (site-at list k op there is) (site-at list j by here access) left loaded
-        (site-before list j k by less here access)).none index caller found all low run half touch touched,
+        let also = leaving_access by left in
+        ((is.own known.facts known.are_facts known.are_sites k op there access need).each
+        (length (sites_of (take j list))) op by (site-at list k op there access) (site-at list j by here also) left
+        loaded
+        (site-before list j k by less here also)).none index caller found all low run half touch touched,
   )
 
-  on_run : (k : ℕ) (op : RowOp) → slice_get list k ≡ Some op → IsNeeded needed k → (b : Bool) → is_access op ≡ b
+  -- a value that is needed is as on the words from before
+  on_run : (k : ℕ) (op : RowOp) → slice_get list k ≡ Some op → Needed k → (b : Bool) → is_access op ≡ b
       → IsRowValue op index caller all words (slice_index cut_values k)
       → IsRowValue op index caller all (found k) (slice_index cut_values k)
-  on_run k op there need false is value =
-      no_words op index caller all words (found k) (slice_index cut_values k) is value
-  on_run k op there need true is value =
-      finds_same all words fit index caller list k op (has k op there is) (free k op there is need)
+  on_run k op there need false access value = rw (no_access op access all) (rw (no_access op access all) at value)
+  on_run k op there need true access value =
+      finds_same all words fit index caller list k op (has k op there access) (free k op there access need)
       (slice_index cut_values k) value
 
-  same_at : (k : ℕ) (op : RowOp) → slice_get list k ≡ Some op → IsNeeded needed k
-      → ((j : ℕ) → j < k → IsNeeded needed j → slice_index all j ≡ slice_index cut_values j)
-      → (made : RowOp) → slice_get cuts k ≡ Some made → IsCut sites spans needed k number op made
+  abbrev IsCutHere : ℕ → (op cut : RowOp) → Type 0
+  IsCutHere k op cut = IsCut survey.sites.items survey.spans.items is.needed k result op cut
+
+  same_at : (k : ℕ) (op : RowOp) → slice_get list k ≡ Some op → Needed k
+      → ((j : ℕ) → j < k → Needed j → slice_index all j ≡ slice_index cut_values j) → (made : RowOp)
+      → slice_get slice.list.list.items k ≡ Some made → IsCutHere k op made
       → slice_index all k ≡ slice_index cut_values k
   same_at k op there need before made made_there (inl whole) =
       let value : IsRowValue op index caller all words (slice_index cut_values k) =
       same_value op index caller words cut_values all (slice_index cut_values k)
-      (all_with (taken_by op) (λ j less need. sym (before j less need)) (takes_below k op (ordered.each k op there))
-      whole.takes)
-      (subst (λ (o : RowOp). IsRowValue o index caller cut_values words (slice_index cut_values k)) whole.same
-      (are.each k made made_there)) in
-      lane_made fits index caller cut_values list words ordered k op there
+      (all_with (taken_by op) (λ j less need. sym (before j less need)) (takes_below k op (known.ordered.each k op
+      there))
+      whole.takes) (rw whole.same at (are.each k made made_there)) in
+      lane.each k k op (omega arith) there
       ∙ made_of_own fits index caller op all (found k) (slice_index cut_values k)
       (on_run k op there need (is_access op) refl value)
   same_at k op there need before made made_there (inr (inl change)) = absurd (change.unneeded need)
   same_at k op there need before made made_there (inr (inr nothing)) = absurd (nothing.unneeded need)
 
-  upto : (n k : ℕ) → k < n → IsNeeded needed k → slice_index all k ≡ slice_index cut_values k
+  upto : (m k : ℕ) → k < m → Needed k → slice_index all k ≡ slice_index cut_values k
   upto zero k less need = absurd (omega (arith, less))
-  upto (suc n) k less need = elim (cases_lt k (length list)) [
-    | inr past ↦ lane_past fits index caller cut_values list words k past
+  upto (suc m) k less need = elim (cases_lt k (length list)) [
+    | inr past ↦ lane.past k (omega (arith, past))
     | inl inside ↦
+        let cuts = slice.list.list.items in
         let op = get_or list k RowOp.All in
         let there = slice_get-get_or list k RowOp.All inside in
-        let made = cut_at list cuts cut.count k op there in
-        same_at k op there need (λ j before. upto n j (omega (arith, before, less))) made.0 made.1
-        (cut.each k op made.0 there made.1)
+        let there_too = slice_get-get_or cuts k RowOp.All (omega (arith, inside, is.cuts.count)) in
+        same_at k op there need (λ j before. upto m j (omega (arith, before, less))) (get_or cuts k RowOp.All) there_too
+        (is.cuts.each k op (get_or cuts k RowOp.All) there there_too)
   ]
 
-  pub extended : Extended list needed index caller words cut_values
-  extended = record { values = all; are = run; same = λ k. upto (suc k) k (omega arith) }
+  same : (k : ℕ) → Needed k → slice_index all k ≡ slice_index cut_values k
+  same k = upto (suc k) k (omega arith)
 
--- accesses of a lane without those that a slice leaves out: they touch what the slice's lane touches, and at open
--- elements they are all
-pub record Survivors (spans : List Span) (list cuts : List RowOp) (words values cut_values : List ℕ) : Type 0 where
-  pub made : List Access
-  pub touches : touches_of made ≡ map touch_by (effects_by cuts cut_values words)
-  pub at_open : (e : ℕ) → IsInSome spans e
-      → actions_at e made ≡ actions_at e (accesses_on words (effects_by list values words))
+  abbrev touches_at : RowOp → (values : List ℕ) → List Touch
+  touches_at op values = map touch_by (row_effects op values words)
 
--- stores and reductions of other numbers touch the same
-abbrev SameKind : (one other : Request) → Type 0
-SameKind one other = (word : ℕ) → kind_of_deed (deed_of one word) ≡ kind_of_deed (deed_of other word)
+  change_at : (place : Place) (one other : Part → Request) → Needed place.mask × Needed place.address
+      → ((part : Part) (word : ℕ) → kind_of_deed (deed_of (one part) word) ≡ kind_of_deed (deed_of (other part) word))
+      → map touch_by (access_effects (access_at all place one) all words)
+      ≡ map touch_by (access_effects (access_at cut_values place other) cut_values words)
+  change_at place one other needs alike =
+      let byte = byte_at cut_values place in
+      rw (same place.mask needs.0, same place.address needs.1) (elim (cases_Bool (is_in cut_values place.mask)) [
+        | inl there ↦ rw there (ap (λ (kind : Kind). record { element = byte / 8; kind = kind } ∷ [])
+            (alike (part_named place.width byte) (slice_index words (byte / 8))))
+        | inr out ↦ rw out refl
+      ])
 
-stores_alike : (part : Part) (n m : ℕ) → SameKind (store_of part n) (store_of part m)
-stores_alike Whole n m word = refl
-stores_alike (Of half) n m word = refl
-
-updates_alike : (part : Part) (op : SimpleOp) (n m : ℕ) → SameKind (update_of part op n) (update_of part op m)
-updates_alike Whole op n m word = refl
-updates_alike (Of half) op n m word = refl
-
-abbrev touched : Bool → (mask byte : ℕ) → Request → (words : List ℕ) → List Touch
-touched there mask byte request words =
-    map touch_by (effects_if there (record { mask = mask; byte = byte; request = request }) words)
-
-touch_alike : (there : Bool) (mask byte : ℕ) (one other : Request) (words : List ℕ) → SameKind one other
-    → touched there mask byte one words ≡ touched there mask byte other words
-touch_alike false mask byte one other words same = refl
-touch_alike true mask byte one other words same =
-    ap (λ (kind : Kind). record { element = byte / 8; kind = kind } ∷ []) (same (slice_index words (byte / 8)))
-
-abbrev touches_at : RowOp → (values words : List ℕ) → List Touch
-touches_at op values words = map touch_by (row_effects op values words)
-
-module _ (needed : List Bool) (words values cut_values : List ℕ)
-    (same : (k : ℕ) → IsNeeded needed k → slice_index values k ≡ slice_index cut_values k) where
-  change_at : (place : Place) (number value : ℕ) (request : Part → ℕ → Request)
-      → IsNeeded needed place.mask × IsNeeded needed place.address
-      → ((part : Part) (n m : ℕ) → SameKind (request part n) (request part m))
-      → touched (is_in cut_values place.mask) place.mask (byte_at cut_values place)
-      (request (part_named place.width (byte_at cut_values place)) (slice_index cut_values number)) words
-      ≡ touched (is_in values place.mask) place.mask (byte_at values place)
-      (request (part_named place.width (byte_at values place)) (slice_index values value)) words
-  change_at place number value request needs alike =
-      let byte = byte_at values place in
-      let part = part_named place.width byte in
-      let n = slice_index cut_values number in
-      let m = slice_index values value in
-      let named : ℕ → ℕ = λ address. byte_named address place.offset in
-      sym (ap₂ (λ (i a : ℕ). touched (i == 1) place.mask (named a) (request (part_named place.width (named a)) n) words)
-      (same place.mask needs.0) (same place.address needs.1))
-      ∙ touch_alike (is_in values place.mask) place.mask byte (request part n) (request part m) words (alike part n m)
-
-  change_touches : (op : RowOp) (number : ℕ) → IsChangeAt needed op
-      → touches_at (with_number op number) cut_values words ≡ touches_at op values words
+  change_touches : (op : RowOp) (number : ℕ) → IsChangeAt is.needed op
+      → touches_at op all ≡ touches_at (with_number op number) cut_values
   change_touches (Load place extension) number needs =
-      change_at place number number (λ part n. Loads part extension 0) needs (λ part n m word. refl)
-  change_touches (Store place value) number needs = change_at place number value store_of needs stores_alike
+      change_at place (λ part. Loads part extension 0) (λ part. Loads part extension 0) needs (λ part word. refl)
+  change_touches (Store place value) number needs = change_at place (λ part. store_of part (slice_index all value))
+      (λ part. store_of part (slice_index cut_values number)) needs (λ part. stores_alike part _ _)
   change_touches (Reduce place op value) number needs =
-      change_at place number value (λ part n. update_of part op n) needs (λ part n m. updates_alike part op n m)
+      change_at place (λ part. update_of part op (slice_index all value))
+      (λ part. update_of part op (slice_index cut_values number)) needs (λ part. updates_alike op part _ _)
   change_touches _ number needs = absurd needs
 
--- accesses that touch this, and are all those of effects at open elements
-record Keeps (spans : List Span) (touches : List Touch) (effects : List Effect) (now : List ℕ) : Type 0 where
-  made : List Access
-  touch : touches_of made ≡ touches
-  at_open : (e : ℕ) → IsInSome spans e → actions_at e made ≡ actions_at e (accesses_on now effects)
-
-both_kept : (spans : List Span) (one two : List Touch) (effects more : List Effect) (now : List ℕ)
-    → Keeps spans one effects now → Keeps spans two more (words_after_all (accesses_on now effects) now)
-    → Keeps spans (one ++ two) (effects ++ more) now
-both_kept spans one two effects more now first rest =
-    let then = accesses_on (words_after_all (accesses_on now effects) now) more in
-    record {
-      made = first.made ++ rest.made;
-      touch = map-append touch_of first.made rest.made ∙ ap₂ (λ (a b : List Touch). a ++ b) first.touch rest.touch;
-      at_open = λ e is. actions_at-append e first.made rest.made
-          ∙ ap₂ (λ (a b : List Action). a ++ b) (first.at_open e is) (rest.at_open e is)
-          ∙ sym (ap (actions_at e) (accesses_both now effects more)
-          ∙ actions_at-append e (accesses_on now effects) then);
-    }
-
-module _ (sites : List Site) (spans : List Span) (needed : List Bool) (number : ℕ) (words values cut_values : List ℕ)
-    (same : (k : ℕ) → IsNeeded needed k → slice_index values k ≡ slice_index cut_values k)
-    (clear : (k : ℕ) (site : Site) → slice_get sites k ≡ Some site → (e : ℕ) → Misses site e → Touches site.op values e
-    → ⊥) where
   abbrev KeepsOp : (op cut : RowOp) → (now : List ℕ) → Type 0
-  KeepsOp op cut now = Keeps spans (touches_at cut cut_values words) (row_effects op values words) now
+  KeepsOp op cut now = Keeps survey (touches_at cut cut_values) (row_effects op all words) now
 
   -- an operation that touches the same
-  all_kept : (op cut : RowOp) (now : List ℕ) → touches_at op values words ≡ touches_at cut cut_values words
-      → KeepsOp op cut now
+  all_kept : (op cut : RowOp) (now : List ℕ) → touches_at op all ≡ touches_at cut cut_values → KeepsOp op cut now
   all_kept op cut now alike = record {
-    made = accesses_on now (row_effects op values words);
-    touch = touches_on (row_effects op values words) now ∙ alike;
-    at_open = λ e is. refl;
+    made = accesses_on now (row_effects op all words);
+    touch = touches_on (row_effects op all words) now ∙ alike;
+    at_open = λ e inside. refl;
   }
 
   -- one that touches no open element
-  none_kept : (op : RowOp) (now : List ℕ) → (is_access op ≡ true → IsClosed sites spans op) → KeepsOp op (Number 0) now
+  none_kept : (op : RowOp) (now : List ℕ) → (is_access op ≡ true → IsClosed survey.sites.items survey.spans.items op)
+      → KeepsOp op (Number 0) now
   none_kept op now closed = record {
     made = [];
     touch = refl;
-    at_open = λ e is. sym (by_kind e is (is_access op) refl);
+    at_open = λ e inside. none_left _ (each_action all words e (λ action. ⊥) (IsDone op all)
+        (λ effect done here on. never e inside effect done here) (row_effects op all words) now (all_done all words
+        op));
   }
     where
-      by_place : (e : ℕ) (has : HasEffect op values words) (here : Bool) → (has.access.byte / 8 == e) ≡ here
-          → (Touches op values e → ⊥) → actions_at e (accesses_on now (effect_of has.access words ∷ [])) ≡ []
-      by_place e has true at never = absurd (never (touches_here values words e op has at))
-      by_place e has false at never =
-          ap (λ (b : Bool). with_first values words e b (action_of_first values words e has now) []) at
+      never : (e : ℕ) → IsInSome survey.spans.items e → (effect : Effect) → IsDone op all effect
+          → effect.element ≡ e → ⊥
+      never e inside effect done here =
+          let shut = closed (has-place op done.touches.place done.touches.is) in
+          let at : IsSite list known.facts shut.site = subst (IsSite list known.facts)
+          (get_or_from_slice_get survey.sites.items shut.k shut.site shut.site shut.there)
+          (known.are_sites.each shut.k shut.site (slice_get_within survey.sites.items shut.k shut.site shut.there)) in
+          let byte = named list known.facts shut.site index e known.are_facts at low
+          (record { caller = caller; words = found; values = all; are = run })
+          (rw shut.same (subst (Touches op all) here done.touches)) in
+          shut.avoids e inside byte.byte byte.sure.in_range byte.inside
 
-      by_effect : (e : ℕ) → (row_effects op values words ≡ []) ⊎ HasEffect op values words
-          → (Touches op values e → ⊥) → actions_at e (accesses_on now (row_effects op values words)) ≡ []
-      by_effect e (inl none) never = ap (λ (effects : List Effect). actions_at e (accesses_on now effects)) none
-      by_effect e (inr has) never =
-          ap (λ (effects : List Effect). actions_at e (accesses_on now effects)) has.effects
-          ∙ by_place e has (has.access.byte / 8 == e) refl never
-
-      by_kind : (e : ℕ) → IsInSome spans e → (b : Bool) → is_access op ≡ b
-          → actions_at e (accesses_on now (row_effects op values words)) ≡ []
-      by_kind e is false h =
-          ap (λ (effects : List Effect). actions_at e (accesses_on now effects)) (no_effects op values words h)
-      by_kind e is true h =
-          let site = closed h in
-          by_effect e (effect_or_none op values words)
-          (λ touch. clear site.k site.site site.there e (site.avoids e is)
-          (subst (λ (o : RowOp). Touches o values e) (sym site.same) touch))
-
-  op_kept : (k : ℕ) (op cut : RowOp) (now : List ℕ) → IsCut sites spans needed k number op cut → KeepsOp op cut now
-  op_kept k op cut now (inl whole) =
-      subst (λ (c : RowOp). KeepsOp op c now) (sym whole.same)
-      (all_kept op op now (ap (map touch_by)
-      (same_effects op words values cut_values (all_by (taken_by op) same whole.takes))))
+  op_kept : (k : ℕ) (op cut : RowOp) (now : List ℕ) → IsCutHere k op cut → KeepsOp op cut now
+  op_kept k op cut now (inl whole) = rw whole.same (all_kept op op now
+      (ap (map touch_by) (same_effects op words all cut_values (all_by (taken_by op) same whole.takes))))
   op_kept k op cut now (inr (inl change)) =
-      subst (λ (c : RowOp). KeepsOp op c now) (sym change.same)
-      (all_kept op (with_number op number) now
-      (sym (change_touches needed words values cut_values same op number change.change)))
-  op_kept k op cut now (inr (inr nothing)) =
-      subst (λ (c : RowOp). KeepsOp op c now) (sym nothing.same) (none_kept op now nothing.closed)
+      rw change.same (all_kept op (with_number op result) now (change_touches op result change.change))
+  op_kept k op cut now (inr (inr nothing)) = rw nothing.same (none_kept op now nothing.closed)
 
   -- each is cut so, at some place
-  abbrev AreCut : (list cuts : List RowOp) → Type 0
-  AreCut list cuts = (j : ℕ) (op cut : RowOp) → slice_get list j ≡ Some op → slice_get cuts j ≡ Some cut
-      → (k : ℕ) × IsCut sites spans needed k number op cut
+  list_kept : (ops cuts : List RowOp) → length cuts ≡ length ops → ((j : ℕ) (op cut : RowOp) → slice_get ops j ≡ Some op
+      → slice_get cuts j ≡ Some cut → (k : ℕ) × IsCutHere k op cut) → (now : List ℕ)
+      → Keeps survey (map touch_by (effects_by cuts cut_values words)) (effects_by ops all words) now
+  list_kept [] [] count cut now = record { made = []; touch = refl; at_open = λ e inside. refl }
+  list_kept [] (c ∷ cuts) count cut now = absurd (cc count)
+  list_kept (op ∷ ops) [] count cut now = absurd (cc count)
+  list_kept (op ∷ ops) (c ∷ cuts) count cut now =
+      let one = cut 0 op c refl refl in
+      rw (map-append touch_by (row_effects c cut_values words) (effects_by cuts cut_values words))
+      (both_kept survey (touches_at c cut_values) (map touch_by (effects_by cuts cut_values words))
+      (row_effects op all words) (effects_by ops all words) now (op_kept one.0 op c now one.1)
+      (list_kept ops cuts (omega (arith, count)) (λ j o d here there. cut (suc j) o d here there)
+      (words_after_all (accesses_on now (row_effects op all words)) now)))
 
-  list_kept : (list cuts : List RowOp) → length cuts ≡ length list → AreCut list cuts → (now : List ℕ)
-      → Keeps spans (map touch_by (effects_by cuts cut_values words)) (effects_by list values words) now
-  list_kept [] [] count are now = record { made = []; touch = refl; at_open = λ e is. refl }
-  list_kept [] (cut ∷ cuts) count are now = absurd (cc count)
-  list_kept (op ∷ list) [] count are now = absurd (cc count)
-  list_kept (op ∷ list) (cut ∷ cuts) count are now =
-      let on = words_after_all (accesses_on now (row_effects op values words)) now in
-      let one = are 0 op cut refl refl in
-      let fewer : length cuts ≡ length list = omega (arith, count) in
-      subst (λ (t : List Touch). Keeps spans t (effects_by (op ∷ list) values words) now)
-      (sym (map-append touch_by (row_effects cut cut_values words) (effects_by cuts cut_values words)))
-      (both_kept spans (touches_at cut cut_values words) (map touch_by (effects_by cuts cut_values words))
-      (row_effects op values words) (effects_by list values words) now (op_kept one.0 op cut now one.1)
-      (list_kept list cuts fewer (λ j o c here there. are (suc j) o c here there) on))
-
-pub survivors : (sites : List Site) (spans : List Span) (needed : List Bool) (number : ℕ) (list cuts : List RowOp)
-    → AreCuts sites spans needed number list cuts → (words values cut_values : List ℕ)
-    → ((k : ℕ) → IsNeeded needed k → slice_index values k ≡ slice_index cut_values k)
-    → ((k : ℕ) (site : Site) → slice_get sites k ≡ Some site → (e : ℕ) → Misses site e → Touches site.op values e → ⊥)
-    → Survivors spans list cuts words values cut_values
-survivors sites spans needed number list cuts are words values cut_values same clear =
-    let kept = list_kept sites spans needed number words values cut_values same clear list cuts are.count
-    (λ j op cut here there. (j, are.each j op cut here there)) words in
-    record { made = kept.made; touches = kept.touch; at_open = kept.at_open }
+  pub extended : Extended list n survey result slice index caller words cut_values
+  extended = record {
+    values = all;
+    are = run;
+    same = same result is.result_needed;
+    kept = list_kept list slice.list.list.items is.cuts.count
+        (λ j op cut here there. (j, is.cuts.each j op cut here there)) words;
+  }

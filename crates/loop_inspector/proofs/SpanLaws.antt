@@ -7,15 +7,15 @@ use Rattle.row_facts.proofs.FactLaws.{get-more}
 use Rattle.loop_core_model.specs.Planes.{bit_of}
 use Rattle.loop_marks.specs.SiteMarks.{SetsBits, over_lanes, runs_to, set_by_lane}
 use Rattle.loop_inspector.specs.{declared.reach.Span.{Span}, Slices.{AvoidsOpen}}
-use Rattle.loop_inspector.specs.Reach.{IsIn, IsSpanOf, Misses, AreApart, AreSitesApart}
+use Rattle.loop_inspector.specs.Reach.{IsIn, IsSpanOf, AreApart, AreSitesApart}
 use Rattle.loop_inspector.specs.Open.{AreKept, IsApartAt, IsInSome, IsPlaneOf, OpenAt, OpenUpto, SetsSpan}
 
--- an element of a list with one more
-pub get-kept : {X : Type 0} (xs : List X) (x y : X) (k : ℕ) → slice_get xs k ≡ Some y
-    → slice_get (xs ++ x ∷ []) k ≡ Some y
-get-kept [] x y k is = absurd (cc)
-get-kept (z ∷ xs) x y zero is = is
-get-kept (z ∷ xs) x y (suc k) is = get-kept xs x y k is
+-- an element of a list with more
+pub get-kept : {X : Type 0} (xs ys : List X) (y : X) (k : ℕ) → slice_get xs k ≡ Some y
+    → slice_get (xs ++ ys) k ≡ Some y
+get-kept [] ys y k is = absurd (cc)
+get-kept (z ∷ xs) ys y zero is = is
+get-kept (z ∷ xs) ys y (suc k) is = get-kept xs ys y k is
 
 pub get-last : {X : Type 0} (xs : List X) (x : X) (k : ℕ) → k ≡ length xs → slice_get (xs ++ x ∷ []) k ≡ Some x
 get-last [] x k is = ap (slice_get (x ∷ [])) is
@@ -26,7 +26,7 @@ in-kept : (spans : List Span) (span : Span) (e : ℕ) → IsInSome spans e → I
 in-kept spans span e is = record {
   k = is.k;
   span = is.span;
-  there = get-kept spans span is.span is.k is.there;
+  there = get-kept spans (span ∷ []) is.span is.k is.there;
   within = is.within;
 }
 
@@ -145,12 +145,12 @@ upto-more sites at n count old new there kept here before = record {
       read));
 }
 
--- an element is in the span of a site, or has no byte of it
-in-or-misses : (site : Site) (span : Span) (e : ℕ) → IsSpanOf site span → IsIn span e ⊎ Misses site e
-in-or-misses site span e is = elim (cases_lt e span.first) [
-  | inl below ↦ inr (λ byte within same. omega (arith, (is.each byte within).from, same, below))
+-- an element is in a span, or not
+in-or-not : (span : Span) (e : ℕ) → IsIn span e ⊎ (IsIn span e → ⊥)
+in-or-not span e = elim (cases_lt e span.first) [
+  | inl below ↦ inr (λ is. omega (arith, is.from, below))
   | inr from ↦ elim (cases_lt span.last e) [
-    | inl past ↦ inr (λ byte within same. omega (arith, (is.each byte within).upto, same, past))
+    | inl past ↦ inr (λ is. omega (arith, is.upto, past))
     | inr upto ↦ inl (record { from = from; upto = upto })
   ]
 ]
@@ -159,14 +159,11 @@ in-or-misses site span e is = elim (cases_lt e span.first) [
 pub open-both : (sites : List Site) (at by : Site) (n : ℕ) (one other both : Span) (spans : List Span) → IsSpanOf at one
     → IsSpanOf by other → ((e : ℕ) → IsIn one e → IsIn other e → IsIn both e)
     → ((e : ℕ) → IsIn both e → IsInSome spans e) → (e : ℕ) → IsInSome spans e ⊎ IsApartAt sites at by n e
-open-both sites at by n one other both spans at_is by_is common added e = elim (in-or-misses at one e at_is) [
-  | inr misses ↦ inr (inl (record {
-    never = λ earlier later x y order below first second here there. misses x first.in_range here;
+open-both sites at by n one other both spans at_is by_is common added e = elim (in-or-not both e) [
+  | inl inside ↦ inl (added e inside)
+  | inr outside ↦ inr (inl (record {
+    never = λ earlier later x y order below first second here there. outside
+        (common e (subst (IsIn one) here (at_is.each x first.in_range)) (subst (IsIn other) there
+        (by_is.each y second.in_range)));
   }))
-  | inl first ↦ elim (in-or-misses by other e by_is) [
-    | inr misses ↦ inr (inl (record {
-      never = λ earlier later x y order below first second here there. misses y second.in_range there;
-    }))
-    | inl second ↦ inl (added e (common e first second))
-  ]
 ]

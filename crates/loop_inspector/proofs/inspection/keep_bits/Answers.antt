@@ -10,12 +10,8 @@ use Rattle.loop_inspector.proofs.inspection.keep_bits.Goals as goal
 bits_here : (words others : List ℕ) (k e word : ℕ) → k < length words → word ≡ get_or others k 0 → e / 64 ≡ k
     → bit_of (set words k (bit_and (get_or words k 0) word)) e ≡ (bit_of words e && bit_of others e)
 bits_here words others k e word inside is same =
-    ap (λ (j : ℕ). eqb (bit_at (get_or (set words k (bit_and (get_or words k 0) word)) j 0) (e % 64)) 1) same
-    ∙ ap (λ (w : ℕ). eqb (bit_at w (e % 64)) 1) (get_or-set_same words k (bit_and (get_or words k 0) word) 0 inside)
-    ∙ bit-and (get_or words k 0) word (e % 64)
-    ∙ ap (λ (w : ℕ). eqb (bit_at (get_or words k 0) (e % 64)) 1 && eqb (bit_at w (e % 64)) 1) is
-    ∙ ap (λ (j : ℕ). eqb (bit_at (get_or words j 0) (e % 64)) 1 && eqb (bit_at (get_or others j 0) (e % 64)) 1)
-    (sym same)
+    rw (same, get_or-set_same words k (bit_and (get_or words k 0) word) 0 inside, ← is)
+    (bit-and (get_or words k 0) word (e % 64))
 
 bits_there : (words : List ℕ) (k e word : ℕ) → e / 64 ≢ k → bit_of (set words k word) e ≡ bit_of words e
 bits_there words k e word apart =

@@ -1,4 +1,4 @@
-use Rattle.std.proofs.Common.{◌≡◌, ◌∙◌, List, ℕ, length, take, drop, get_or, sym, subst, arith}
+use Rattle.std.proofs.Common.{◌≡◌, ◌∙◌, length, take, drop, get_or, sym, arith}
 use Rattle.std.proofs.lemmas.List.{take_at, take_more}
 use Rattle.loop_inspector.specs.{declared.reach.Span.{Span}, Open.{SetsSpan}}
 use Rattle.loop_inspector.proofs.SpanLaws.{plane-more}
@@ -11,9 +11,7 @@ loop-span-preserved c =
     let old = c.loop-span.plane.items in
     let new = c.set_span.new.plane in
     let span : Span = get_or spans k (record { first = 0; last = 0 }) in
-    let sets : SetsSpan span c.args.elements old new =
-    subst (λ (words : List ℕ). SetsSpan span c.args.elements words new) c.as_mut_slice.ensures.value
-    c.set_span.ensures in
+    let sets : SetsSpan span c.args.elements old new = rw c.as_mut_slice.ensures.value at c.set_span.ensures in
     let count : length new ≡ c.loop-span.plane.len = sets.count ∙ sym c.loop-span.plane.ok.0 in
     rw (
       take_at new (drop (length new) old) c.loop-span.plane.len count,

@@ -1,12 +1,12 @@
-use Rattle.std.proofs.Common.{◌≡◌, ◌∙◌, ℕ, ◌+◌, length, take, get_or, sym, ap, subst, inl, inr, arith}
-use Rattle.std.{specs.Prelude.{slice_get, Some}, proofs.lemmas.{Bool.{cases_lt}, List.{take_more}}}
+use Rattle.std.proofs.Common.{◌≡◌, ◌∙◌, ℕ, ◌+◌, true, length, take, get_or, sym, ap, subst, arith}
+use Rattle.std.{specs.Prelude.{slice_get, Some}, proofs.lemmas.List.{length_push, take_more}}
 use Rattle.std.proofs.lemmas.Option.{slice_get-get_or, slice_get_within}
 use Rattle.row_list.specs.{declared.row_op.RowOp.{RowOp, TheVariants.{All}}, Places.{is_access}}
-use Rattle.row_facts.specs.{Meetings.{LoadsNoneOwn}, Sites.{sites_of}}
-use Rattle.row_facts.proofs.SiteLaws.{some-same}
+use Rattle.row_facts.{specs.{Meetings.{LoadsNoneOwn}, Sites.{sites_of}}, proofs.SiteLaws.{sites_more, sites_same}}
 use Rattle.loop_inspector.specs.Slices.{IsNeeded}
-use Rattle.loop_inspector.proofs.CutLaws.{more-access, no-access}
-use Rattle.loop_inspector.proofs.slice.needs_no_own.Goals.{then-is_access+else-next-sites+else-is_set_at, else-is_access}
+use Rattle.loop_inspector.proofs.SpanLaws.{each-more}
+use Rattle.loop_inspector.proofs.slice.needs_no_own.Goals.{then-is_access+else-next-sites+else-is_set_at}
+use Rattle.loop_inspector.proofs.slice.needs_no_own.Goals.{else-is_access}
 use Rattle.loop_inspector.proofs.slice.needs_no_own.Goals.{else-is_set_at-via-then-is_set_at+else-may_load_own}
 use Rattle.loop_inspector.proofs.slice.needs_no_own.Goals.{else-is_set_at-via-else-is_set_at}
 use Rattle.loop_inspector.proofs.slice.needs_no_own.Goals as goal
@@ -21,27 +21,22 @@ loop-k-preserved c =
     record {
       next = rw (take_more ops k All c.loop-k-test.true) (elim c.if-is_access.branch [
         | then-is_access+else-next-sites+else-is_set_at w ↦ w.next-is ∙ ap (λ (n : ℕ). n + 1) inv.next
-            ∙ sym (more-access (take k ops) op (sym c.is_access.ensures ∙ w.if-is_access.true))
+            ∙ sym (length_push (sites_of (take k ops)) op)
+            ∙ ap length (sites_more (take k ops) op (sym c.is_access.ensures ∙ w.if-is_access.true))
         | else-is_access w ↦ w.next-is ∙ inv.next
-            ∙ sym (no-access (take k ops) op (sym c.is_access.ensures ∙ w.if-is_access.false))
+            ∙ ap length (sites_same (take k ops) op (sym c.is_access.ensures ∙ w.if-is_access.false))
       ]);
-      own = λ facts are_facts are_sites j one less here access need. elim (cases_lt j k) [
-        | inl old ↦ inv.own facts are_facts are_sites j one old here access need
-        | inr past ↦
-            let same : j ≡ k = omega (arith, past, less) in
-            let is_one : op ≡ one = some-same op one (sym there ∙ ap (slice_get ops) (sym same) ∙ here) in
-            let needed = subst (IsNeeded c.args.needed.now) same need in
-            subst (λ (i : ℕ). LoadsNoneOwn ops (length (sites_of (take i ops)))) (sym same)
-            (elim c.if-is_access.branch [
-              | then-is_access+else-next-sites+else-is_set_at w ↦ elim w.else-is_set_at.branch [
-                | else-is_set_at-via-then-is_set_at+else-may_load_own free ↦ subst (LoadsNoneOwn ops) inv.next
-                    (free.may_load_own.ensures free.if-may_load_own.false facts are_facts are_sites)
-                | else-is_set_at-via-else-is_set_at unset ↦
-                    absurd (cc (w.is_set_at.ensures.only needed, unset.if-is_set_at.false))
-              ]
-              | else-is_access w ↦ absurd (cc (ap is_access is_one ∙ access, c.is_access.ensures, w.if-is_access.false))
-            ])
-      ];
+      own = λ facts are_facts are_sites. each-more (λ (j : ℕ) (one : RowOp). is_access one ≡ true
+          → IsNeeded c.args.needed.now j → LoadsNoneOwn ops (length (sites_of (take j ops)))) ops k op there
+          (λ access need. elim c.if-is_access.branch [
+            | then-is_access+else-next-sites+else-is_set_at w ↦ elim w.else-is_set_at.branch [
+              | else-is_set_at-via-then-is_set_at+else-may_load_own free ↦ subst (LoadsNoneOwn ops) inv.next
+                  (free.may_load_own.ensures free.if-may_load_own.false facts are_facts are_sites)
+              | else-is_set_at-via-else-is_set_at unset ↦
+                  absurd (cc (w.is_set_at.ensures.only need, unset.if-is_set_at.false))
+            ]
+            | else-is_access w ↦ absurd (cc (access, c.is_access.ensures, w.if-is_access.false))
+          ]) (inv.own facts are_facts are_sites);
     }
 
 pub returns : goal.returns

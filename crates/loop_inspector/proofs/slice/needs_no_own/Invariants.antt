@@ -1,7 +1,8 @@
 use Rattle.std.proofs.Common.{◌≡◌, ℕ, ◌<◌, true, List, length, take}
 use Rattle.std.specs.Prelude.{slice_get, Some}
 use Rattle.row_list.specs.{declared.row_op.RowOp.{RowOp}, Places.{is_access}}
-use Rattle.row_facts.specs.{declared.fact.Fact.{Fact}, Facts.{AreFacts}, Meetings.{LoadsNoneOwn}, Sites.{AreSites, sites_of}}
+use Rattle.row_facts.specs.{declared.fact.Fact.{Fact}, Facts.{AreFacts}, Meetings.{LoadsNoneOwn}}
+use Rattle.row_facts.specs.Sites.{AreSites, sites_of}
 use Rattle.loop_inspector.specs.Slices.{IsNeeded}
 use Rattle.loop_inspector.proofs.slice.needs_no_own.Given as goal
 
