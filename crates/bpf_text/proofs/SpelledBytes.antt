@@ -10,7 +10,7 @@ use Rattle.bpf_insn_types.specs.declared.insn.Size.TheVariants as size
 use Rattle.bpf_insn_types.specs.declared.insn.MovsxBits.TheVariants as movsx
 use Rattle.bpf_insn_types.specs.declared.insn.ByteOrder.TheVariants as order
 use Rattle.bpf_insn_types.specs.declared.insn.Insn.TheVariants as insn
-use Rattle.bpf_insn.{specs.declared.{form.{AluCode.{AluCode}, Form.{Form}}, slot.Slot.{Slot}}, proofs.Forms.{each_code}}
+use Rattle.bpf_insn.specs.declared.{form.{AluCode.{AluCode}, Form.{Form}}, slot.Slot.{Slot}}
 use Rattle.bpf_insn.specs.{declared.codec_error.CodecFault.{CodecFault}, SlotBytes.{slot_bytes, slots_bytes}}
 use Rattle.bpf_insn.specs.Opcode.{alu_class, jump_class, alu_code, jump_code, size_bits, opcode}
 use Rattle.bpf_insn.specs.Spelling.{code_of, has_next, two_slots, spelling, bytes_at, spelling_from}
@@ -28,7 +28,8 @@ jump_small : (w : Width) → jump_class w ≤ 7
 jump_small w = leb-true (jump_class w) 7 (each_width (λ w. nat_le (jump_class w) 7 ≡ true) (assumption) w)
 
 alu_small : (c : AluCode) → alu_code c ≤ 12
-alu_small c = leb-true (alu_code c) 12 (each_code (λ c. nat_le (alu_code c) 12 ≡ true) (assumption) c)
+alu_small alu.Add = omega arith
+alu_small _ = omega arith
 
 compare_small : (c : Compare) → jump_code c ≤ 13
 compare_small c = leb-true (jump_code c) 13 (each_compare (λ c. nat_le (jump_code c) 13 ≡ true) (assumption) c)
