@@ -1,5 +1,5 @@
 -- How many instructions an iteration takes at most.
-use Rattle.std.proofs.Common.{◌≡◌, ℕ, sym, ap, ◌∙◌}
+use Rattle.std.proofs.Common.{◌≡◌, ℕ, sym, ap}
 use Rattle.bpf_insn_types.specs.Program.{Program, slot_count}
 use Rattle.bpf_verify_model.specs.Count.{longest, function_start, count_of}
 use Rattle.bpf_verify_sound.specs.Soundness.{most_from}
@@ -9,9 +9,3 @@ pub count_is : (program : Program) (function slot : ℕ) → function_start prog
     → most_from program slot ≡ count_of program.insns function
 unfolding count_of
 count_is program function slot same = ap (longest program.insns (slot_count program.insns)) (sym same)
-
--- functions that start at one slot have one count
-pub counts_same : (program : Program) (function other slot : ℕ) → function_start program.insns function ≡ slot
-    → function_start program.insns other ≡ slot → count_of program.insns function ≡ count_of program.insns other
-counts_same program function other slot here there =
-    sym (count_is program function slot here) ∙ count_is program other slot there

@@ -1,5 +1,5 @@
 -- One iteration more.
-use Rattle.std.proofs.Common.{◌≡◌, ℕ, ◌+◌, ◌==◌, Bool, List, [], ◌∷◌, ◌++◌, length, sym, ◌∙◌, ap, subst, arith}
+use Rattle.std.proofs.Common.{◌≡◌, ℕ, ◌+◌, ◌==◌, Bool, List, [], ◌∷◌, ◌++◌, length, ◌∙◌, ap, arith}
 use Rattle.std.proofs.lemmas.List.{map-append, length-map, length-append}
 use Rattle.array_maps.specs.{Accesses.{Access}, Store.{Effects}}
 use Rattle.bpf_step_model.specs.{Run.{Ended}, Iteration.{Iterated, iteration}}
@@ -15,11 +15,6 @@ pub still_under_way : (old new : Private) (more : List Access) → Effects Acces
     → (copy_of new).under_way ≡ (copy_of old).under_way
 still_under_way old new [] same = ap (λ (p : Private). (copy_of p).under_way) same
 still_under_way old new (access ∷ more) effects = still_under_way effects.0 new more effects.2 ∙ effects.1.under_way
-
--- the accesses of one iteration more
-pub accesses_more : (ran : List Iterated) (it : Iterated) → accesses_of_each (ran ++ it ∷ []) ≡ accesses_of_each ran
-    ++ it.accesses ∷ []
-accesses_more ran it = map-append (λ (i : Iterated). i.accesses) ran (it ∷ [])
 
 -- an iteration that was begun, made its accesses and ended
 module _ (law : AccessesFollow) (old new : Runner) (index need : ℕ) (begun run : Private) (it : Iterated)
@@ -47,21 +42,15 @@ module _ (law : AccessesFollow) (old new : Runner) (index need : ℕ) (begun run
       let runs : List (List Access) = accesses_of_each before in
       let here : CopyRecordsWithin (copy_of run) runs it.accesses =
       law.records begun run runs [] it.accesses (within runs has.copy) effects in
-      let many = length-map before (λ (i : Iterated). i.accesses) in
       let reached = has.reached in
       let was = has.begun in
       let one = one_begun in
-      let long : length (before ++ it ∷ []) ≡ length before + 1 = simp length-append (omega arith) in
-      let there : index ≡ first + length runs = omega (arith, many, reached) in
       record {
-        reached = omega (arith, reached, long);
-        begun = omega (arith, was, one, long);
-        copy = subst (λ (l : List (List Access)). CopyRecords (copy_of new.copy) l) (sym (accesses_more before it))
-            (records runs it.accesses here);
-        elements = shape.elements ∙ has.elements ∙ ap length (sym same_start);
-        planes = subst (λ (l : List (List Access)). StandFor new.planes (visits_of first l))
-            (sym (accesses_more before it))
-            (planes first runs it.accesses there here has.planes);
+        reached = simp length-append (omega arith);
+        begun = simp length-append (omega arith);
+        copy = rw map-append (records runs it.accesses here);
+        elements = shape.elements ∙ rw same_start has.elements;
+        planes = rw map-append (planes first runs it.accesses (rw length-map reached) here has.planes);
       }
 
   pub one_more : (broke : Bool) → broke ≡ (it.ret == 1) → RanOneMore index old new broke

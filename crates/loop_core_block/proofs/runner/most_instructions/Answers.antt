@@ -1,23 +1,19 @@
-use Rattle.std.proofs.{Common.{◌≡◌, ℕ, inl, inr, sym, ap, ◌∙◌, arith}, lemmas.Bool.{cases_eq, cases_lt}}
-use Rattle.bpf_verify_model.specs.Count.{function_start}
+use Rattle.std.proofs.{Common.{◌≡◌, inl, inr, sym, ◌∙◌, arith}, lemmas.Bool.{cases_eq, cases_lt}}
 use Rattle.bpf_step.proofs.Limits.{few_steps}
-use Rattle.loop_core_block.proofs.MostLaws.{count_is, counts_same}
+use Rattle.loop_core_block.proofs.MostLaws.{count_is}
 use Rattle.loop_core_block.proofs.runner.most_instructions.Goals as goal
 
 pub returns-then-start-slot-clause-enough : goal.returns-then-start-slot-clause-enough
 returns-then-start-slot-clause-enough c =
     let same = count_is c.args.program.now c.loop-function.function c.args.slot (sym c.start.ensures
     ∙ c.if-start-slot.true) in
-    let count = c.count.ensures in
-    omega (arith, same, count)
+    omega (arith, same, c.count.ensures)
 
 pub returns-then-start-slot-clause-few : goal.returns-then-start-slot-clause-few
 returns-then-start-slot-clause-few c =
     let same = count_is c.args.program.now c.loop-function.function c.args.slot (sym c.start.ensures
     ∙ c.if-start-slot.true) in
-    let count = c.count.ensures in
-    let few = few_steps c.args.program.now c.args.slot c.unit-unit.ensures.accepted in
-    omega (arith, same, count, few)
+    omega (arith, same, c.count.ensures, few_steps c.args.program.now c.args.slot c.unit-unit.ensures.accepted)
 
 pub returns-else-start-slot-clause-enough : goal.returns-else-start-slot-clause-enough
 returns-else-start-slot-clause-enough c = few_steps c.args.program.now c.args.slot c.unit-unit.ensures.accepted
@@ -27,17 +23,15 @@ returns-clause-enough c = few_steps c.args.program.now c.args.slot c.unit-unit.e
 
 pub loop-function-preserved : goal.loop-function-preserved
 loop-function-preserved c = λ k some below there. elim (cases_eq k c.loop-function.function) [
-  | inl same ↦
-      c.if-start-slot.false
-      (c.start.ensures ∙ ap (λ (n : ℕ). function_start c.args.program.now.insns n) (sym same) ∙ there)
-  | inr other ↦ c.loop-function.invariant k some (omega (arith, below, other)) there
+  | inl same ↦ c.if-start-slot.false (c.start.ensures ∙ rw same at there)
+  | inr other ↦ c.loop-function.invariant k some (omega arith) there
 ]
 
 pub returns-then-start-slot-clause-count : goal.returns-then-start-slot-clause-count
 returns-then-start-slot-clause-count c = λ function some within there.
     c.count.ensures
-    ∙ counts_same c.args.program.now c.loop-function.function function c.args.slot
-    (sym c.start.ensures ∙ c.if-start-slot.true) there
+    ∙ sym (count_is c.args.program.now c.loop-function.function c.args.slot (sym c.start.ensures
+    ∙ c.if-start-slot.true)) ∙ count_is c.args.program.now function c.args.slot there
 
 pub returns-else-start-slot-clause-count : goal.returns-else-start-slot-clause-count
 returns-else-start-slot-clause-count c = λ function some within there.
@@ -45,12 +39,11 @@ returns-else-start-slot-clause-count c = λ function some within there.
     absurd (elim (cases_lt function c.loop-function.function) [
       | inl early ↦ c.loop-function.invariant function some early there
       | inr late ↦
-          let same : function ≡ c.loop-function.function = omega (arith, count, within, late) in
-          c.if-start-slot.false
-          (c.start.ensures ∙ ap (λ (n : ℕ). function_start c.args.program.now.insns n) (sym same) ∙ there)
+          let same : function ≡ c.loop-function.function = omega arith in
+          c.if-start-slot.false (c.start.ensures ∙ rw same at there)
     ])
 
 pub returns-clause-count : goal.returns-clause-count
 returns-clause-count c = λ function some within there.
     let count = c.callbacks-function-end.ensures in
-    absurd (omega (arith, count, within, some))
+    absurd (omega arith)
