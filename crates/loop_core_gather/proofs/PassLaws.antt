@@ -1,8 +1,8 @@
 -- Loops that pass.
-use Rattle.std.proofs.Common.{◌≡◌, ℕ, List, subst, sym, ◌∙◌, ap}
+use Rattle.std.proofs.Common.{◌≡◌, ℕ, List}
 use Rattle.bpf_insn_types.specs.Program.{Program}
-use Rattle.bpf_step_model.specs.{State.{LoopCall}, Run.{Ended}}
-use Rattle.loop_core_model.specs.declared.{loop_test.Test.{Test}, verdict.Verdict.{Verdict, TheVariants.{Parallel}}}
+use Rattle.bpf_step_model.specs.State.{LoopCall}
+use Rattle.loop_core_model.specs.declared.{loop_test.Test.{Test}, verdict.Verdict.TheVariants.{Parallel}}
 use Rattle.loop_core_gather.specs.{declared.storing.LeftPage.{LeftPage}, Decisions.{Passes}, Gathered.{HasOutcome}}
 use Rattle.loop_core_gather.specs.{Held.{GatheredOf}, Pages.{AreLeft}}
 
@@ -12,8 +12,6 @@ pub passes_so : (test : Test) (program : Program) (call : LoopCall) (words : Lis
     → AreLeft g.start g.words pages → Passes test program call words answer pages
 passes_so test program call words g answer pages has passed same left = record {
   left = g.words;
-  outcome_is = has.passes passed
-      ∙ ap (λ (v : Verdict). Ended (record { verdict = v; answer = g.answer; words = g.words })) passed
-      ∙ ap (λ (n : ℕ). Ended (record { verdict = Parallel; answer = n; words = g.words })) (sym same);
-  pages_are = subst (λ (start : List ℕ). AreLeft start g.words pages) has.starts left;
+  outcome_is = rw same (rw passed at (has.passes passed));
+  pages_are = rw has.starts at left;
 }

@@ -22,7 +22,7 @@ pub struct Counting {
     pub places: ArrayVec<usize, PLACES>,
 }
 
-#[tactic(auto, using(crate::proofs::SummaryLaws::lesser_assoc))]
+#[tactic(auto, using(loop_core_model::proofs::Least::lesser_assoc))]
 fn least_break(blocks: &[Summary]) -> Option<u32>
     ensures { result ≡ least_broke blocks.now }
 {

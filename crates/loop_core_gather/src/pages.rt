@@ -15,7 +15,7 @@ use loop_core_model::PAGE;
 pub(crate) const PAGE_WORDS: usize = PAGE as usize;
 
 /// A word, and 0 past the last.
-#[tactic(auto, using(crate::proofs::PageLaws::past_all))]
+#[tactic(auto, using(std::proofs::lemmas::List::get_or_past))]
 fn word_at(words: &[u64], e: usize) -> u64
     ensures { result ≡ slice_index words.now e }
 {
@@ -50,7 +50,7 @@ pub(crate) fn page_of(words: &[u64], page: u32) -> [u64; PAGE_WORDS]
 }
 
 /// What a pass leaves at an element, and 0 past the last.
-#[tactic(auto, using(crate::proofs::PageLaws::past_all))]
+#[tactic(auto, using(std::proofs::lemmas::List::get_or_past))]
 fn left_at(gathered: &Gathered, e: usize) -> u64
     ensures { result ≡ slice_index gathered.now.words e }
 {

@@ -1,28 +1,34 @@
-use Rattle.std.proofs.Common.{◌<◌, ◌≤◌, map, length, get_or, sym, subst, arith}
-use Rattle.shadow_marks.specs.{declared.planes.Planes.{Planes}, Standing.{StandFor}}
-use Rattle.lane_planes.specs.Merged.{StandForSome}
-use Rattle.loop_core_block.specs.{declared.block.Block.{Block as Held}, Shown.{shown}}
-use Rattle.loop_core_gather.proofs.{ChoiceLaws.{chosen_next, all_at}, MergingLaws.{merged_next, merged_all}}
+use Rattle.std.proofs.Common.{◌<◌, ◌≤◌, ◌∙◌, map, length, get_or, append_assoc, arith}
+use Rattle.shadow_marks.specs.Standing.{StandFor}
+use Rattle.lane_planes.specs.Merged.{joined_visits, StandForSome}
+use Rattle.loop_core_block.specs.Shown.{shown}
+use Rattle.loop_core_gather.proofs.{ChoiceLaws.{chosen_next, all_at}, MergingLaws.{merged_all}}
 use Rattle.loop_core_gather.proofs.merged.merged_planes.Goals as goal
 
 pub loop-place-preserved : goal.loop-place-preserved
 loop-place-preserved c =
     let blocks = c.args.blocks.now in
-    let places = c.args.places.now in
     let i = c.loop-place.place-index in
+    let place = get_or c.args.places.now i 0 in
     let b = c.index-blocks-place.result in
+    let so_far = c.loop-place.invariant in
     let inside : c.loop-place.place-index < length c.args.places.now = omega arith in
     let within = c.requires.places i 0 inside in
-    let some : StandForSome (shown b).planes = subst (λ (held : Held). StandForSome (shown held).planes)
-    (sym c.index-blocks-place.is) (c.requires.planes (get_or places i 0) b within).stand in
-    merged_next c.args.elements c.args.test (map shown blocks) places c.loop-place.planes c.merge_touched.new.into i
-    (shown b) c.loop-place.invariant some
-    (chosen_next blocks places i b inside within c.index-blocks-place.is)
-    (λ each all. all_at (λ other. StandFor other.planes (each other)) blocks (get_or places i 0) b within
-    c.index-blocks-place.is all)
-    c.merge_touched.ensures.shape
-    (λ mine theirs stand also. c.merge_touched.ensures.visits mine theirs stand
-    (subst (λ (p : Planes). StandFor p theirs) (sym c.planes.ensures) also))
+    let is = chosen_next blocks c.args.places.now i b inside within c.index-blocks-place.is in
+    let some : StandForSome (shown c.index-blocks-place.result).planes =
+    rw c.index-blocks-place.is (c.requires.planes place b within).stand in
+    let joins = rw c.planes.ensures at c.merge_touched.ensures.visits in
+    record {
+      count = c.merge_touched.ensures.shape.elements ∙ so_far.count;
+      test_is = c.merge_touched.ensures.shape.test ∙ so_far.test_is;
+      stand = record { visits = _; stand = joins so_far.stand.visits some.visits so_far.stand.stand some.stand };
+      visits = λ each all. (let held = so_far.visits each all in record {
+        before = joined_visits held.before (each (shown b));
+        stand = joins held.before (each (shown b)) held.stand (all_at (λ other. StandFor other.planes (each other))
+            blocks place b within c.index-blocks-place.is all);
+        rest = λ e. rw append_assoc (rw is at (held.rest e));
+      });
+    }
 
 pub returns : goal.returns
 returns c =

@@ -1,26 +1,22 @@
-use Rattle.std.proofs.{Common.{◌≡◌, ℕ, ◌<◌, List, length, ◌∙◌, arith}, lemmas.List.{get_or_default}}
+use Rattle.std.proofs.{Common.{◌∙◌, arith}, lemmas.List.{get_or_default}}
 use Rattle.array_maps.specs.declared.access.Op.TheVariants.{Add, Or, And, Xor, AddH}
 use Rattle.loop_core_gather.proofs.PageLaws.{none_reduced}
 use Rattle.loop_core_gather.proofs.merged.reduced_in_page.Goals as goal
 
--- a page is within each plane
-in_plane : (words : List ℕ) (count page : ℕ) → count ≡ length words → page < length words → page < count
-in_plane words count page long inside = omega (arith, long, inside)
-
 pub index-requires : goal.index-requires
-index-requires c = in_plane _ _ _ c.args.planes.now.add.ok.0 (c.requires Add)
+index-requires c = omega (arith, c.requires Add, c.args.planes.now.add.ok.0)
 
 pub index-requires-2 : goal.index-requires-2
-index-requires-2 c = in_plane _ _ _ c.args.planes.now.or.ok.0 (c.requires Or)
+index-requires-2 c = omega (arith, c.requires Or, c.args.planes.now.or.ok.0)
 
 pub index-requires-3 : goal.index-requires-3
-index-requires-3 c = in_plane _ _ _ c.args.planes.now.and.ok.0 (c.requires And)
+index-requires-3 c = omega (arith, c.requires And, c.args.planes.now.and.ok.0)
 
 pub index-requires-4 : goal.index-requires-4
-index-requires-4 c = in_plane _ _ _ c.args.planes.now.xor.ok.0 (c.requires Xor)
+index-requires-4 c = omega (arith, c.requires Xor, c.args.planes.now.xor.ok.0)
 
 pub index-requires-5 : goal.index-requires-5
-index-requires-5 c = in_plane _ _ _ c.args.planes.now.addh.ok.0 (c.requires AddH)
+index-requires-5 c = omega (arith, c.requires AddH, c.args.planes.now.addh.ok.0)
 
 pub returns : goal.returns
 returns c unset =

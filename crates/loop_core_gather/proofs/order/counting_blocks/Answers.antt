@@ -1,24 +1,26 @@
-use Rattle.std.proofs.Common.{sym}
-use Rattle.loop_core_gather.proofs.FaultLaws.{missing, doubled, strange, counts}
+use Rattle.std.proofs.Common.{refl}
 use Rattle.loop_core_gather.proofs.order.counting_blocks.Goals as goal
 
 pub returns-in_default-clause-fault : goal.returns-in_default-clause-fault
-returns-in_default-clause-fault c = missing c.args.split.now c.args.blocks.now c.least_break-least.result
-    c.least_break-least.ensures c.in_default.ensures.none
+returns-in_default-clause-fault c = rw (← c.least_break-least.ensures, c.in_default.ensures.none) refl
 
 pub returns-then-has_twins-clause-fault : goal.returns-then-has_twins-clause-fault
 returns-then-has_twins-clause-fault c =
-    doubled c.args.split.now c.args.blocks.now c.least_break-least.result c.least_break-least.ensures
-    c.in-Some.places.items c.in-Some.ensures.some (sym c.if-has_twins.ensures)
+    rw (← c.least_break-least.ensures, c.in-Some.ensures.some, ← c.if-has_twins.ensures) refl
 
 pub returns-then-has_foreign-clause-fault : goal.returns-then-has_foreign-clause-fault
 returns-then-has_foreign-clause-fault c =
-    strange c.args.split.now c.args.blocks.now c.least_break-least.result c.least_break-least.ensures
-    c.in-Some.places.items c.in-Some.ensures.some (sym c.if-has_twins.ensures)
-    (sym c.if-has_foreign.ensures)
+    rw (← c.least_break-least.ensures, c.in-Some.ensures.some, ← c.if-has_twins.ensures, ← c.if-has_foreign.ensures)
+    refl
 
 pub returns-else-has_foreign-clause-counts : goal.returns-else-has_foreign-clause-counts
-returns-else-has_foreign-clause-counts c =
-    counts c.args.split.now c.args.blocks.now c.least_break-least.result c.least_break-least.ensures
-    c.in-Some.places.items c.in-Some.ensures.some (sym c.if-has_twins.ensures)
-    (sym c.if-has_foreign.ensures)
+returns-else-has_foreign-clause-counts c = record {
+  faultless = rw (
+    ← c.least_break-least.ensures,
+    c.in-Some.ensures.some,
+    ← c.if-has_twins.ensures,
+    ← c.if-has_foreign.ensures,
+  ) refl;
+  least_is = c.least_break-least.ensures;
+  in_order = rw (← c.least_break-least.ensures) c.in-Some.ensures.some;
+}

@@ -1,4 +1,4 @@
-use Rattle.loop_core_gather.proofs.SummaryLaws.{OrderSoFar}
+use Rattle.loop_core_gather.proofs.OrderLaws.{OrderSoFar}
 use Rattle.loop_core_gather.proofs.order.places_of.Given as goal
 
 abbrev pub invariant-loop-number : goal.invariant-loop-number

@@ -1,20 +1,16 @@
-use Rattle.std.proofs.Common.{◌<◌, ◌≤◌, length, arith}
-use Rattle.loop_core_gather.proofs.PageLaws.{overwritten_none, overwritten_next, overwritten_all}
+use Rattle.std.proofs.Common.{◌+◌, ◌*◌, ◌<◌, ◌∙◌, false, length, arith}
+use Rattle.std.specs.Prelude.{slice_index}
+use Rattle.loop_core_gather.proofs.ChoiceLaws.{kept_next}
 use Rattle.loop_core_gather.proofs.pages.overwrite_in_turn.Goals as goal
-
-pub loop-i-init : goal.loop-i-init
-loop-i-init c = overwritten_none c.args.elements c.args.page c.args.blocks.now c.args.places.now c.args.own.now
 
 pub loop-i-preserved : goal.loop-i-preserved
 loop-i-preserved c =
     let inside : c.loop-i.i < length c.args.places.now = omega arith in
-    overwritten_next c.args.elements c.args.page c.args.touched c.args.blocks.now c.args.places.now c.args.own.now
-    c.loop-i.own c.overwrite.new.own c.loop-i.i c.index-blocks-place.result c.has_bit.result c.requires.touched inside
-    (c.requires.places c.loop-i.i 0 inside) c.index-blocks-place.is c.has_bit.ensures c.overwrite.ensures.each
-    c.overwrite.ensures.past c.loop-i.invariant
-
-pub returns-clause-each : goal.returns-clause-each
-returns-clause-each c k below inside =
-    let past : length c.args.places.now ≤ c.loop-i.i = omega arith in
-    overwritten_all c.args.elements c.args.page c.args.blocks.now c.args.places.now c.args.own.now c.loop-i.own
-    c.loop-i.i past c.loop-i.invariant k below inside
+    record {
+      each = λ k below there. kept_next false (c.args.page * 64 + k) c.args.blocks.now c.args.places.now
+          (slice_index c.args.own.now k) (slice_index c.loop-i.own k) c.loop-i.i c.args.touched
+          c.index-blocks-place.result c.has_bit.result _ (c.requires.touched k below there) inside
+          (c.requires.places c.loop-i.i 0 inside) c.index-blocks-place.is c.has_bit.ensures
+          (c.overwrite.ensures.each k below there) (c.loop-i.invariant.each k below there);
+      past = λ k out. c.overwrite.ensures.past k out ∙ c.loop-i.invariant.past k out;
+    }

@@ -1,8 +1,5 @@
-use Rattle.std.{proofs.Common.{◌≡◌, ℕ, ◌+◌, ◌*◌, ◌<◌, length}, specs.Prelude.{slice_index}}
+use Rattle.loop_core_gather.proofs.PageLaws.{FilledTo}
 use Rattle.loop_core_gather.proofs.pages.page_by_elements.Given as goal
 
 abbrev pub invariant-loop-k : goal.invariant-loop-k
-invariant-loop-k l = record {
-  long : length l.own ≡ 64;
-  each : (j : ℕ) → j < l.k → slice_index l.own j ≡ slice_index l.gathered.words (l.page * 64 + j);
-}
+invariant-loop-k l = FilledTo l.gathered.words l.page l.own l.k

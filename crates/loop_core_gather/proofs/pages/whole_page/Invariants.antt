@@ -1,8 +1,5 @@
-use Rattle.std.{proofs.Common.{◌≡◌, ℕ, ◌+◌, ◌*◌, ◌<◌, length}, specs.Prelude.{slice_index}}
+use Rattle.loop_core_gather.proofs.PageLaws.{FilledTo}
 use Rattle.loop_core_gather.proofs.pages.whole_page.Given as goal
 
 abbrev pub invariant-loop-k : goal.invariant-loop-k
-invariant-loop-k l = record {
-  long : length l.own ≡ 64;
-  each : (j : ℕ) → j < l.k → slice_index l.own j ≡ slice_index l.words (l.page * 64 + j);
-}
+invariant-loop-k l = FilledTo l.words l.page l.own l.k

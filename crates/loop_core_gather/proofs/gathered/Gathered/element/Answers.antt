@@ -1,17 +1,14 @@
-use Rattle.std.proofs.Common.{◌≡◌, ◌+◌, ◌/◌, ◌<◌, rules, true, false, length, map, sym, ◌∙◌, ap, arith}
+use Rattle.std.proofs.Common.{◌≡◌, ◌+◌, ◌/◌, ◌<◌, rules, true, false, length, map, sym, ◌∙◌, arith}
 use Rattle.std.{specs.Prelude.{slice_index}, proofs.lemmas.List.{get_or_default}}
+use Rattle.private_copy.proofs.AccessLaws.{shown_length}
 use Rattle.loop_core_block.specs.Shown.{shown}
-use Rattle.loop_core_gather.specs.Held.{chosen, GatheredOf}
-use Rattle.loop_core_gather.proofs.HeldLaws.{start_within, starts_at, element_is, untouched_at, start_is_left}
+use Rattle.loop_core_gather.{specs.Held.{chosen}, proofs.HeldLaws.{starts_at, element_is, start_is_left}}
 use Rattle.loop_core_gather.proofs.gathered.Gathered.element.Goals.{After-self, Else-touched-eq0}
 use Rattle.loop_core_gather.proofs.gathered.Gathered.element.Goals as goal
 
 -- the element is one of the start
 inside : (c : After-self) → c.args.e < length c.self.inside.start.now
-inside c =
-    let held = c.self.inside in
-    start_within held.planes (chosen held.counting.items (map shown held.blocks.items)) held.start.now
-    c.args.self.now.words c.args.e (ap (λ (o : GatheredOf). o.words) c.self.view_is) c.requires
+inside c = rw (← c.self.view_is, shown_length) at c.requires
 
 -- and its page one of those that blocks touched or not
 page_inside : (c : After-self) → c.args.e / 64 < length c.self.inside.touched.items
@@ -36,31 +33,26 @@ is_reduction-requires-clause-within c =
     omega (arith, inside (goal.at.is_reduction-requires-clause-within c).After-self, c.self.invariant.count)
 
 pub combined-requires-clause-within : goal.combined-requires-clause-within
-combined-requires-clause-within c = starts_at c.self.inside.blocks.items c.deref.result.now
-    (length c.self.inside.start.now) c.args.e c.deref.ensures.value c.self.invariant.starts
-    (inside (goal.at.combined-requires-clause-within c).After-self)
+combined-requires-clause-within c = rw c.deref.ensures.value (starts_at c.self.inside.blocks.items
+    (length c.self.inside.start.now) c.args.e c.self.invariant.starts
+    (inside (goal.at.combined-requires-clause-within c).After-self))
 
 pub last_written-requires-clause-within : goal.last_written-requires-clause-within
-last_written-requires-clause-within c = starts_at c.self.inside.blocks.items c.deref-else-is_reduction.result.now
-    (length c.self.inside.start.now) c.args.e c.deref-else-is_reduction.ensures.value c.self.invariant.starts
-    (inside (goal.at.last_written-requires-clause-within c).After-self)
+last_written-requires-clause-within c = rw c.deref-else-is_reduction.ensures.value (starts_at
+    c.self.inside.blocks.items (length c.self.inside.start.now) c.args.e c.self.invariant.starts
+    (inside (goal.at.last_written-requires-clause-within c).After-self))
 
 pub combined-requires-clause-touched : goal.combined-requires-clause-touched
 combined-requires-clause-touched c =
-    let held = c.self.inside in
     let at = goal.at.combined-requires-clause-touched c in
-    untouched_at held.blocks.items c.deref.result.now held.counting.items c.deref-then-is_reduction.result.now
-    held.touched.items (length held.start.now) c.args.e c.index-touched.result.now c.deref.ensures.value
-    c.deref-then-is_reduction.ensures.0 (word_is at.Else-touched-eq0) (inside at.After-self) c.self.invariant.untouched
+    rw (c.deref.ensures.value, c.deref-then-is_reduction.ensures.0, word_is at.Else-touched-eq0)
+    (c.self.invariant.untouched c.args.e (inside at.After-self))
 
 pub last_written-requires-clause-touched : goal.last_written-requires-clause-touched
 last_written-requires-clause-touched c =
-    let held = c.self.inside in
     let at = goal.at.last_written-requires-clause-touched c in
-    untouched_at held.blocks.items c.deref-else-is_reduction.result.now held.counting.items
-    c.deref-else-is_reduction-2.result.now held.touched.items (length held.start.now) c.args.e
-    c.index-touched.result.now c.deref-else-is_reduction.ensures.value c.deref-else-is_reduction-2.ensures.0
-    (word_is at.Else-touched-eq0) (inside at.After-self) c.self.invariant.untouched
+    rw (c.deref-else-is_reduction.ensures.value, c.deref-else-is_reduction-2.ensures.0, word_is at.Else-touched-eq0)
+    (c.self.invariant.untouched c.args.e (inside at.After-self))
 
 pub returns-then-touched-eq0 : goal.returns-then-touched-eq0
 returns-then-touched-eq0 c =
@@ -70,25 +62,26 @@ returns-then-touched-eq0 c =
     c.index-touched.ensures ∙ get_or_default c.self.inside.touched.items (c.args.e / 64) c.index-touched.result.now 0
     (page_inside at.After-self) in
     let unset : c.index-touched.result.now ≡ 0 = first_of (search rules, omega arith) in
-    start_is_left held.planes held.blocks.items held.counting.items held.start.now held.touched.items c.args.e
-    c.index-touched.result.now c.args.self.now (inside at.After-self) (ap (λ (o : GatheredOf). o.words) c.self.view_is)
-    word unset c.self.invariant.untouched
+    rw (← c.self.view_is) (sym (start_is_left held.planes (map shown held.blocks.items) held.counting.items
+    held.start.now c.args.e (slice_index held.touched.items (c.args.e / 64)) (inside at.After-self) (sym word ∙ unset)
+    (c.self.invariant.untouched c.args.e (inside at.After-self))))
 
 pub returns-then-is_reduction : goal.returns-then-is_reduction
 returns-then-is_reduction c =
     let held = c.self.inside in
-    c.combined.ensures
-    ∙ element_is held.planes held.blocks.items c.deref.result.now held.counting.items
-    c.deref-then-is_reduction.result.now held.start.now c.args.e true c.args.self.now
-    (sym c.is_reduction.ensures ∙ c.if-is_reduction.true) (inside (goal.at.returns-then-is_reduction c).After-self)
-    c.deref.ensures.value c.deref-then-is_reduction.ensures.0 (ap (λ (o : GatheredOf). o.words) c.self.view_is)
+    rw (c.combined.ensures, c.deref.ensures.value, c.deref-then-is_reduction.ensures.0, ← c.self.view_is)
+    (sym (element_is held.planes (chosen held.counting.items (map shown held.blocks.items)) held.start.now c.args.e true
+    (sym c.is_reduction.ensures ∙ c.if-is_reduction.true) (inside (goal.at.returns-then-is_reduction c).After-self)))
 
 pub returns-else-is_reduction : goal.returns-else-is_reduction
 returns-else-is_reduction c =
     let held = c.self.inside in
-    c.last_written.ensures
-    ∙ element_is held.planes held.blocks.items c.deref-else-is_reduction.result.now held.counting.items
-    c.deref-else-is_reduction-2.result.now held.start.now c.args.e false c.args.self.now
-    (sym c.is_reduction.ensures ∙ c.if-is_reduction.false) (inside (goal.at.returns-else-is_reduction c).After-self)
-    c.deref-else-is_reduction.ensures.value c.deref-else-is_reduction-2.ensures.0
-    (ap (λ (o : GatheredOf). o.words) c.self.view_is)
+    rw (
+      c.last_written.ensures,
+      c.deref-else-is_reduction.ensures.value,
+      c.deref-else-is_reduction-2.ensures.0,
+      ← c.self.view_is,
+    )
+    (sym (element_is held.planes (chosen held.counting.items (map shown held.blocks.items)) held.start.now c.args.e
+    false (sym c.is_reduction.ensures ∙ c.if-is_reduction.false)
+    (inside (goal.at.returns-else-is_reduction c).After-self)))

@@ -5,5 +5,4 @@ use Rattle.loop_core_gather.proofs.gathered.Gathered.left_pages.Goals as goal
 pub returns : goal.returns
 returns c =
     IfOk-then c.left_in_turn.result _ _ c.left_in_turn.ensures (λ pages all.
-    are_left c.args.self.now.start c.args.self.now.words c.in_ok-numbers.numbers.items c.deref.result.now pages.items
-    c.deref.ensures.value c.in_ok-numbers.ensures all)
+    are_left _ _ c.in_ok-numbers.numbers.items pages.items c.in_ok-numbers.ensures (rw c.deref.ensures.value at all))

@@ -5,12 +5,10 @@ use Rattle.loop_core_gather.proofs.gathered.Gathered.left_pages_in_threads.Goals
 pub returns-then-len-lt-SHARED_PAGES : goal.returns-then-len-lt-SHARED_PAGES
 returns-then-len-lt-SHARED_PAGES g c =
     IfOk-then c.left_in_turn.result _ _ c.left_in_turn.ensures (λ pages all.
-    are_left c.args.self.now.start c.args.self.now.words c.in_ok-numbers.numbers.items c.deref.result.now pages.items
-    c.deref.ensures.value c.in_ok-numbers.ensures all)
+    are_left _ _ c.in_ok-numbers.numbers.items pages.items c.in_ok-numbers.ensures (rw c.deref.ensures.value at all))
 
 pub returns : goal.returns
 returns g c =
-    let deref = c.deref-else-len-lt-SHARED_PAGES in
     IfOk-then c.left_in_threads.result _ _ c.left_in_threads.ensures (λ pages all.
-    are_left c.args.self.now.start c.args.self.now.words c.in_ok-numbers.numbers.items deref.result.now pages.items
-    deref.ensures.value c.in_ok-numbers.ensures all)
+    are_left _ _ c.in_ok-numbers.numbers.items pages.items c.in_ok-numbers.ensures
+    (rw c.deref-else-len-lt-SHARED_PAGES.ensures.value at all))
