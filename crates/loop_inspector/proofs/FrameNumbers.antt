@@ -6,6 +6,7 @@ use Rattle.bpf_insn_types.specs.declared.{insn.Size.{Size, TheVariants.{B}}, ext
 use Rattle.bpf_insn_types.specs.{declared.extension.Extension.TheVariants.{Zeros, Signs}, Sizes.{bytes_of}}
 use Rattle.bpf_step_model.specs.{Step.{extended}, SoundMachine.{SoundByte}}
 use Rattle.bpf_step_ir.specs.Plain.{plain_number, plain_number_at}
+use Rattle.row_run.proofs.LoadLaws.{extended_fits}
 
 -- bytes, each below 256
 abbrev pub AreBytes : List ℕ → Type 0
@@ -33,17 +34,6 @@ number_below : (frame : List ℕ) (position count : ℕ) → AreBytes frame
 number_below frame position count fit =
     let many : position + count - position ≡ count = omega arith in
     rw many (taken_below count (drop position frame) (dropped_fit position frame fit))
-
-pub chosen_small : (b : Bool) (n m : ℕ) → n < 2 ^ 64 → m < 2 ^ 64 → (if b then n else m) < 2 ^ 64
-chosen_small true n m x y = x
-chosen_small false n m x y = y
-
--- a number of at most eight bytes is a word, however it is extended
-pub extended_fits : (extension : Extension) (size n : ℕ) → n < 256 ^ size → 256 ^ size ≤ 2 ^ 64
-    → extended extension size n < 2 ^ 64
-extended_fits Zeros size n h k = omega (arith, h, k)
-extended_fits Signs size n h k = chosen_small (nat_lt (2 * n) (256 ^ size)) n (n + (2 ^ 64 - 256 ^ size))
-    (omega (arith, h, k)) (omega (arith, h, k))
 
 few_bytes : (size : Size) → 256 ^ bytes_of size ≤ 2 ^ 64
 few_bytes B = omega arith

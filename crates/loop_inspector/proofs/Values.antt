@@ -20,7 +20,8 @@ use Rattle.row_list.specs.Rows.{RowAccess, bit, is_in, returned, row_value, row_
 use Rattle.row_list.specs.Rows.{IsRowValue}
 use Rattle.row_list.specs.Lanes.{row_accesses, run_words}
 use Rattle.row_facts.{specs.Ordered.{TakesBelow, IsOrdered}, proofs.SiteLaws.{some-same}}
-use Rattle.loop_inspector.proofs.FrameNumbers.{AreBytes, chosen_small, extended_fits, frame_number}
+use Rattle.row_run.proofs.LoadLaws.{chosen_small, loaded_small}
+use Rattle.loop_inspector.proofs.FrameNumbers.{AreBytes, frame_number}
 use Rattle.row_list.proofs.SameLanes.{Lane, TakesSame, all_by, lane_of, same_accesses, same_lane}
 use Rattle.row_list.proofs.ValueLaws.{fit_after_access}
 
@@ -41,13 +42,6 @@ found_small first count key x y = go (nat_lt key count) refl
         let below : key < count = grind (arith, nat_tests) in
         omega (arith, below, x, y)
     go false h = omega arith
-
-loaded_small : (part : Part) (extension : Extension) (word : ℕ) → word < 2 ^ 64
-    → extended extension (part_bytes part) (part_of part word) < 2 ^ 64
-unfolding half_of
-loaded_small Whole extension word h = extended_fits extension 8 word h (omega arith)
-loaded_small (Of Low) extension word h = extended_fits extension 4 (word % 2 ^ 32) (omega arith) (omega arith)
-loaded_small (Of High) extension word h = extended_fits extension 4 (word / 2 ^ 32) (omega (arith, h)) (omega arith)
 
 returned_small : (request : Request) (word : ℕ) → word < 2 ^ 64 → returned request word < 2 ^ 64
 returned_small (Loads part extension into) word h = loaded_small part extension word h
