@@ -1,7 +1,7 @@
 -- What clap's builders make of a command, its getters read of an argument, and the subcommands ask for.
 use Rattle.std.proofs.Common.{◌≡◌, ℕ, Bool, ◌||◌, T, ◌==◌, true, false, Option, Some, refl, sym, subst, None, Result}
 use Rattle.std.{proofs.Common.{Ok, Err, List, [], ◌∷◌, length, codes, ap, ap₂, ◌∙◌}, specs.Prelude.{Box, option_map}}
-use Rattle.std.specs.{Box.{box_value}, Str.{bytes_eq, Parse.{ParsesUnsigned}}}
+use Rattle.std.specs.{Box.{box_value}, List.{AllZip, fold}, Str.{bytes_eq, Parse.{ParsesUnsigned}}}
 use Rattle.clap.specs.Words.{AddsArg, AddsInTurn, AddsSubcommand, App, ReadsOne, Row, Rule, Text, first_of, one_of}
 use Rattle.clap.specs.Words.{one_text, rows_of, subcommand_rows, with_rule, with_subcommand}
 use Rattle.clap.specs.declared.{builder.{arg.Arg.{Arg}, command.Command.{Command}}, parser.matches.Found.{Found}}
@@ -9,45 +9,33 @@ use Rattle.clap.specs.declared.parser.matches.{ArgMatches.TheViews.{out-SubComma
 use Rattle.clap.proofs.WalkLemmas.{one_text-rows}
 use Rattle.loop_core_model.specs.declared.loop_test.Test.{Test, TheVariants.{Flow, Lrpd}}
 use Rattle.loop_core_split.specs.declared.plan.{Plan.{Plan}, Policy.{Policy, TheVariants.{Pays, Blocks}}}
-use Rattle.bpfspec_command_line.specs.CommandLine.{AreArgs, AreCommands, AsksFor, AsksForJob, AsksForStats, Finds}
-use Rattle.bpfspec_command_line.specs.CommandLine.{IsArg, IsArgument, IsAskOf, IsChosen, IsCommand, with_commands}
-use Rattle.bpfspec_command_line.specs.CommandLine.{with_rules, IsNumber, IsNumberWithin, IsPlanOf, IsPolicy, IsTest}
-use Rattle.bpfspec_command_line.specs.declared.job.{Ask.{Ask}, Job.{Job, TheVariants.{Serve, Run, Facts}}, Mode.{Mode}}
+use Rattle.bpfspec_command_line.specs.CommandLine.{AsksForJob, AsksForStats, Finds, HasFlag, IsArg, IsAskOf, IsCommand}
+use Rattle.bpfspec_command_line.specs.CommandLine.{IsNumber, IsNumberWithin, IsPlanOf, IsPolicy, IsTest, Names}
+use Rattle.bpfspec_command_line.specs.declared.job.{Ask.{Ask}, Job.{Job, TheVariants.{Serve, Run, Facts}}}
 use Rattle.bpfspec_command_line.specs.declared.job.Mode.TheVariants.{Verify, Order, Replay, Asm, Disasm}
 
--- what a flag chooses that is read as given or not
-pub chosen : {A : Type 0} (found : Found) (name : Text) (off on value : A) (given : Bool)
-    → (one_text found name ≡ None → given ≡ false) → (one_text found name ≡ Some (codes "true") → given ≡ true)
-    → (one_text found name ≡ Some (codes "false") → given ≡ false) → (given ≡ false → value ≡ off)
-    → (given ≡ true → value ≡ on) → IsChosen name off on (rows_of found) value
-chosen found name off on value given none set unset is_off is_on = record {
-  none = λ e. is_off (none (one_text-rows found name ∙ e));
-  unset = λ e. is_off (unset (one_text-rows found name ∙ e));
-  set = λ e. is_on (set (one_text-rows found name ∙ e));
-}
-
 -- the number that an option gives, or that it gives none
-number_given : {E : Type 0} (gives : List ℕ → Result ℕ E → Type 0) (bits : ℕ) (name : Text)
-    → ((bytes : List ℕ) (r : Result ℕ E) → gives bytes r → ParsesUnsigned bits 10 bytes r) → (rows : List Row) (n : ℕ)
+number_given : {E : Type 0} (gives : List ℕ → Result ℕ E → Type 0) (name : Text)
+    → ((bytes : List ℕ) (r : Result ℕ E) → gives bytes r → ParsesUnsigned 64 10 bytes r) → (rows : List Row) (n : ℕ)
     → (given : Option Text) → given ≡ one_of name rows → (given ≡ None → Some n ≡ None)
-    → ((text : Text) → given ≡ Some text → ReadsOne gives text (Some n)) → IsNumber bits name rows n
-number_given gives bits name parses rows n None is none some =
+    → ((text : Text) → given ≡ Some text → ReadsOne gives text (Some n)) → IsNumber name rows n
+number_given gives name parses rows n None is none some =
     let other = none refl in
     absurd cc
-number_given gives bits name parses rows n (Some text) is none some =
+number_given gives name parses rows n (Some text) is none some =
     let read = parses text (Ok n) (some text refl) in
     record { text = text; given = sym is; numeral = read.0.0; below = read.0.1; number_is = read.1 }
 
-pub number_read : {E : Type 0} (gives : List ℕ → Result ℕ E → Type 0) (bits : ℕ) (name : Text)
-    → ((bytes : List ℕ) (r : Result ℕ E) → gives bytes r → ParsesUnsigned bits 10 bytes r)
+pub number_read : {E : Type 0} (gives : List ℕ → Result ℕ E → Type 0) (name : Text)
+    → ((bytes : List ℕ) (r : Result ℕ E) → gives bytes r → ParsesUnsigned 64 10 bytes r)
     → (found : Found) (read : Option ℕ) → (one_text found name ≡ None → read ≡ None)
     → ((text : Text) → one_text found name ≡ Some text → ReadsOne gives text read)
-    → Finds (IsNumber bits name (rows_of found)) read
-number_read gives bits name parses found None none some = λ n is.
+    → Finds (IsNumber name (rows_of found)) read
+number_read gives name parses found None none some = λ n is.
     let read = some is.text (one_text-rows found name ∙ is.given) in
     parses is.text (Err read.0) read.1 (is.numeral, is.below)
-number_read gives bits name parses found (Some n) none some =
-    number_given gives bits name parses (rows_of found) n (one_text found name) (one_text-rows found name) none some
+number_read gives name parses found (Some n) none some =
+    number_given gives name parses (rows_of found) n (one_text found name) (one_text-rows found name) none some
 
 -- the subcommand that was used, by its name and its rows
 pub subcommand_named : {Z : Type 0} (used : Option (Box SubCommand Z)) (name : Text) (rows : List Row)
@@ -102,7 +90,7 @@ other_policy rows word is pays blocks Blocks named =
     differs word (codes "blocks") (same_word (first_of (codes "way") rows) word (codes "blocks") is named) blocks refl
 
 -- no number where an option gives none, and no plan where one of its numbers is missing
-pub no_number : (most : ℕ) (name : Text) (rows : List Row) → ((n : ℕ) → ¬ (IsNumber 32 name rows n)) → (n : ℕ)
+pub no_number : (most : ℕ) (name : Text) (rows : List Row) → ((n : ℕ) → ¬ (IsNumber name rows n)) → (n : ℕ)
     → ¬ (IsNumberWithin most name rows n)
 no_number most name rows none n within = none n within.given
 
@@ -130,70 +118,77 @@ initial (letter ∷ rest) = letter
 same_initial : {a b : Text} (letter : ℕ) → a ≡ b → T (initial a == letter) → T (initial b == letter)
 same_initial letter same = subst (λ (name : Text). T (initial name == letter)) same
 
--- order asks for no mode where its argument is no number
-order_for : (rows : List Row) → ((n : ℕ) → ¬ (IsArgument rows n)) → (mode : Mode)
-    → ¬ (AsksFor (Some (codes "order", rows)) mode)
-order_for rows none (Verify form) asks = same_initial 111 asks.0 tt
-order_for rows none (Order form argument) asks = none argument asks.2
-order_for rows none (Replay form argument test) asks = same_initial 111 asks.0 tt
-order_for rows none Asm asks = same_initial 111 asks tt
-order_for rows none Disasm asks = same_initial 111 asks tt
-
-pub no_order : (named : Option (Text × List Row)) (rows : List Row) → named ≡ Some (codes "order", rows)
-    → ((n : ℕ) → ¬ (IsArgument rows n)) → (mode : Mode) → ¬ (AsksFor named mode)
-no_order named rows is none = subst (λ (used : Option (Text × List Row)). (mode : Mode) → ¬ (AsksFor used mode))
-    (sym is) (order_for rows none)
+-- order asks for no job where its argument is no number
+order_for : (rows : List Row) → ((n : ℕ) → ¬ (IsNumber (codes "arg") rows n)) → (job : Job)
+    → ¬ (Names (codes "order") rows job)
+order_for rows none (Serve (Verify form)) asks = same_initial 111 asks.0 tt
+order_for rows none (Serve (Order form arg)) asks = none arg asks.2
+order_for rows none (Serve (Replay form arg test)) asks = same_initial 111 asks.0 tt
+order_for rows none (Serve Asm) asks = same_initial 111 asks tt
+order_for rows none (Serve Disasm) asks = same_initial 111 asks tt
+order_for rows none (Run form arg plan) asks = same_initial 111 asks.0 tt
+order_for rows none (Facts ask) asks = same_initial 111 asks.0 tt
 
 -- replay asks for none where its argument is no number, or its test is none
-replay_for : (rows : List Row) → ((n : ℕ) (test : Test) → IsArgument rows n → ¬ (IsTest rows test)) → (mode : Mode)
-    → ¬ (AsksFor (Some (codes "replay", rows)) mode)
-replay_for rows none (Verify form) asks = same_initial 114 asks.0 tt
-replay_for rows none (Order form argument) asks = same_initial 114 asks.0 tt
-replay_for rows none (Replay form argument test) asks = none argument test asks.2 asks.3
-replay_for rows none Asm asks = same_initial 114 asks tt
-replay_for rows none Disasm asks = same_initial 114 asks tt
+replay_for : (rows : List Row) → ((n : ℕ) (test : Test) → IsNumber (codes "arg") rows n → ¬ (IsTest rows test))
+    → (job : Job) → ¬ (Names (codes "replay") rows job)
+replay_for rows none (Serve (Verify form)) asks = same_initial 114 asks.0 tt
+replay_for rows none (Serve (Order form arg)) asks = same_initial 114 asks.0 tt
+replay_for rows none (Serve (Replay form arg test)) asks = none arg test asks.2 asks.3
+replay_for rows none (Serve Asm) asks = same_initial 114 asks tt
+replay_for rows none (Serve Disasm) asks = same_initial 114 asks tt
+replay_for rows none (Run form arg plan) asks = subst (λ (name : Text). T (length name == 6)) asks.0 tt
+replay_for rows none (Facts ask) asks = same_initial 114 asks.0 tt
 
-pub no_replay : (named : Option (Text × List Row)) (rows : List Row) → named ≡ Some (codes "replay", rows)
-    → ((n : ℕ) (test : Test) → IsArgument rows n → ¬ (IsTest rows test)) → (mode : Mode) → ¬ (AsksFor named mode)
-no_replay named rows is none = subst (λ (used : Option (Text × List Row)). (mode : Mode) → ¬ (AsksFor used mode))
-    (sym is) (replay_for rows none)
-
--- run asks for no job where its argument is no number, or it has no plan
-run_for : (rows : List Row) → ((n : ℕ) (plan : Plan) → IsArgument rows n → ¬ (IsPlanOf rows plan)) → (job : Job)
-    → ¬ (AsksForJob (Some (codes "run", rows)) job)
+-- run asks for none where its argument is no number, or it has no plan
+run_for : (rows : List Row) → ((n : ℕ) (plan : Plan) → IsNumber (codes "arg") rows n → ¬ (IsPlanOf rows plan))
+    → (job : Job) → ¬ (Names (codes "run") rows job)
 run_for rows none (Serve (Verify form)) asks = same_initial 114 asks.0 tt
-run_for rows none (Serve (Order form argument)) asks = same_initial 114 asks.0 tt
-run_for rows none (Serve (Replay form argument test)) asks =
-    subst (λ (name : Text). T (length name == 3)) asks.0 tt
+run_for rows none (Serve (Order form arg)) asks = same_initial 114 asks.0 tt
+run_for rows none (Serve (Replay form arg test)) asks = subst (λ (name : Text). T (length name == 3)) asks.0 tt
 run_for rows none (Serve Asm) asks = same_initial 114 asks tt
 run_for rows none (Serve Disasm) asks = same_initial 114 asks tt
-run_for rows none (Run form argument plan) asks = none argument plan asks.2 asks.3
+run_for rows none (Run form arg plan) asks = none arg plan asks.2 asks.3
 run_for rows none (Facts ask) asks = same_initial 114 asks.0 tt
 
-pub no_run : (named : Option (Text × List Row)) (rows : List Row) → named ≡ Some (codes "run", rows)
-    → ((n : ℕ) (plan : Plan) → IsArgument rows n → ¬ (IsPlanOf rows plan)) → (job : Job) → ¬ (AsksForJob named job)
-no_run named rows is none = subst (λ (used : Option (Text × List Row)). (job : Job) → ¬ (AsksForJob used job))
-    (sym is) (run_for rows none)
-
--- facts asks for no job where its arguments ask for none
+-- facts asks for none where its arguments ask for none
 facts_for : (rows : List Row) → ((ask : Ask) → ¬ (IsAskOf rows ask)) → (job : Job)
-    → ¬ (AsksForJob (Some (codes "facts", rows)) job)
+    → ¬ (Names (codes "facts") rows job)
 facts_for rows none (Serve (Verify form)) asks = same_initial 102 asks.0 tt
-facts_for rows none (Serve (Order form argument)) asks = same_initial 102 asks.0 tt
-facts_for rows none (Serve (Replay form argument test)) asks = same_initial 102 asks.0 tt
+facts_for rows none (Serve (Order form arg)) asks = same_initial 102 asks.0 tt
+facts_for rows none (Serve (Replay form arg test)) asks = same_initial 102 asks.0 tt
 facts_for rows none (Serve Asm) asks = same_initial 102 asks tt
 facts_for rows none (Serve Disasm) asks = same_initial 102 asks tt
-facts_for rows none (Run form argument plan) asks = same_initial 102 asks.0 tt
+facts_for rows none (Run form arg plan) asks = same_initial 102 asks.0 tt
 facts_for rows none (Facts ask) asks = none ask asks.1
+
+-- the same where words name that subcommand
+asks_for_none : (named : Option (Text × List Row)) (name : Text) (rows : List Row) → named ≡ Some (name, rows)
+    → ((job : Job) → ¬ (Names name rows job)) → (job : Job) → ¬ (AsksForJob named job)
+asks_for_none named name rows is =
+    subst (λ (used : Option (Text × List Row)). (job : Job) → ¬ (AsksForJob used job)) (sym is)
+
+pub no_order : (named : Option (Text × List Row)) (rows : List Row) → named ≡ Some (codes "order", rows)
+    → ((n : ℕ) → ¬ (IsNumber (codes "arg") rows n)) → (job : Job) → ¬ (AsksForJob named job)
+no_order named rows is none = asks_for_none named (codes "order") rows is (order_for rows none)
+
+pub no_replay : (named : Option (Text × List Row)) (rows : List Row) → named ≡ Some (codes "replay", rows)
+    → ((n : ℕ) (test : Test) → IsNumber (codes "arg") rows n → ¬ (IsTest rows test)) → (job : Job)
+    → ¬ (AsksForJob named job)
+no_replay named rows is none = asks_for_none named (codes "replay") rows is (replay_for rows none)
+
+pub no_run : (named : Option (Text × List Row)) (rows : List Row) → named ≡ Some (codes "run", rows)
+    → ((n : ℕ) (plan : Plan) → IsNumber (codes "arg") rows n → ¬ (IsPlanOf rows plan)) → (job : Job)
+    → ¬ (AsksForJob named job)
+no_run named rows is none = asks_for_none named (codes "run") rows is (run_for rows none)
 
 pub no_facts : (named : Option (Text × List Row)) (rows : List Row) → named ≡ Some (codes "facts", rows)
     → ((ask : Ask) → ¬ (IsAskOf rows ask)) → (job : Job) → ¬ (AsksForJob named job)
-no_facts named rows is none = subst (λ (used : Option (Text × List Row)). (job : Job) → ¬ (AsksForJob used job))
-    (sym is) (facts_for rows none)
+no_facts named rows is none = asks_for_none named (codes "facts") rows is (facts_for rows none)
 
 -- the stats of run, and of any other subcommand
 pub stats_of_run : (named : Option (Text × List Row)) (rows : List Row) (stats : Bool)
-    → named ≡ Some (codes "run", rows) → IsChosen (codes "stats") false true rows stats → AsksForStats named stats
+    → named ≡ Some (codes "run", rows) → HasFlag (codes "stats") rows stats → AsksForStats named stats
 stats_of_run named rows stats is given =
     subst (λ (used : Option (Text × List Row)). AsksForStats used stats) (sym is)
     ((λ same. given), (λ other. absurd (other refl)))
@@ -223,7 +218,7 @@ with_command {app} {sub_app} {old} {sub} {new} is its adds = record {
 
 -- a command with these arguments more, added in turn, and with these subcommands more
 pub with_args : {app : App} {old new : Command} (rules : List Rule) (args : List Arg) → IsCommand app old
-    → AreArgs rules args → AddsInTurn AddsArg old args new → IsCommand (with_rules app rules) new
+    → AllZip IsArg rules args → AddsInTurn AddsArg old args new → IsCommand (fold with_rule app rules) new
 with_args [] [] is are same = subst (IsCommand _) same is
 with_args [] (arg ∷ args) is are adds = absurd are
 with_args (rule ∷ rules) [] is are adds = absurd are
@@ -231,7 +226,8 @@ with_args (rule ∷ rules) (arg ∷ args) is are adds =
     with_args rules args (with_arg arg is are.0 adds.1) are.1 adds.2
 
 pub with_subcommands : {app : App} {old new : Command} (apps : List App) (subs : List Command) → IsCommand app old
-    → AreCommands apps subs → AddsInTurn AddsSubcommand old subs new → IsCommand (with_commands app apps) new
+    → AllZip IsCommand apps subs → AddsInTurn AddsSubcommand old subs new
+    → IsCommand (fold (λ (made sub : App). with_subcommand made sub.top) app apps) new
 with_subcommands [] [] is are same = subst (IsCommand _) same is
 with_subcommands [] (sub ∷ subs) is are adds = absurd are
 with_subcommands (first ∷ apps) [] is are adds = absurd are

@@ -1,10 +1,9 @@
--- What is told of words, by the kinds of error that clap may give.
-use Rattle.std.proofs.Common.{◌≡◌, ◌⊎◌, inl, inr, subst, true, List, Result}
+-- What is said of words, by the kinds of error that clap may give.
+use Rattle.std.proofs.Common.{◌≡◌, ◌≢◌, ◌⊎◌, inl, inr, subst, true, List, Result}
 use Rattle.clap.specs.Words.{App, FailsBy, IsAmong, Kinds, Text, fault_of, is_simple_and_free}
 use Rattle.clap.specs.declared.error.{Error.{Error}, kind.ErrorKind.{ErrorKind}}
 use Rattle.clap.specs.declared.error.kind.ErrorKind.TheVariants.{DisplayHelp, DisplayVersion, OutOfMemory}
-use Rattle.bpfspec_command_line.specs.{Faults.{Shows, is_usage}, declared.job.LineFault.{LineFault}}
-use Rattle.bpfspec_command_line.specs.declared.job.LineFault.TheVariants.{Memory}
+use Rattle.bpfspec_command_line.specs.Faults.{Shows}
 
 -- of the kinds that an error may have, where it shows help or the version
 pub asked : (kinds : Kinds) (kind : ErrorKind) → (kind ≡ OutOfMemory) ⊎ IsAmong kind kinds → Shows kind
@@ -14,14 +13,11 @@ asked kinds kind (inl out) (inr version) = absurd cc
 asked kinds kind (inr among) (inl help) = inl (subst (λ k. IsAmong k kinds) help among)
 asked kinds kind (inr among) (inr version) = inr (subst (λ k. IsAmong k kinds) version among)
 
--- and where what is told of it is that words are wrong
-pub wrong : (kinds : Kinds) (kind : ErrorKind) (told : LineFault) → (kind ≡ OutOfMemory) ⊎ IsAmong kind kinds
-    → (kind ≡ OutOfMemory → told ≡ Memory) → is_usage told ≡ true → ¬ (Shows kind)
-    → (k : ErrorKind) × IsAmong k kinds × ¬ (Shows k)
-wrong kinds kind told (inl out) memory usage shown =
-    let is_memory = memory out in
-    absurd cc
-wrong kinds kind told (inr among) memory usage shown = (kind, among, shown)
+-- and where it shows neither
+pub wrong : (kinds : Kinds) (kind : ErrorKind) → (kind ≡ OutOfMemory) ⊎ IsAmong kind kinds → kind ≢ OutOfMemory
+    → ¬ (Shows kind) → (k : ErrorKind) × IsAmong k kinds × ¬ (Shows k)
+wrong kinds kind (inl out) memory shown = absurd (memory out)
+wrong kinds kind (inr among) memory shown = (kind, among, shown)
 
 -- how the parse of a command line may fail
 pub fails_of : {T : Type 0} {made app : App} (words : List Text) (result : Result T Error) → made ≡ app

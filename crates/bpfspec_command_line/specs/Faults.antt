@@ -2,7 +2,8 @@
 use Rattle.std.specs.Prelude.{◌≡◌, ◌⊎◌, Bool, true, false, List, []}
 use Rattle.clap.specs.{Words.{App, IsAmong, Text, fault_of, subcommand_of}, declared.error.kind.ErrorKind.{ErrorKind}}
 use Rattle.clap.specs.declared.error.kind.ErrorKind.TheVariants.{DisplayHelp, DisplayVersion}
-use Rattle.bpfspec_command_line.specs.{CommandLine.{AsksForJob, bpfspec_app}, declared.job.LineFault.{LineFault}}
+use Rattle.bpfspec_command_line.specs.CommandLine.{AsksForJob, bpfspec_app}
+use Rattle.bpfspec_command_line.specs.declared.job.{Job.{Job}, LineFault.{LineFault}}
 use Rattle.bpfspec_command_line.specs.declared.job.LineFault.TheVariants.{Help, Usage, Memory}
 
 -- a text that words ask for, and no fault of theirs
@@ -25,11 +26,7 @@ Shows kind = (kind ≡ DisplayHelp) ⊎ (kind ≡ DisplayVersion)
 abbrev pub AsksForHelp : App → List Text → Type 0
 AsksForHelp app words = IsAmong DisplayHelp (fault_of app words) ⊎ IsAmong DisplayVersion (fault_of app words)
 
--- clap finds the words of a command line wrong; or it takes them, and they ask for nothing
-abbrev pub AreWrong : {A : Type 0} → App → (A → Type 0) → List Text → Type 0
-AreWrong {A} app Asks words = ((kind : ErrorKind) × IsAmong kind (fault_of app words) × ¬ (Shows kind))
-    ⊎ ((fault_of app words ≡ []) × ((asked : A) → ¬ (Asks asked)))
-
--- the words of the program's command line are no command
+-- words are no command of the program: clap finds them wrong; or it takes them, and they ask for no job
 abbrev pub AreNoCommand : List Text → Type 0
-AreNoCommand words = AreWrong bpfspec_app (AsksForJob (subcommand_of bpfspec_app words)) words
+AreNoCommand words = ((kind : ErrorKind) × IsAmong kind (fault_of bpfspec_app words) × ¬ (Shows kind))
+    ⊎ ((fault_of bpfspec_app words ≡ []) × ((job : Job) → ¬ (AsksForJob (subcommand_of bpfspec_app words) job)))

@@ -2,11 +2,9 @@
 
 ghost use Rattle.std.specs.Prelude.{IfOk};
 ghost use Rattle.clap.specs.Words.{new_app};
-ghost use Rattle.bpfspec_command_line.specs.CommandLine.{IsArg, IsCommand, all_rule, arg_rule, blocks_rule};
-ghost use Rattle.bpfspec_command_line.specs.CommandLine.{bpfspec_app, facts_app, flag_rule, grid_rule, hex_rule};
-ghost use Rattle.bpfspec_command_line.specs.CommandLine.{order_app, replay_app, run_app, states_rule, stats_rule};
-ghost use Rattle.bpfspec_command_line.specs.CommandLine.{test_rule, top_app, valued_rule, verify_app, way_rule};
-ghost use Rattle.bpfspec_command_line.specs.CommandLine.{workers_rule};
+ghost use Rattle.bpfspec_command_line.specs.CommandLine.{IsArg, IsCommand, arg_rule, bpfspec_app, facts_app};
+ghost use Rattle.bpfspec_command_line.specs.CommandLine.{flag_rule, hex_rule, order_app, replay_app, run_app};
+ghost use Rattle.bpfspec_command_line.specs.CommandLine.{test_rule, valued_rule};
 
 use clap::{Arg, ArgAction, Command};
 use std::alloc::{AllocError, Global};
@@ -26,50 +24,6 @@ fn hex_flag<'a>(alloc: Global) -> Arg<'a>
     ensures { IsArg hex_rule result }
 {
     flag(alloc, "hex", "Read the unit in hex form")
-}
-
-/// The flag --stats.
-fn stats_flag<'a>(alloc: Global) -> Arg<'a>
-    ensures { IsArg stats_rule result }
-{
-    flag(
-        alloc,
-        "stats",
-        "Report each loop's strategy and time on standard error",
-    )
-}
-
-/// The flag --states.
-fn states_flag<'a>(alloc: Global) -> Arg<'a>
-    ensures { IsArg states_rule result }
-{
-    flag(
-        alloc,
-        "states",
-        "Print the abstract values of an accepted program too",
-    )
-}
-
-/// The flag --all.
-fn all_flag<'a>(alloc: Global) -> Arg<'a>
-    ensures { IsArg all_rule result }
-{
-    flag(
-        alloc,
-        "all",
-        "Print up to 64 conflicting elements of each loop",
-    )
-}
-
-/// The flag --grid.
-fn grid_flag<'a>(alloc: Global) -> Arg<'a>
-    ensures { IsArg grid_rule result }
-{
-    flag(
-        alloc,
-        "grid",
-        "Print what iterations of the first conflicting loop access",
-    )
 }
 
 /// An option of this name with a value, which is this where it isn't given.
@@ -110,56 +64,11 @@ fn test_option<'a>(alloc: Global) -> Arg<'a>
     )
 }
 
-/// --workers N
-fn workers_option<'a>(alloc: Global) -> Arg<'a>
-    ensures { IsArg workers_rule result }
-{
-    valued_option(
-        alloc,
-        "workers",
-        "N",
-        "2",
-        "The most workers of a loop, 1 to 16",
-    )
-}
-
-/// --blocks N
-fn blocks_option<'a>(alloc: Global) -> Arg<'a>
-    ensures { IsArg blocks_rule result }
-{
-    valued_option(
-        alloc,
-        "blocks",
-        "N",
-        "4",
-        "The most blocks of a loop, 1 to 64",
-    )
-}
-
-/// --way pays|blocks
-fn way_option<'a>(alloc: Global) -> Arg<'a>
-    ensures { IsArg way_rule result }
-{
-    valued_option(
-        alloc,
-        "way",
-        "WAY",
-        "pays",
-        "Execution strategy: pays (the cheapest) or blocks (always)",
-    )
-}
-
 /// A command of this name and with this help, without arguments.
 fn new_command<'a>(alloc: Global, name: &'a str, about: &'a str) -> Command<'a>
     ensures { IsCommand (new_app name.entry.now) result }
 {
     Command::new(alloc, name).about(about)
-}
-
-fn verify_command<'a>(alloc: Global) -> Result<Command<'a>, AllocError>
-    ensures { IfOk result (IsCommand verify_app) }
-{
-    new_command(alloc, "verify", "Verify a program").arg(hex_flag(alloc))
 }
 
 pub(crate) fn order_command<'a>(alloc: Global) -> Result<Command<'a>, AllocError>
@@ -175,11 +84,33 @@ pub(crate) fn run_command<'a>(alloc: Global) -> Result<Command<'a>, AllocError>
     let args = vec![in alloc;
         hex_flag(alloc),
         arg_option(alloc),
-        workers_option(alloc),
-        blocks_option(alloc),
+        valued_option(
+            alloc,
+            "workers",
+            "N",
+            "2",
+            "The most workers of a loop, 1 to 16"
+        ),
+        valued_option(
+            alloc,
+            "blocks",
+            "N",
+            "4",
+            "The most blocks of a loop, 1 to 64"
+        ),
         test_option(alloc),
-        way_option(alloc),
-        stats_flag(alloc),
+        valued_option(
+            alloc,
+            "way",
+            "WAY",
+            "pays",
+            "Execution strategy: pays (the cheapest) or blocks (always)",
+        ),
+        flag(
+            alloc,
+            "stats",
+            "Report each loop's strategy and time on standard error"
+        ),
     ]?;
     new_command(alloc, "run", "Run a program, its loops in parallel").args(args)
 }
@@ -198,9 +129,21 @@ pub(crate) fn facts_command<'a>(alloc: Global) -> Result<Command<'a>, AllocError
         hex_flag(alloc),
         arg_option(alloc),
         test_option(alloc),
-        states_flag(alloc),
-        all_flag(alloc),
-        grid_flag(alloc),
+        flag(
+            alloc,
+            "states",
+            "Print the abstract values of an accepted program too"
+        ),
+        flag(
+            alloc,
+            "all",
+            "Print up to 64 conflicting elements of each loop"
+        ),
+        flag(
+            alloc,
+            "grid",
+            "Print what iterations of the first conflicting loop access"
+        ),
     ]?;
     new_command(
         alloc,
@@ -223,22 +166,11 @@ Exit status:
   4  out of memory
   5  a read or write failed";
 
-/// The program without its subcommands, of which one is wanted.
-fn top_command<'a>(alloc: Global) -> Command<'a>
-    ensures { IsCommand top_app result }
-{
-    Command::new(alloc, "bpfspec")
-        .version("0.1.0")
-        .about("Verifies and runs untrusted BPF programs over array maps")
-        .after_help(STREAMS)
-        .subcommand_required(true)
-}
-
 pub(crate) fn bpfspec_command<'a>(alloc: Global) -> Result<Command<'a>, AllocError>
     ensures { IfOk result (IsCommand bpfspec_app) }
 {
     let commands = vec![in alloc;
-        verify_command(alloc)?,
+        new_command(alloc, "verify", "Verify a program").arg(hex_flag(alloc))?,
         order_command(alloc)?,
         run_command(alloc)?,
         replay_command(alloc)?,
@@ -246,5 +178,10 @@ pub(crate) fn bpfspec_command<'a>(alloc: Global) -> Result<Command<'a>, AllocErr
         new_command(alloc, "asm", "Print assembler text in hex form"),
         new_command(alloc, "disasm", "Print the hex form as assembler text"),
     ]?;
-    top_command(alloc).subcommands(commands)
+    Command::new(alloc, "bpfspec")
+        .version("0.1.0")
+        .about("Verifies and runs untrusted BPF programs over array maps")
+        .after_help(STREAMS)
+        .subcommand_required(true)
+        .subcommands(commands)
 }

@@ -2,33 +2,30 @@
 
 ghost use Rattle.std.specs.Prelude.{◌≡◌, codes};
 ghost use Rattle.clap.specs.Words.{found_of, rows_of};
-ghost use Rattle.bpfspec_command_line.specs.CommandLine.{Finds, HasFlag, IsArgument, IsAskOf, IsChosen, IsForm};
-ghost use Rattle.bpfspec_command_line.specs.CommandLine.{IsNumber, IsNumberWithin, IsPlanOf, IsPolicy, IsTest};
+ghost use Rattle.bpfspec_command_line.specs.CommandLine.{Finds, HasFlag, IsAskOf, IsForm, IsNumber, IsNumberWithin};
+ghost use Rattle.bpfspec_command_line.specs.CommandLine.{IsPlanOf, IsPolicy, IsTest};
 
 use crate::job::{Ask, UnitForm};
 use clap::ArgMatches;
 use loop_core_model::Test;
 use loop_core_split::{Plan, Policy};
 
-/// The value that the flag of this name chooses: `off` where it isn't given, and else `on`.
-fn chosen<T: Copy>(matches: &ArgMatches<'_>, name: &str, off: T, on: T) -> T
-    ensures { IsChosen name.now off on (rows_of (found_of matches.now)) result }
+/// Whether the arguments have the flag of this name.
+pub(crate) fn has_flag(matches: &ArgMatches<'_>, name: &str) -> bool
+    ensures { HasFlag name.now (rows_of (found_of matches.now)) result }
 {
-    if matches.get_flag(name) { on } else { off }
+    matches.get_flag(name)
 }
 
 /// The form of a unit that the arguments ask for, by --hex.
 pub(crate) fn unit_form(matches: &ArgMatches<'_>) -> UnitForm
     ensures { IsForm (rows_of (found_of matches.now)) result }
 {
-    chosen(matches, "hex", UnitForm::Assembler, UnitForm::Hex)
-}
-
-/// The program's argument that the arguments give by --arg, or None where it is no number below 2^64.
-pub(crate) fn argument(matches: &ArgMatches<'_>) -> Option<u64>
-    ensures { Finds (IsArgument (rows_of (found_of matches.now))) result }
-{
-    matches.get_one::<u64>("arg")
+    if has_flag(matches, "hex") {
+        UnitForm::Hex
+    } else {
+        UnitForm::Assembler
+    }
 }
 
 /// The test that the arguments name by --test, or None where they name another.
@@ -59,11 +56,11 @@ pub(crate) fn policy_of(matches: &ArgMatches<'_>) -> Option<Policy>
     }
 }
 
-/// The number that an option of this name gives, or None where it is none below 2^32.
-fn number_of(matches: &ArgMatches<'_>, name: &str) -> Option<u32>
-    ensures { Finds (IsNumber 32 name.now (rows_of (found_of matches.now))) result }
+/// The number that an option of this name gives, or None where it is none below 2^64.
+pub(crate) fn number_of(matches: &ArgMatches<'_>, name: &str) -> Option<u64>
+    ensures { Finds (IsNumber name.now (rows_of (found_of matches.now))) result }
 {
-    matches.get_one::<u32>(name)
+    matches.get_one::<u64>(name)
 }
 
 /// The same, or None where it isn't 1 to `most`.
@@ -71,10 +68,10 @@ fn number_within(matches: &ArgMatches<'_>, name: &str, most: u32) -> Option<u32>
     ensures { Finds (IsNumberWithin most name.now (rows_of (found_of matches.now))) result }
 {
     let number = number_of(matches, name)?;
-    if number == 0 || most < number {
+    if number == 0 || u64::from(most) < number {
         return None;
     }
-    Some(number)
+    Some(number as u32)
 }
 
 /// How many workers the arguments give, or None where it is no number from 1 to 16.
@@ -103,20 +100,13 @@ pub(crate) fn plan_of(matches: &ArgMatches<'_>) -> Option<Plan>
     })
 }
 
-/// Whether the arguments have the flag of this name.
-pub(crate) fn has_flag(matches: &ArgMatches<'_>, name: &str) -> bool
-    ensures { HasFlag name.now (rows_of (found_of matches.now)) result }
-{
-    chosen(matches, name, false, true)
-}
-
 /// What the arguments ask of facts, or None where they name another test or an argument that is no number.
 pub(crate) fn ask_of(matches: &ArgMatches<'_>) -> Option<Ask>
     ensures { Finds (IsAskOf (rows_of (found_of matches.now))) result }
 {
     Some(Ask {
         form: unit_form(matches),
-        arg: argument(matches)?,
+        arg: number_of(matches, "arg")?,
         test: loop_test(matches)?,
         states: has_flag(matches, "states"),
         all: has_flag(matches, "all"),

@@ -2,14 +2,14 @@
 
 ghost use Rattle.std.specs.Prelude.{◌≡◌, ℕ, List, map, true, IfOk, IfErr};
 ghost use Rattle.clap.specs.Words.{subcommand_rows_of};
-ghost use Rattle.bpfspec_command_line.specs.CommandLine.{AsksFor, AsksForJob, AsksForStats, Finds, WordsAskFor};
-ghost use Rattle.bpfspec_command_line.specs.CommandLine.{bpfspec_app};
+ghost use Rattle.bpfspec_command_line.specs.CommandLine.{AsksForJob, AsksForStats, Finds, WordsAskFor, bpfspec_app};
+ghost use Rattle.bpfspec_command_line.specs.declared.job.Job.TheVariants.{Serve};
 ghost use Rattle.bpfspec_command_line.specs.Faults.{AreNoCommand, AsksForHelp, is_help, is_usage};
 
 use crate::commands::bpfspec_command;
 use crate::faults::{line_fault, value_fault, words_fault};
 use crate::job::{Job, LineFault, Mode, Request};
-use crate::values::{argument, ask_of, has_flag, loop_test, plan_of, unit_form};
+use crate::values::{ask_of, has_flag, loop_test, number_of, plan_of, unit_form};
 use clap::ArgMatches;
 use std::alloc::Global;
 use std::convert::AsStr;
@@ -19,7 +19,7 @@ use std::env::Env;
 /// The mode that the words ask for in which clap found these matches, or None where they name none of
 /// the program's subcommands, give an argument that is no number below 2^64, or name another test.
 fn mode_of(matches: &ArgMatches<'_>) -> Option<Mode>
-    ensures { Finds (AsksFor (subcommand_rows_of matches.now)) result }
+    ensures { Finds (λ mode. AsksForJob (subcommand_rows_of matches.now) (Serve mode)) result }
 {
     if let Some(verify) = matches.subcommand_matches("verify") {
         return Some(Mode::Verify {
@@ -29,13 +29,13 @@ fn mode_of(matches: &ArgMatches<'_>) -> Option<Mode>
     if let Some(order) = matches.subcommand_matches("order") {
         return Some(Mode::Order {
             form: unit_form(order),
-            arg: argument(order)?,
+            arg: number_of(order, "arg")?,
         });
     }
     if let Some(replay) = matches.subcommand_matches("replay") {
         return Some(Mode::Replay {
             form: unit_form(replay),
-            arg: argument(replay)?,
+            arg: number_of(replay, "arg")?,
             test: loop_test(replay)?,
         });
     }
@@ -53,7 +53,7 @@ fn job_of(matches: &ArgMatches<'_>) -> Option<Job>
     if let Some(run) = matches.subcommand_matches("run") {
         return Some(Job::Run {
             form: unit_form(run),
-            arg: argument(run)?,
+            arg: number_of(run, "arg")?,
             plan: plan_of(run)?,
         });
     }
@@ -89,7 +89,7 @@ pub fn read_words<S: AsStr>(alloc: Global, words: &[S]) -> Result<Request, LineF
     let mut command = bpfspec_command(alloc)?;
     let matches = match command.try_get_matches_from_mut(words) {
         Ok(matches) => matches,
-        Err(error) => return Err(line_fault(alloc, words, &error)),
+        Err(error) => return Err(line_fault(alloc, words, &error)?),
     };
     let stats = asks_for_stats(&matches);
     match job_of(&matches) {
@@ -108,11 +108,8 @@ pub fn read_command_line<R: Env + AllocGlobal>(rt: &R) -> Result<Request, LineFa
     let alloc = rt.alloc();
     let arguments = match env::args(rt) {
         Ok(arguments) => arguments,
-        Err(error) => return Err(words_fault(alloc, &error)),
+        Err(error) => return Err(words_fault(alloc, &error)?),
     };
-    let mut words = Vec::new(alloc);
-    for word in arguments {
-        words.push(word)?;
-    }
+    let words: Vec<String> = arguments.collect(alloc)?;
     read_words(alloc, &words)
 }

@@ -9,14 +9,14 @@ returns-in-Err-clause-help g c = λ help.
     let words = map g.S.AsStr.text c.args.words.now in
     asked (fault_of bpfspec_app words) _
     (fails_of {T = ArgMatches} words (Err c.in-Err.error) c.in_ok-command.ensures.app_is refl c.in-Err.ensures.kinds)
-    (c.line_fault.ensures.help help)
+    (c.in_ok-line_fault-in-Err.ensures.help help)
 
 pub returns-in-Err-clause-usage : goal.returns-in-Err-clause-usage
 returns-in-Err-clause-usage g c = λ usage.
     let words = map g.S.AsStr.text c.args.words.now in
-    inl (wrong (fault_of bpfspec_app words) _ c.line_fault.result
+    inl (wrong (fault_of bpfspec_app words) _
     (fails_of {T = ArgMatches} words (Err c.in-Err.error) c.in_ok-command.ensures.app_is refl c.in-Err.ensures.kinds)
-    c.line_fault.ensures.memory usage (c.line_fault.ensures.usage usage))
+    c.in_ok-line_fault-in-Err.ensures.memory (c.in_ok-line_fault-in-Err.ensures.usage usage))
 
 pub returns-in-Some-clause-request : goal.returns-in-Some-clause-request
 returns-in-Some-clause-request g c =
