@@ -1,10 +1,10 @@
 -- The blocks at some places, one place after another.
 use Rattle.std.proofs.Common.{◌≡◌, ℕ, suc, ◌+◌, ◌<◌, ◌≤◌, Bool, arith, true, false, List, [], ◌∷◌, drop, length, map}
 use Rattle.std.proofs.Common.{get_or, Option, Some, None, refl, sym, ◌∙◌, ap}
-use Rattle.std.specs.Prelude.{slice_get, slice_index, ◌==◌, if◌then◌else◌}
+use Rattle.std.specs.Prelude.{slice_get, slice_index, ◌==◌}
 use Rattle.std.specs.{Int.{bit_at}, List.{All, AllByRecursion, cons_option}, Option.{option_map, option_or, unwrap_or}}
 use Rattle.std.proofs.Math.ListN.{get_or-map, drop_of_length-le}
-use Rattle.std.proofs.lemmas.List.{length-map, drop_more, Elements.{All-nil, All-cons}}
+use Rattle.std.proofs.lemmas.List.{length-map, drop_more, get_or_default, Elements.{All-nil, All-cons}}
 use Rattle.std.proofs.lemmas.Option.{slice_get_within, slice_get_read, slice_get-map, get_or_from_slice_get}
 use Rattle.loop_core_model.specs.{Gather.{Block}, Kept.{Kept, applied, last_of, committed_of_kept}}
 use Rattle.loop_core_block.specs.{declared.block.Block.{Block as Held}, Blocks.{BlockOf}, Shown.{shown}}
@@ -39,8 +39,7 @@ all_there P blocks place b all at =
 
 -- what a block more leaves of a value
 abbrev left_by : (reduced : Bool) → ℕ → Kept → ℕ
-left_by true value k = applied value k.partial
-left_by false value k = unwrap_or k.last_value value
+left_by reduced value k = committed_of_kept reduced (k ∷ []) value
 
 kept_first : (reduced : Bool) (k : Kept) (later : List Kept) (value : ℕ)
     → committed_of_kept reduced (k ∷ later) value ≡ committed_of_kept reduced later (left_by reduced value k)
@@ -66,26 +65,31 @@ pub kept_none : (reduced : Bool) (e : ℕ) (blocks : List Held) (places : List �
     → KeptSoFar reduced e blocks places word word 0
 kept_none reduced e blocks places word = record { left = refl }
 
--- after one block more, which changes the value if its bit is set
-pub kept_next : (reduced : Bool) (e : ℕ) (blocks : List Held) (places : List ℕ) (word value i marks : ℕ) (b : Held)
-    (touched : Bool) (next : ℕ) → MarksTouched marks e (map shown blocks) places → i < length places
-    → get_or places i 0 < length blocks → b ≡ get_or blocks (get_or places i 0) b → touched ≡ (bit_at marks i == 1)
-    → next ≡ (if touched then left_by reduced value (kept_at e (shown b)) else value)
+-- after one block more whose bit is set
+pub kept_next : (reduced : Bool) (e : ℕ) (blocks : List Held) (places : List ℕ) (word value i : ℕ) (b : Held)
+    (next : ℕ) → i < length places → get_or places i 0 < length blocks → b ≡ get_or blocks (get_or places i 0) b
+    → next ≡ committed_of_kept reduced (kept_at e (shown b) ∷ []) value
     → KeptSoFar reduced e blocks places word value i → KeptSoFar reduced e blocks places word next (i + 1)
-kept_next reduced e blocks places word value i marks b touched next untouched inside within is bit made so_far =
-    record {
-      left = so_far.left ∙ rw (chosen_next blocks places i b inside within is, made)
-          (kept_first reduced (kept_at e (shown b)) _ value ∙ by touched bit);
-    }
-  where
-    by : (t : Bool) → t ≡ (bit_at marks i == 1)
-        → committed_of_kept reduced (map (kept_at e) (chosen (drop (i + 1) places) (map shown blocks)))
-        (left_by reduced value (kept_at e (shown b)))
-        ≡ committed_of_kept reduced (map (kept_at e) (chosen (drop (i + 1) places) (map shown blocks)))
-        (if t then left_by reduced value (kept_at e (shown b)) else value)
-    by true set = refl
-    by false unset = rw (unchanged reduced value e (shown b)
-        (untouched i (shown b) inside (shown_there blocks (get_or places i 0) b within is) (sym unset))) refl
+kept_next reduced e blocks places word value i b next inside within is made so_far = record {
+  left = so_far.left ∙ rw (chosen_next blocks places i b inside within is, made)
+      (kept_first reduced (kept_at e (shown b)) _ value);
+}
+
+read_there : (blocks : List Held) (place : ℕ) → place < length blocks → (b : Held) × (b ≡ get_or blocks place b)
+read_there [] place within = absurd (omega arith)
+read_there (first ∷ blocks) place within =
+    (get_or (first ∷ blocks) place first, get_or_default (first ∷ blocks) place first _ within)
+
+-- and after one whose bit isn't
+pub kept_still : (reduced : Bool) (e : ℕ) (blocks : List Held) (places : List ℕ) (word value i marks : ℕ)
+    → MarksTouched marks e (map shown blocks) places → i < length places → get_or places i 0 < length blocks
+    → (bit_at marks i == 1) ≡ false → KeptSoFar reduced e blocks places word value i
+    → KeptSoFar reduced e blocks places word value (i + 1)
+kept_still reduced e blocks places word value i marks untouched inside within unset so_far =
+    let at = read_there blocks (get_or places i 0) within in
+    kept_next reduced e blocks places word value i at.0 value inside within at.1
+    (sym (unchanged reduced value e (shown at.0)
+    (untouched i (shown at.0) inside (shown_there blocks (get_or places i 0) at.0 within at.1) unset))) so_far
 
 -- and after all of them
 pub kept_all : (reduced : Bool) (e : ℕ) (blocks : List Held) (places : List ℕ) (word value i : ℕ) → length places ≤ i

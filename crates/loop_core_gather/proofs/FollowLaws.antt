@@ -10,7 +10,7 @@ use Rattle.loop_core_model.specs.Gather.{counting, twice, stands_in, gather_faul
 use Rattle.loop_core_model.proofs.{BlockLaws.{of_scan}, FirstBreak.{FirstIs, breaking, scan_first}}
 use Rattle.loop_core_model.proofs.{SplitLaws.{faultless}, GatherLaws.{AtMost, Stands, rising, if_none, some_there}}
 use Rattle.loop_core_model.proofs.GatherLaws.{found, none_counts}
-use Rattle.loop_core_gather.proofs.SummaryLaws.{counting_of}
+use Rattle.loop_core_gather.proofs.CountLaws.{counting_of}
 
 -- from an index on, each block begins where the iterations of those before it end
 abbrev pub Follow : ℕ → List Block → Type 0

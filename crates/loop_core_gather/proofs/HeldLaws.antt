@@ -1,5 +1,5 @@
 -- What gathered blocks hold, element by element.
-use Rattle.std.proofs.Common.{◌≡◌, ℕ, ◌<◌, Bool, List, length, map, refl, sym, ◌∙◌, arith}
+use Rattle.std.proofs.Common.{◌≡◌, ℕ, ◌+◌, ◌/◌, ◌<◌, Bool, List, length, map, refl, sym, ◌∙◌, arith}
 use Rattle.std.specs.{Prelude.{slice_index}, List.{All, range_with_len}}
 use Rattle.std.proofs.lemmas.{Nat.Bits.{bit_at-zero}, List.{ext_get_or}}
 use Rattle.loop_core_model.specs.Kept.{committed_of_kept}
@@ -7,7 +7,8 @@ use Rattle.shadow_marks.specs.declared.planes.Planes.{Planes}
 use Rattle.private_copy.proofs.AccessLaws.{shown_at, shown_length}
 use Rattle.loop_core_block.specs.{declared.block.Block.{Block as Held}, Blocks.{BlockOf}, Shown.{shown}}
 use Rattle.loop_core_gather.specs.Held.{chosen, is_reduction, kept_at, left_at, left_words, IsUntouchedElement}
-use Rattle.loop_core_gather.{specs.Held.{MarksTouched}, proofs.ChoiceLaws.{all_made, all_chosen, left_alone}}
+use Rattle.loop_core_gather.specs.{Held.{MarksTouched, AreHeld}, Pages.{HaveAllTouched, ChangesWithin}}
+use Rattle.loop_core_gather.proofs.{ChoiceLaws.{all_made, all_chosen, left_alone}, SharingLaws.{none_there}}
 
 -- words that are the same one by one
 pub same_words : (f g : ℕ → ℕ) (n : ℕ) → ((e : ℕ) → e < n → f e ≡ g e) → map f (range_with_len 0 n) ≡ map g
@@ -40,3 +41,16 @@ start_is_left planes blocks places start e word inside none tells =
     ∙ left_alone (is_reduction planes e) (slice_index start e) e (chosen places blocks)
     (all_chosen (IsUntouchedElement e) blocks places
     (λ i b below found. tells i b below found (rw (none, bit_at-zero i) refl)))
+
+-- it is left at the pages whose numbers aren't among those that were touched
+pub changes_within : (planes : Planes) (blocks : List BlockOf) (places start touched numbers : List ℕ)
+    → AreHeld (length start) blocks places planes touched → HaveAllTouched touched numbers
+    → ChangesWithin numbers start (left_words planes (chosen places blocks) start)
+changes_within planes blocks places start touched numbers held all = record {
+  count = shown_length (left_at planes (chosen places blocks) start) (length start);
+  others = λ e below out.
+      let pages : length touched ≡ (length start + 63) / 64 = held.pages in
+      let inside : e / 64 < length touched = omega (arith, pages, below) in
+      start_is_left planes blocks places start e (slice_index touched (e / 64)) below
+      (none_there touched numbers (e / 64) all inside out) (held.untouched e below);
+}

@@ -1,4 +1,4 @@
-pub mod SummaryLaws
+pub mod CountLaws
 pub mod OrderLaws
 pub mod FollowLaws
 pub mod ChoiceLaws

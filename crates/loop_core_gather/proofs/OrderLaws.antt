@@ -1,25 +1,25 @@
 -- The places of the blocks that count, found one block after another.
 use Rattle.std.proofs.Common.{◌≡◌, ℕ, ◌+◌, ◌<◌, ◌≤◌, true, false, List, [], ◌∷◌, ◌++◌, length, drop, Some, None}
 use Rattle.std.proofs.Common.{Option, refl, sym, ap, arith, append_assoc, length-append}
-use Rattle.std.specs.{Prelude.{slice_index, ◌==◌, if◌then◌else◌}, List.{position_from}, Option.{option_map}}
+use Rattle.std.specs.{Prelude.{slice_index, if◌then◌else◌}, Option.{option_map}}
 use Rattle.std.proofs.{Math.ListN.{drop_of_length-le}, lemmas.{List.{append-nil, drop_more}}}
 use Rattle.loop_core_model.specs.Gather.{starts_late}
-use Rattle.loop_core_gather.specs.declared.summary.Summary.{Summary}
-use Rattle.loop_core_gather.specs.Summaries.{with_place, order_from, order_of}
+use Rattle.loop_core_block.specs.Blocks.{BlockOf}
+use Rattle.loop_core_gather.specs.Counting.{place_of, with_place, order_from, order_of}
 
-module _ (least : Option ℕ) (summaries : List Summary) (bounds : List ℕ) where
+module _ (least : Option ℕ) (blocks : List BlockOf) (bounds : List ℕ) where
   -- the order from a block on
   abbrev pub order_at : ℕ → Option (List ℕ)
-  order_at number = order_from least summaries number (slice_index bounds number) (drop (number + 1) bounds)
+  order_at number = order_from least blocks number (slice_index bounds number) (drop (number + 1) bounds)
 
   -- the places so far, and those from a block on, are the order
   pub record OrderSoFar (places : List ℕ) (number : ℕ) : Type 0 where
     pub within : length places ≤ number
-    pub order : order_of least summaries bounds ≡ option_map (λ later. places ++ later) (order_at number)
+    pub order : order_of least blocks bounds ≡ option_map (λ later. places ++ later) (order_at number)
 
   at_next : (number : ℕ) → number + 1 < length bounds → order_at number
       ≡ (if starts_late least (slice_index bounds number) then order_at (number + 1)
-      else with_place (position_from (λ (s : Summary). s.number == number) 0 summaries) (order_at (number + 1)))
+      else with_place (place_of blocks number) (order_at (number + 1)))
   at_next number below = rw (drop_more bounds (number + 1) 0 below) refl
 
   pub so_far_late : (places new : List ℕ) (number : ℕ) → number + 1 < length bounds
@@ -38,7 +38,7 @@ module _ (least : Option ℕ) (summaries : List Summary) (bounds : List ℕ) whe
 
   pub so_far_more : (places new : List ℕ) (number place : ℕ) → number + 1 < length bounds
       → starts_late least (slice_index bounds number) ≡ false
-      → position_from (λ (s : Summary). s.number == number) 0 summaries ≡ Some place → new ≡ places ++ place ∷ []
+      → place_of blocks number ≡ Some place → new ≡ places ++ place ∷ []
       → OrderSoFar places number → OrderSoFar new (number + 1)
   so_far_more places new number place below on_time is made so_far = rw made (record {
     within = let within = so_far.within in simp length-append (omega arith);
@@ -47,21 +47,21 @@ module _ (least : Option ℕ) (summaries : List Summary) (bounds : List ℕ) whe
 
   pub so_far_missing : (places : List ℕ) (number : ℕ) → number + 1 < length bounds
       → starts_late least (slice_index bounds number) ≡ false
-      → position_from (λ (s : Summary). s.number == number) 0 summaries ≡ None → OrderSoFar places number
-      → order_of least summaries bounds ≡ None
+      → place_of blocks number ≡ None → OrderSoFar places number
+      → order_of least blocks bounds ≡ None
   so_far_missing places number below on_time is so_far = rw (so_far.order, at_next number below, on_time, is) refl
 
   pub so_far_all : (places : List ℕ) (number : ℕ) → length bounds ≤ number + 1 → OrderSoFar places number
-      → order_of least summaries bounds ≡ Some places
+      → order_of least blocks bounds ≡ Some places
   so_far_all places number all so_far =
       rw (so_far.order, drop_of_length-le bounds all) (ap Some (append-nil places))
 
-pub so_far_none : (least : Option ℕ) (summaries : List Summary) (bounds places : List ℕ) → places ≡ []
-    → 0 < length bounds → OrderSoFar least summaries bounds places 0
-so_far_none least summaries [] places none some = absurd (omega arith)
-so_far_none least summaries (first ∷ bounds) places none some = rw none (record {
+pub so_far_none : (least : Option ℕ) (blocks : List BlockOf) (bounds places : List ℕ) → places ≡ []
+    → 0 < length bounds → OrderSoFar least blocks bounds places 0
+so_far_none least blocks [] places none some = absurd (omega arith)
+so_far_none least blocks (first ∷ bounds) places none some = rw none (record {
   within = omega arith;
-  order = none_in_front (order_from least summaries 0 first bounds);
+  order = none_in_front (order_from least blocks 0 first bounds);
 })
   where
     none_in_front : (o : Option (List ℕ)) → o ≡ option_map (λ later. [] ++ later) o

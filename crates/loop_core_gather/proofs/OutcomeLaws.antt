@@ -19,36 +19,24 @@ use Rattle.loop_core_model.proofs.{OutcomeLaws.{outcome_by_test}, PlaneBits.{pla
 use Rattle.shadow_marks.specs.{declared.planes.Planes.{Planes}, Standing.{StandFor, test_of, words_for}}
 use Rattle.private_copy.{specs.Touched.{has_page}, proofs.AccessLaws.{shown_length}}
 use Rattle.loop_core_block.specs.{Blocks.{BlockOf}, Ran.{RecordsRun}}
-use Rattle.loop_core_gather.specs.{Counting.{summary_fault, Counts}, Gathered.{all_gathered, HasOutcome}}
-use Rattle.loop_core_gather.specs.Held.{summary_of_block, chosen, visits_at, left_at, left_words, AreInOne, AreHeld}
+use Rattle.loop_core_gather.specs.{Counting.{blocks_fault, Counts}, Gathered.{all_gathered, HasOutcome}}
+use Rattle.loop_core_gather.specs.Held.{chosen, visits_at, left_at, left_words, AreInOne, AreHeld}
 use Rattle.loop_core_gather.specs.Held.{is_reduction}
 use Rattle.loop_core_gather.specs.Touched.{AreMarked}
-use Rattle.loop_core_gather.proofs.SummaryLaws.{summary_of, BlocksCount, counting_of, same_fault, all_count}
+use Rattle.loop_core_gather.proofs.CountLaws.{BlocksCount, counting_of, same_fault, all_count}
 use Rattle.loop_core_gather.proofs.{FollowLaws.{Follow, counting_follow}, HeldLaws.{same_words}}
 use Rattle.loop_core_gather.proofs.{ChoiceLaws.{AreAt, are_at, all_chosen, all_there}, UntouchedLaws.{untouched}}
 use Rattle.loop_core_gather.proofs.JoiningLaws.{at_blocks, runs_of, joined_at, as_block, visits_in, marks_follow}
 use Rattle.loop_core_gather.proofs.JoiningLaws.{runs_all, stands_in_planes, all_kept, is_reduction_of}
 
--- the summaries of gathered blocks are the blocks'
-all_summaries : (test : Test) (program : Program) (call : LoopCall) (words : List ℕ) (blocks : List BlockOf)
-    → AllByRecursion (RecordsRun test program call words) blocks
-    → map summary_of (all_gathered program call words blocks) ≡ map summary_of_block blocks
-all_summaries test program call words [] all = refl
-all_summaries test program call words (b ∷ blocks) all =
-    let is = all.0 in
-    rw (is.ended, is.broke, all_summaries test program call words blocks all.1) refl
-
--- so their fault is the blocks'
+-- the fault of blocks that were run is the fault of the blocks as they are gathered
 pub faulty : (test : Test) (program : Program) (call : LoopCall) (words bounds : List ℕ) (blocks : List BlockOf)
     (fault : GatherFault) → All (RecordsRun test program call words) blocks
-    → summary_fault bounds (map summary_of_block blocks) ≡ Some fault
+    → blocks_fault bounds blocks ≡ Some fault
     → gather_fault bounds (all_gathered program call words blocks) ≡ Some fault
 faulty test program call words bounds blocks fault ran is =
-    rw (
-      ← same_fault bounds (all_gathered program call words blocks),
-      all_summaries test program call words blocks
-          (recursion_from_All (RecordsRun test program call words) blocks ran),
-    ) is
+    rw (← same_fault program call words test bounds blocks
+    (recursion_from_All (RecordsRun test program call words) blocks ran)) is
 
 gathered_is : (bounds : List ℕ) (blocks : List Block) → gathered bounds blocks
     ≡ joined (map (λ (b : Block). b.ran) (counting_of bounds blocks))
@@ -64,7 +52,7 @@ pub record AreCounted (test : Test) (program : Program) (call : LoopCall) (words
     (blocks : List BlockOf) (least : Option ℕ) (places : List ℕ) : Type 0 where
   pub split : split_fault bounds call.n ≡ None
   pub ran : All (RecordsRun test program call words) blocks
-  pub counts : Counts bounds (map summary_of_block blocks) least places
+  pub counts : Counts bounds blocks least places
 
 module _ {test : Test} {program : Program} {call : LoopCall} {words bounds : List ℕ} {blocks : List BlockOf}
     {least : Option ℕ} {places : List ℕ} (known : AreCounted test program call words bounds blocks least places) where
@@ -92,7 +80,7 @@ module _ {test : Test} {program : Program} {call : LoopCall} {words bounds : Lis
       (λ i b below. ran_at (slice_index places i) b)
 
   counts : BlocksCount bounds all least places
-  counts = all_count bounds all least places (rw (all_summaries test program call words blocks each_ran) known.counts)
+  counts = all_count program call words test bounds blocks each_ran least places known.counts
 
   pub faultless : gather_fault bounds all ≡ None
   faultless = counts.faultless

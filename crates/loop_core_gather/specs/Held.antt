@@ -9,11 +9,6 @@ use Rattle.shadow_marks.specs.Standing.{ArePlanes, StandFor, words_for, plane_by
 use Rattle.private_copy.specs.Reductions.{combination}
 use Rattle.lane_planes.specs.Merged.{StandForSome}
 use Rattle.loop_core_block.specs.Blocks.{BlockOf}
-use Rattle.loop_core_gather.specs.declared.summary.Summary.{Summary}
-
--- what gathering asks of a block
-abbrev pub summary_of_block : BlockOf → Summary
-summary_of_block b = record { number = b.number; first = b.first; past = b.past; broke = b.broke }
 
 -- the blocks at these places, in order
 abbrev pub chosen : List ℕ → List BlockOf → List BlockOf

@@ -1,4 +1,3 @@
-pub mod Summaries
 pub mod Counting
 pub mod Held
 pub mod Gathered

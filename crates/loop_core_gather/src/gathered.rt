@@ -1,9 +1,9 @@
 //! The outcome of a loop, by its gathered blocks.
 
 ghost use Rattle.std.specs.Prelude.{◌≡◌, ◌<◌, length, slice_index, IfOk};
-ghost use Rattle.loop_core_gather.specs.Pages.{IsPageOf, ChangesWithin, AreLeft};
+ghost use Rattle.loop_core_gather.specs.Pages.{IsPageOf, AreLeft};
 
-use crate::kept::{combined, last_written};
+use crate::kept::committed;
 use crate::merged::{is_reduction, reduced_in_page};
 use crate::order::PLACES;
 use crate::pages::{PAGE_WORDS, overwrite_in_turn, page_by_elements, page_of};
@@ -78,15 +78,10 @@ impl<'a> Gathered<'a> {
         requires { e < length self.now.words }
         ensures { result ≡ slice_index self.now.words e }
     {
-        let word = self.start[e as usize];
+        let reduced = is_reduction(&self.planes, e);
         let touched = self.touched[e as usize / 64];
-        if touched == 0 {
-            word
-        } else if is_reduction(&self.planes, e) {
-            combined(&self.blocks, &self.counting, touched, e, word)
-        } else {
-            last_written(&self.blocks, &self.counting, touched, e, word)
-        }
+        let word = self.start[e as usize];
+        committed(&self.blocks, &self.counting, touched, e, reduced, word)
     }
 
     /// What the loop leaves at the elements of a page after a pass, and 0 past the last: worked out block after block
@@ -114,19 +109,12 @@ impl<'a> Gathered<'a> {
         own
     }
 
-    /// The numbers of the pages that were touched, in order. At the elements of all others the start words are left.
-    fn page_numbers(&self, alloc: Global) -> Result<Vec<u32>, AllocError>
-        ensures { IfOk result (λ numbers. ChangesWithin numbers.items self.now.start self.now.words) }
-    {
-        touched_numbers(alloc, &self.touched)
-    }
-
     /// What the loop leaves after a pass, at the pages that were touched, in order. At the elements of all others the
     /// start words are left.
     pub fn left_pages(&self, alloc: Global) -> Result<Vec<LeftPage>, AllocError>
         ensures { IfOk result (λ pages. AreLeft self.now.start self.now.words pages.items) }
     {
-        let numbers = self.page_numbers(alloc)?;
+        let numbers = touched_numbers(alloc, &self.touched)?;
         left_in_turn(alloc, self, &numbers)
     }
 
@@ -138,7 +126,7 @@ impl<'a> Gathered<'a> {
     ) -> Result<Vec<LeftPage>, AllocError>
         ensures { IfOk result (λ pages. AreLeft self.now.start self.now.words pages.items) }
     {
-        let numbers = self.page_numbers(alloc)?;
+        let numbers = touched_numbers(alloc, &self.touched)?;
         if numbers.len() < SHARED_PAGES {
             left_in_turn(alloc, self, &numbers)
         } else {

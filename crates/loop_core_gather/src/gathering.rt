@@ -10,7 +10,6 @@ ghost use Rattle.loop_core_gather.specs.Gathered.{all_gathered, HasOutcome};
 use crate::gathered::Gathered;
 use crate::merged::planes_in_one;
 use crate::order::counting_blocks;
-use crate::summary::summaries_of;
 use crate::touched::touched_pages;
 use array_maps::Maps;
 use bpf_step::LoopCall;
@@ -80,8 +79,7 @@ pub fn gather<'a>(
         (map shown blocks.entry.items)) ≡ None) }
     ensures outcome { IfOk result (HasOutcome test program.now call.now start.now.words) }
 {
-    let summaries = summaries_of(alloc, &blocks)?;
-    let counting = match counting_blocks(split, &summaries) {
+    let counting = match counting_blocks(split, &blocks) {
         Err(fault) => return Err(GatherError::Fault(fault)),
         Ok(counting) => counting,
     };

@@ -11,7 +11,6 @@ mod outcome;
 mod pages;
 mod sharing;
 mod storing;
-mod summary;
 mod touched;
 mod workspace;
 
@@ -19,7 +18,5 @@ pub use decision::{Decision, LoopOutcome, LoopResult};
 pub use gathered::Gathered;
 pub use gathering::{GatherError, gather};
 pub use loop_core_model::GatherFault;
-pub use order::{Counting, counting_blocks};
 pub use outcome::commit_or_rerun;
 pub use storing::{LeftPage, store_pages};
-pub use summary::Summary;

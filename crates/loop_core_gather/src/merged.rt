@@ -1,9 +1,8 @@
 //! The marks of several blocks, merged, and what follows from them.
 
-ghost use Rattle.std.specs.{Prelude.{◌≡◌, ◌<◌, ◌/◌, map, length, slice_index, IfOk}, List.{All, count_by}};
-ghost use Rattle.array_maps.specs.{declared.access.Op.{Op as Operator}, Accesses.{operators}};
+ghost use Rattle.std.specs.{Prelude.{◌≡◌, ◌<◌, map, length, slice_index, IfOk}, List.{All}};
+ghost use Rattle.array_maps.specs.declared.access.Op.{Op as Operator};
 ghost use Rattle.loop_core_block.specs.Shown.{shown};
-ghost use Rattle.loop_core_model.specs.Planes.{bit_of};
 ghost use Rattle.shadow_marks.specs.Standing.{ArePlanes, plane_by};
 ghost use Rattle.loop_core_gather.specs.Held.{is_reduction as is_reduced, AreInOne, HavePlanes, HaveCopiesOf};
 
@@ -31,24 +30,8 @@ pub(crate) fn planes_in_one(
     ensures copies { HaveCopiesOf (map shown blocks.old) (map shown blocks.new) }
 {
     if places.len() == 1 {
-        Ok(blocks[places[0]].take_planes(alloc))
-    } else {
-        merged_planes(alloc, elements, test, blocks, places)
+        return Ok(blocks[places[0]].take_planes(alloc));
     }
-}
-
-/// The planes of the blocks at these places, merged.
-fn merged_planes(
-    alloc: Global,
-    elements: u32,
-    test: Test,
-    blocks: &[Block],
-    places: &[usize],
-) -> Result<Planes, AllocError>
-    requires places { All (λ place. place < length blocks.now) places.now }
-    requires planes { All (λ b. HavePlanes elements test (shown b)) blocks.now }
-    ensures { IfOk result (AreInOne elements test (map shown blocks.now) places.now) }
-{
     let mut planes = Planes::try_new(alloc, elements, test)?;
     for place in places {
         merge_touched::<LANES>(&mut planes, blocks[*place].planes());
@@ -62,19 +45,16 @@ pub(crate) fn is_reduction(planes: &Planes, e: u32) -> bool
     requires within { e < planes.now.elements }
     ensures { result ≡ is_reduced planes.now e }
 {
-    !is_set(planes.plain.as_slice(), e) && operators_at(&planes.operators, e) == 1
-}
-
-/// By how many operators an element was reduced.
-fn operators_at(planes: &OperatorPlanes, e: u32) -> u32
-    requires { (op : Operator) → e / 64 < length (plane_by planes.now op) }
-    ensures { result ≡ count_by (λ op. bit_of (plane_by planes.now op) e) operators }
-{
-    u32::from(is_set(planes.add.as_slice(), e))
-        + u32::from(is_set(planes.or.as_slice(), e))
-        + u32::from(is_set(planes.and.as_slice(), e))
-        + u32::from(is_set(planes.xor.as_slice(), e))
-        + u32::from(is_set(planes.addh.as_slice(), e))
+    if is_set(planes.plain.as_slice(), e) {
+        return false;
+    }
+    let operators = &planes.operators;
+    let reduced = u32::from(is_set(operators.add.as_slice(), e))
+        + u32::from(is_set(operators.or.as_slice(), e))
+        + u32::from(is_set(operators.and.as_slice(), e))
+        + u32::from(is_set(operators.xor.as_slice(), e))
+        + u32::from(is_set(operators.addh.as_slice(), e));
+    reduced == 1
 }
 
 /// Which elements of a page were reduced, a bit for each.

@@ -16,7 +16,7 @@ returns-in-Err-clause-fault c fault is =
     (map shown c.args.blocks.items) c.in-Err.fault
     (All-map (RecordsRun c.args.test c.args.program.now c.args.call.now c.args.start.now.words) shown
     c.args.blocks.items c.requires.ran)
-    (rw (c.deref-2.ensures.value, c.in_ok-summaries.ensures, c.deref.ensures.value) at c.in-Err.ensures.fault)
+    (rw c.deref.ensures.value at c.in-Err.ensures.fault)
     ∙ ap Some same
 
 -- what is known of the blocks that count
@@ -26,21 +26,21 @@ counted c = record {
   split = c.requires.split;
   ran = All-map (RecordsRun c.args.test c.args.program.now c.args.call.now c.args.start.now.words) shown
       c.args.blocks.items c.requires.ran;
-  counts = rw (c.deref-2.ensures.value, c.in_ok-summaries.ensures, c.deref.ensures.value) at c.in-Ok.ensures.counts;
+  counts = rw c.deref.ensures.value at c.in-Ok.ensures.counts;
 }
 
 places : (c : In-Ok) → All (λ place. place < length c.args.blocks.items) c.in-Ok.counting.places.items
 places c = rw length-map at (within (counted c))
 
 pub planes_in_one-requires-clause-places : goal.planes_in_one-requires-clause-places
-planes_in_one-requires-clause-places c = rw (c.as_mut_slice.ensures.value, c.deref-5.ensures.0)
+planes_in_one-requires-clause-places c = rw (c.as_mut_slice.ensures.value, c.deref-4.ensures.0)
     (places (goal.at.planes_in_one-requires-clause-places c).In-Ok)
 
 pub counted-requires : goal.counted-requires
 counted-requires c = rw c.n.ensures (answer_within (counted (goal.at.counted-requires c).In-Ok))
 
 pub touched_pages-requires-clause-places : goal.touched_pages-requires-clause-places
-touched_pages-requires-clause-places c = rw (c.deref-3.ensures.value, c.deref-4.ensures.0)
+touched_pages-requires-clause-places c = rw (c.deref-2.ensures.value, c.deref-3.ensures.0)
     (places (goal.at.touched_pages-requires-clause-places c).In-Ok)
 
 pub conflict_plane-requires-clause-stand : goal.conflict_plane-requires-clause-stand
@@ -55,7 +55,7 @@ conflict_plane-requires-clause-few c =
 -- the planes are those of these blocks in one
 in_one : (c : In_ok-planes) → AreInOne (length c.args.start.now.words) c.args.test (map shown c.args.blocks.items)
     c.in-Ok.counting.places.items c.in_ok-planes.planes
-in_one c = rw (c.words-words.ensures.words, c.as_mut_slice.ensures.value, c.deref-5.ensures.0) at
+in_one c = rw (c.words-words.ensures.words, c.as_mut_slice.ensures.value, c.deref-4.ensures.0) at
     c.in_ok-planes.ensures.in_one
 
 -- the blocks have the copies that they had
@@ -73,7 +73,7 @@ invariant_of-result c =
     (are_held (counted at.In-Ok) c.in_ok-planes.planes (in_one at.In_ok-planes) c.in_ok-touched.touched.items
     (rw c.words-words.ensures.words at c.words-words.ensures.limits)
     (rw c.words-words.ensures.words at c.in_ok-touched.ensures.pages)
-    (rw (c.deref-3.ensures.value, c.deref-4.ensures.0) at c.in_ok-touched.ensures.marked)))
+    (rw (c.deref-2.ensures.value, c.deref-3.ensures.0) at c.in_ok-touched.ensures.marked)))
 
 pub returns-clause-faultless : goal.returns-clause-faultless
 returns-clause-faultless c = faultless (counted (goal.at.returns-clause-faultless c).In-Ok)
@@ -86,7 +86,7 @@ returns-clause-outcome c =
           c.in-Ok.counting.places.items c.words-words.result.now,
       c.words-words.ensures.words,
       c.verdict_of.ensures,
-      c.deref-6.ensures.value,
+      c.deref-5.ensures.value,
       c.counted.ensures,
       c.n.ensures,
     )

@@ -16,6 +16,12 @@ overwrite_in_turn-requires-clause-starts c = rw c.deref.ensures.value (all_made 
     (λ (b : BlockOf). length b.copy.start ≡ length c.self.inside.start.now) c.self.inside.blocks.items
     c.self.invariant.starts)
 
+pub overwrite_in_turn-requires-clause-there : goal.overwrite_in_turn-requires-clause-there
+overwrite_in_turn-requires-clause-there c =
+    let pages : length c.self.inside.touched.items ≡ (length c.self.inside.start.now + 63) / 64 =
+    c.self.invariant.pages in
+    omega (arith, pages)
+
 pub overwrite_in_turn-requires-clause-touched : goal.overwrite_in_turn-requires-clause-touched
 overwrite_in_turn-requires-clause-touched c k below inside =
     let words = c.self.inside.touched.items in
