@@ -1,13 +1,11 @@
 //! The join of two abstract states.
 
 ghost use Rattle.std.specs.Prelude.{◌≡◌, ◌==◌, if◌then◌else◌, length};
-ghost use Rattle.bpf_verify_model.specs.declared.abstract_value.AbstractValue.TheVariants.{Unwritten, Number, Frame};
-ghost use Rattle.bpf_verify_model.specs.declared.abstract_value.AbstractValue.TheVariants.{Ctx, Map, Area, AreaOrNull};
-ghost use Rattle.bpf_verify_model.specs.declared.abstract_value.AbstractValue.TheVariants.{Code};
+ghost use Rattle.bpf_verify_model.specs.declared.abstract_value.AbstractValue.TheVariants.{Unwritten};
 ghost use Rattle.bpf_verify_model.specs.States.{joined_values, joined_registers, joined_callers, joined_states};
 
 use bpf_verify_model::{AbstractValue, Registers, State, WrittenBytes, reg};
-use value_range::{Range, join};
+use value_range::join;
 
 /// The join of a register's abstract values.
 pub(crate) fn join_values(a: AbstractValue, b: AbstractValue) -> AbstractValue
@@ -15,81 +13,45 @@ pub(crate) fn join_values(a: AbstractValue, b: AbstractValue) -> AbstractValue
 {
     match a {
         AbstractValue::Unwritten => AbstractValue::Unwritten,
-        AbstractValue::Number(range) => with_number(range, b),
-        AbstractValue::Frame(position) => with_frame(position, b),
-        AbstractValue::Ctx(position) => with_ctx(position, b),
-        AbstractValue::Map(map) => with_map(map, b),
-        AbstractValue::Area(map, range) => with_area(map, range, b),
-        AbstractValue::AreaOrNull(map, range) => with_area_or_null(map, range, b),
-        AbstractValue::Code(start) => with_code(start, b),
-    }
-}
-
-fn with_number(range: Range, b: AbstractValue) -> AbstractValue
-    ensures { result ≡ joined_values (Number range) b }
-{
-    match b {
-        AbstractValue::Number(other) => AbstractValue::Number(join(range, other)),
-        _ => AbstractValue::Unwritten,
-    }
-}
-
-fn with_frame(position: u32, b: AbstractValue) -> AbstractValue
-    ensures { result ≡ joined_values (Frame position) b }
-{
-    match b {
-        AbstractValue::Frame(other) => same(position, other, AbstractValue::Frame(position)),
-        _ => AbstractValue::Unwritten,
-    }
-}
-
-fn with_ctx(position: u32, b: AbstractValue) -> AbstractValue
-    ensures { result ≡ joined_values (Ctx position) b }
-{
-    match b {
-        AbstractValue::Ctx(other) => same(position, other, AbstractValue::Ctx(position)),
-        _ => AbstractValue::Unwritten,
-    }
-}
-
-fn with_map(map: u32, b: AbstractValue) -> AbstractValue
-    ensures { result ≡ joined_values (Map map) b }
-{
-    match b {
-        AbstractValue::Map(other) => same(map, other, AbstractValue::Map(map)),
-        _ => AbstractValue::Unwritten,
-    }
-}
-
-fn with_area(map: u32, range: Range, b: AbstractValue) -> AbstractValue
-    ensures { result ≡ joined_values (Area map range) b }
-{
-    match b {
-        AbstractValue::Area(other, r) => same(map, other, AbstractValue::Area(map, join(range, r))),
-        AbstractValue::AreaOrNull(other, r) => {
-            same(map, other, AbstractValue::AreaOrNull(map, join(range, r)))
-        }
-        _ => AbstractValue::Unwritten,
-    }
-}
-
-fn with_area_or_null(map: u32, range: Range, b: AbstractValue) -> AbstractValue
-    ensures { result ≡ joined_values (AreaOrNull map range) b }
-{
-    match b {
-        AbstractValue::Area(other, r) | AbstractValue::AreaOrNull(other, r) => {
-            same(map, other, AbstractValue::AreaOrNull(map, join(range, r)))
-        }
-        _ => AbstractValue::Unwritten,
-    }
-}
-
-fn with_code(start: u32, b: AbstractValue) -> AbstractValue
-    ensures { result ≡ joined_values (Code start) b }
-{
-    match b {
-        AbstractValue::Code(other) => same(start, other, AbstractValue::Code(start)),
-        _ => AbstractValue::Unwritten,
+        AbstractValue::Number(range) => match b {
+            AbstractValue::Number(other) => AbstractValue::Number(join(range, other)),
+            _ => AbstractValue::Unwritten,
+        },
+        AbstractValue::Frame(position) => match b {
+            AbstractValue::Frame(other) => same(position, other, a),
+            _ => AbstractValue::Unwritten,
+        },
+        AbstractValue::Ctx(position) => match b {
+            AbstractValue::Ctx(other) => same(position, other, a),
+            _ => AbstractValue::Unwritten,
+        },
+        AbstractValue::Map(map) => match b {
+            AbstractValue::Map(other) => same(map, other, a),
+            _ => AbstractValue::Unwritten,
+        },
+        AbstractValue::Area(map, range) => match b {
+            AbstractValue::Area(other, r) => same(
+                map,
+                other,
+                AbstractValue::Area(map, join(range, r)),
+            ),
+            AbstractValue::AreaOrNull(other, r) => same(
+                map,
+                other,
+                AbstractValue::AreaOrNull(map, join(range, r)),
+            ),
+            _ => AbstractValue::Unwritten,
+        },
+        AbstractValue::AreaOrNull(map, range) => match b {
+            AbstractValue::Area(other, r) | AbstractValue::AreaOrNull(other, r) => {
+                same(map, other, AbstractValue::AreaOrNull(map, join(range, r)))
+            }
+            _ => AbstractValue::Unwritten,
+        },
+        AbstractValue::Code(start) => match b {
+            AbstractValue::Code(other) => same(start, other, a),
+            _ => AbstractValue::Unwritten,
+        },
     }
 }
 

@@ -25,12 +25,8 @@ pub fn code_target(slot: u32, imm: i32) -> Option<u32>
     ensures { result ≡ code_target CodeKind slot imm }
 {
     match slot_beyond(slot, imm) {
-        None => None,
-        Some(target) => if slot + 1 < target {
-            Some(target)
-        } else {
-            None
-        },
+        Some(target) if slot + 1 < target => Some(target),
+        _ => None,
     }
 }
 
@@ -40,17 +36,11 @@ pub fn named_by(slot: u32, insn: Insn) -> Option<u32>
     ensures { result ≡ named_by slot insn }
 {
     match insn {
-        Insn::LoadImm { kind, imm, .. } => target_of(kind, slot, imm),
-        _ => None,
-    }
-}
-
-fn target_of(kind: ImmKind, slot: u32, imm: i32) -> Option<u32>
-    requires { slot ≤ 4096 }
-    ensures { result ≡ code_target kind slot imm }
-{
-    match kind {
-        ImmKind::Code => code_target(slot, imm),
+        Insn::LoadImm {
+            kind: ImmKind::Code,
+            imm,
+            ..
+        } => code_target(slot, imm),
         _ => None,
     }
 }

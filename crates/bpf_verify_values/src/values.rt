@@ -1,8 +1,6 @@
 //! What operators give on the abstract values of registers.
 
 ghost use Rattle.std.specs.Prelude.{◌≡◌};
-ghost use Rattle.bpf_insn_types.specs.declared.insn.Width.TheVariants.{W64};
-ghost use Rattle.bpf_verify_model.specs.declared.abstract_value.AbstractValue.TheVariants.{Number, Area};
 ghost use Rattle.bpf_verify_model.specs.Values.{known_operand, known_of_number, known_of_numbers, known_copy};
 ghost use Rattle.bpf_verify_model.specs.Values.{known_position, known_area, known_moved, known_sum, known_result};
 ghost use Rattle.bpf_verify_model.specs.Values.{is_number_value, is_unwritten, is_null_check, compares};
@@ -15,20 +13,14 @@ use value_range::{Operation, Range, alu, exact};
 pub fn is_number(value: AbstractValue) -> bool
     ensures { result ≡ is_number_value value }
 {
-    match value {
-        AbstractValue::Number(_) => true,
-        _ => false,
-    }
+    matches!(value, AbstractValue::Number(_))
 }
 
 /// Whether it can't be read.
 pub fn is_unwritten(value: AbstractValue) -> bool
     ensures { result ≡ is_unwritten value }
 {
-    match value {
-        AbstractValue::Unwritten => true,
-        _ => false,
-    }
+    matches!(value, AbstractValue::Unwritten)
 }
 
 /// The abstract value of an operand: an immediate is sign-extended.
@@ -59,19 +51,13 @@ fn on_numbers(width: Width, op: AluOp, a: AbstractValue, b: AbstractValue) -> Op
     ensures { result ≡ known_of_numbers width op a b }
 {
     match a {
-        AbstractValue::Number(a) => on_number_and(width, op, a, b),
-        _ => None,
-    }
-}
-
-fn on_number_and(width: Width, op: AluOp, a: Range, b: AbstractValue) -> Option<AbstractValue>
-    ensures { result ≡ known_of_numbers width op (Number a) b }
-{
-    match b {
-        AbstractValue::Number(b) => {
-            let range = alu(Operation::Alu(op), width, a, b);
-            Some(AbstractValue::Number(range))
-        }
+        AbstractValue::Number(a) => match b {
+            AbstractValue::Number(b) => {
+                let range = alu(Operation::Alu(op), width, a, b);
+                Some(AbstractValue::Number(range))
+            }
+            _ => None,
+        },
         _ => None,
     }
 }
@@ -82,16 +68,10 @@ fn copied(width: Width, value: AbstractValue) -> Option<AbstractValue>
 {
     match width {
         Width::W32 => on_number(Operation::Alu(AluOp::Mov), Width::W32, value),
-        Width::W64 => written(value),
-    }
-}
-
-fn written(value: AbstractValue) -> Option<AbstractValue>
-    ensures { result ≡ known_copy W64 value }
-{
-    match value {
-        AbstractValue::Unwritten => None,
-        _ => Some(value),
+        Width::W64 => match value {
+            AbstractValue::Unwritten => None,
+            _ => Some(value),
+        },
     }
 }
 
@@ -123,15 +103,6 @@ fn area_sum(map: u32, offset: Range, n: Range) -> Option<AbstractValue>
     }
 }
 
-fn area_moved(op: AluOp, map: u32, offset: Range, n: Range) -> Option<AbstractValue>
-    ensures { result ≡ known_moved op (Area map offset) n }
-{
-    match op {
-        AluOp::Add => area_sum(map, offset, n),
-        _ => None,
-    }
-}
-
 /// A number added or taken away at 64 bits.
 fn moved(op: AluOp, a: AbstractValue, n: Range) -> Option<AbstractValue>
     ensures { result ≡ known_moved op a n }
@@ -145,16 +116,10 @@ fn moved(op: AluOp, a: AbstractValue, n: Range) -> Option<AbstractValue>
             Some(AbstractValue::Frame(moved_position(op, position, n)?))
         }
         AbstractValue::Ctx(position) => Some(AbstractValue::Ctx(moved_position(op, position, n)?)),
-        AbstractValue::Area(map, offset) => area_moved(op, map, offset, n),
-        _ => None,
-    }
-}
-
-fn wide_sum(op: AluOp, a: AbstractValue, b: AbstractValue) -> Option<AbstractValue>
-    ensures { result ≡ known_sum W64 op a b }
-{
-    match b {
-        AbstractValue::Number(n) => moved(op, a, n),
+        AbstractValue::Area(map, offset) => match op {
+            AluOp::Add => area_sum(map, offset, n),
+            _ => None,
+        },
         _ => None,
     }
 }
@@ -165,7 +130,10 @@ fn sum(width: Width, op: AluOp, a: AbstractValue, b: AbstractValue) -> Option<Ab
 {
     match width {
         Width::W32 => on_numbers(Width::W32, op, a, b),
-        Width::W64 => wide_sum(op, a, b),
+        Width::W64 => match b {
+            AbstractValue::Number(n) => moved(op, a, n),
+            _ => None,
+        },
     }
 }
 
