@@ -2,8 +2,8 @@
 
 ghost use Rattle.std.specs.Prelude.{◌≡◌};
 ghost use Rattle.bpf_verify_model.specs.{States.{known_register}, Flow.{branch_states}};
-ghost use Rattle.bpf_verify_model.specs.Flow.{compared_imm, with_operand_number, refines, unrefined_branch};
-ghost use Rattle.bpf_verify_model.specs.Flow.{number_branch, register_branch, operand_branch, null_check_branch};
+ghost use Rattle.bpf_verify_model.specs.Flow.{compared_imm, refines, unrefined_branch};
+ghost use Rattle.bpf_verify_model.specs.Flow.{number_branch, operand_branch, null_check_branch};
 
 use bpf_insn_types::{Compare, Operand, Reg, Width};
 use bpf_verify_model::{AbstractValue, BranchStates, State};
@@ -19,15 +19,6 @@ fn compared_imm(width: Width, imm: i32) -> u64
     }
 }
 
-fn with_number(state: &State, operand: Operand, b: Range) -> State
-    ensures { result ≡ with_operand_number state.now operand b }
-{
-    match operand {
-        Operand::Imm(_) => *state,
-        Operand::Reg(reg) => state.with(reg, AbstractValue::Number(b)),
-    }
-}
-
 /// The abstract state where the operands are refined, if a pair of their numbers is left.
 fn refines(state: &State, dst: Reg, operand: Operand, pair: Option<(Range, Range)>) -> Option<State>
     ensures { result ≡ refines state.now dst operand pair }
@@ -36,7 +27,10 @@ fn refines(state: &State, dst: Reg, operand: Operand, pair: Option<(Range, Range
         None => None,
         Some((a, b)) => {
             let with_dst = state.with(dst, AbstractValue::Number(a));
-            Some(with_number(&with_dst, operand, b))
+            match operand {
+                Operand::Imm(_) => Some(with_dst),
+                Operand::Reg(reg) => Some(with_dst.with(reg, AbstractValue::Number(b))),
+            }
         }
     }
 }
@@ -71,30 +65,7 @@ fn number_branch(
     }
 }
 
-/// A comparison of a number with a register: with itself it says nothing.
-fn register_branch(
-    state: &State,
-    width: Width,
-    compare: Compare,
-    dst: Reg,
-    reg: Reg,
-    a: Range,
-) -> BranchStates
-    ensures { result ≡ register_branch state.now width compare dst reg a (known_register state.now reg) }
-{
-    match state.register(reg) {
-        AbstractValue::Number(b) => {
-            if dst.number() == reg.number() {
-                unrefined_branch(state)
-            } else {
-                number_branch(state, width, compare, &dst, &Operand::Reg(reg), &a, &b)
-            }
-        }
-        _ => unrefined_branch(state),
-    }
-}
-
-/// A comparison of a number.
+/// A comparison of a number: of a register with itself it says nothing.
 fn operand_branch(
     state: &State,
     width: Width,
@@ -110,7 +81,16 @@ fn operand_branch(
             let b = exact(compared_imm(width, imm));
             number_branch(state, width, compare, &dst, &operand, &a, &b)
         }
-        Operand::Reg(reg) => register_branch(state, width, compare, dst, reg, a),
+        Operand::Reg(reg) => match state.register(reg) {
+            AbstractValue::Number(b) => {
+                if dst.number() == reg.number() {
+                    unrefined_branch(state)
+                } else {
+                    number_branch(state, width, compare, &dst, &operand, &a, &b)
+                }
+            }
+            _ => unrefined_branch(state),
+        },
     }
 }
 

@@ -1,12 +1,12 @@
 //! The abstract state after an instruction.
 
-ghost use Rattle.std.specs.{Prelude.{◌≡◌, ◌+◌, ◌*◌, ◌^◌, ◌+ℤ◌, ◌≤◌, pos, slice_get}, Int.{cast_unsigned, w32}};
+ghost use Rattle.std.specs.{Prelude.{◌≡◌, ◌+◌, ◌*◌, ◌^◌, ◌+ℤ◌, ◌≤◌, pos}, Int.{cast_unsigned, w32}};
 ghost use Rattle.bpf_insn_types.specs.{declared.insn.ImmKind.TheVariants.{Code as CodeKind}, Program.{code_target}};
 ghost use Rattle.bpf_insn_types.specs.Sizes.{bytes_of};
-ghost use Rattle.bpf_verify_model.specs.{States.{known_register}, Flow.{known_lookup, known_answer, known_behind}};
+ghost use Rattle.bpf_verify_model.specs.{States.{known_register}, Flow.{known_answer, known_behind}};
 ghost use Rattle.bpf_verify_model.specs.Values.{known_operand, known_of_number, known_result};
-ghost use Rattle.bpf_verify_model.specs.Flow.{with_known_result, number_of_size, with_written, with_store};
-ghost use Rattle.bpf_verify_model.specs.Flow.{with_fetched, known_code, known_wide, known_after_call, address_in};
+ghost use Rattle.bpf_verify_model.specs.Flow.{with_known_result, number_of_size, with_store};
+ghost use Rattle.bpf_verify_model.specs.Flow.{with_fetched, known_wide, known_after_call, address_in};
 
 use bpf_insn_types::{AluOp, AtomicOp, FRAME_BYTES, ImmKind, Insn, Operand, Reg, Size, Width};
 use bpf_verify_model::{AbstractValue, Helper, State, reg};
@@ -36,21 +36,18 @@ fn number_of_size(size: Size) -> AbstractValue
 }
 
 /// A store to the frame writes its bytes.
-fn with_written(state: &mut State, size: u32, position: u32, offset: i16)
-    ensures { state.new ≡ with_written state.old size (pos position +ℤ offset) }
-{
-    let place = position as i64 + offset as i64;
-    if place < 0 || (FRAME_BYTES as i64) < place + size as i64 {
-        return;
-    }
-    state.own.write(place as usize, size as usize);
-}
-
 fn with_store(state: &mut State, size: Size, dst: Reg, offset: i16)
     ensures { state.new ≡ with_store state.old (bytes_of size) offset (known_register state.old dst) }
 {
     match state.register(dst) {
-        AbstractValue::Frame(position) => with_written(state, bytes_of(size), position, offset),
+        AbstractValue::Frame(position) => {
+            let size = bytes_of(size);
+            let place = position as i64 + offset as i64;
+            if place < 0 || (FRAME_BYTES as i64) < place + size as i64 {
+                return;
+            }
+            state.own.write(place as usize, size as usize);
+        }
         _ => {}
     }
 }
@@ -64,15 +61,6 @@ fn with_fetched(state: &mut State, width: Width, op: AtomicOp, src: Reg)
         AtomicOp::Simple(_) => {}
         AtomicOp::Fetch(_) | AtomicOp::Xchg => state.set(src, old),
         AtomicOp::Cmpxchg => state.set(reg(0), old),
-    }
-}
-
-fn known_code(start: Option<u32>) -> AbstractValue
-    ensures { result ≡ known_code start }
-{
-    match start {
-        None => AbstractValue::Unwritten,
-        Some(start) => AbstractValue::Code(start),
     }
 }
 
@@ -90,7 +78,10 @@ fn known_wide(slot: u32, kind: ImmKind, imm: i32, next_imm: i32) -> AbstractValu
 {
     match kind {
         ImmKind::Number => AbstractValue::Number(exact(wide_number(imm, next_imm))),
-        ImmKind::Code => known_code(code_target(slot, imm)),
+        ImmKind::Code => match code_target(slot, imm) {
+            None => AbstractValue::Unwritten,
+            Some(start) => AbstractValue::Code(start),
+        },
         ImmKind::Map => AbstractValue::Map(imm.cast_unsigned()),
         ImmKind::MapValue => {
             let offset = exact(next_imm.cast_unsigned() as u64);
@@ -120,31 +111,18 @@ fn address_in(map: u32, count: u32) -> AbstractValue
     AbstractValue::AreaOrNull(map, norm(0, last, 3))
 }
 
-fn found_in(sizes: &[u32], map: u32) -> AbstractValue
-    ensures { result ≡ address_in map (slice_get sizes.now map) }
-{
-    match sizes.get(map as usize) {
-        None => AbstractValue::Unwritten,
-        Some(count) => address_in(map, *count),
-    }
-}
-
-/// What a lookup answers.
-fn known_lookup(sizes: &[u32], value: AbstractValue) -> AbstractValue
-    ensures { result ≡ known_lookup sizes.now value }
-{
-    match value {
-        AbstractValue::Map(map) => found_in(sizes, map),
-        _ => AbstractValue::Unwritten,
-    }
-}
-
 /// What a helper answers.
 fn known_answer(sizes: &[u32], state: &State, helper: Option<Helper>) -> AbstractValue
     ensures { result ≡ known_answer sizes.now state.now helper }
 {
     match helper {
-        Some(Helper::Lookup) => known_lookup(sizes, state.register(reg(1))),
+        Some(Helper::Lookup) => match state.register(reg(1)) {
+            AbstractValue::Map(map) => match sizes.get(map as usize) {
+                None => AbstractValue::Unwritten,
+                Some(count) => address_in(map, *count),
+            },
+            _ => AbstractValue::Unwritten,
+        },
         Some(Helper::Loop) => AbstractValue::Number(top(Width::W64)),
         None => AbstractValue::Unwritten,
     }
@@ -167,14 +145,6 @@ fn behind_one(state: &mut State, operation: Operation, width: Width, dst: Reg, s
 {
     let value = state.register(src);
     with_known_result(state, dst, on_number(operation, width, value));
-}
-
-/// Behind a call.
-fn behind_call(sizes: &[u32], state: &mut State, helper: Option<Helper>)
-    ensures { state.new ≡ known_after_call state.old (known_answer sizes.now state.old helper) }
-{
-    let answer = known_answer(sizes, state, helper);
-    known_after_call(state, answer);
 }
 
 /// Leaves the abstract state after an instruction that doesn't jump.
@@ -221,7 +191,10 @@ pub fn state_after(sizes: &[u32], slot: u32, state: &mut State, insn: Insn)
             imm,
             next_imm,
         } => state.set(dst, known_wide(slot, kind, imm, next_imm)),
-        Insn::Call { callee, imm } => behind_call(sizes, state, helper_of(callee, imm)),
+        Insn::Call { callee, imm } => {
+            let answer = known_answer(sizes, state, helper_of(callee, imm));
+            known_after_call(state, answer);
+        }
         _ => {}
     }
 }

@@ -2,8 +2,8 @@
 
 ghost use Rattle.std.specs.Prelude.{◌≡◌, ◌≤◌, ◌+◌};
 ghost use Rattle.bpf_insn_types.specs.{Slots.{slots_of}, Program.{moved}};
-ghost use Rattle.bpf_verify_model.specs.{States.{known_register}, Flow.{known_behind, flow}};
-ghost use Rattle.bpf_verify_model.specs.Flow.{edge_to, branch_outflow, jump_outflow, ahead_outflow, enters, calls_back};
+ghost use Rattle.bpf_verify_model.specs.Flow.{known_behind, flow};
+ghost use Rattle.bpf_verify_model.specs.Flow.{edge_to, branch_outflow, jump_outflow, ahead_outflow, calls_back};
 
 use crate::comparisons::branch_states;
 use crate::entries::callback_entry;
@@ -45,23 +45,17 @@ fn jump_outflow(slot: u32, distance: i32, state: &State) -> Outflow
 }
 
 /// The edge to a loop's callback.
-fn enters(state: &State) -> Option<Edge>
-    ensures { result ≡ enters state.now (known_register state.now 2) }
-{
-    match state.register(reg(2)) {
-        AbstractValue::Code(target) => Some(Edge {
-            target,
-            state: callback_entry(state),
-        }),
-        _ => None,
-    }
-}
-
 fn calls_back(state: &State, helper: Option<Helper>) -> Option<Edge>
     ensures { result ≡ calls_back state.now helper }
 {
     match helper {
-        Some(Helper::Loop) => enters(state),
+        Some(Helper::Loop) => match state.register(reg(2)) {
+            AbstractValue::Code(target) => Some(Edge {
+                target,
+                state: callback_entry(state),
+            }),
+            _ => None,
+        },
         _ => None,
     }
 }
