@@ -57,18 +57,12 @@ pub(crate) fn access_of(insn: Insn) -> Option<MemoryAccess>
 pub(crate) fn reads(kind: AccessKind) -> bool
     ensures { result ≡ kind_reads kind }
 {
-    match kind {
-        AccessKind::Reads | AccessKind::Changes => true,
-        AccessKind::Writes => false,
-    }
+    !matches!(kind, AccessKind::Writes)
 }
 
 /// Whether an access writes.
 pub(crate) fn writes(kind: AccessKind) -> bool
     ensures { result ≡ kind_writes kind }
 {
-    match kind {
-        AccessKind::Writes | AccessKind::Changes => true,
-        AccessKind::Reads => false,
-    }
+    !matches!(kind, AccessKind::Reads)
 }

@@ -2,10 +2,9 @@
 //! to V5).
 
 ghost use Rattle.std.specs.Prelude.{◌≡◌, ◌==◌};
-ghost use Rattle.bpf_verify_model.specs.Rules.{jump_distance, goes_on, is_code_kind, is_code_load, calls_no_helper};
-ghost use Rattle.bpf_verify_model.specs.Rules.{calls_otherwise, is_outer_kind, loads_outer, count_of_map, has_byte};
-ghost use Rattle.bpf_verify_model.specs.Rules.{lacks_map, loads_no_map, fetches_into_r10, writes_r10, insn_fault};
-ghost use Rattle.bpf_verify_model.specs.Rules.{is_loop, uses_callbacks, callback_fault};
+ghost use Rattle.bpf_verify_model.specs.Rules.{jump_distance, goes_on, is_code_load, calls_no_helper, calls_otherwise};
+ghost use Rattle.bpf_verify_model.specs.Rules.{loads_outer, count_of_map, has_byte, loads_no_map, fetches_into_r10};
+ghost use Rattle.bpf_verify_model.specs.Rules.{writes_r10, insn_fault, uses_callbacks, callback_fault};
 
 use bpf_insn_types::{AtomicOp, Callee, ImmKind, Insn, Reg};
 use bpf_verify_model::{Helper, Rule};
@@ -34,21 +33,15 @@ pub fn goes_on(insn: Insn) -> bool
     }
 }
 
-fn is_code_kind(kind: ImmKind) -> bool
-    ensures { result ≡ is_code_kind kind }
-{
-    match kind {
-        ImmKind::Code => true,
-        _ => false,
-    }
-}
-
 /// Whether an instruction is the load of a code address.
 pub fn is_code_load(insn: Insn) -> bool
     ensures { result ≡ is_code_load insn }
 {
     match insn {
-        Insn::LoadImm { kind, .. } => is_code_kind(kind),
+        Insn::LoadImm {
+            kind: ImmKind::Code,
+            ..
+        } => true,
         _ => false,
     }
 }
@@ -84,16 +77,10 @@ fn loads_outer(insn: Insn) -> bool
     ensures { result ≡ loads_outer insn }
 {
     match insn {
-        Insn::LoadImm { kind, .. } => is_outer_kind(kind),
-        _ => false,
-    }
-}
-
-fn is_outer_kind(kind: ImmKind) -> bool
-    ensures { result ≡ is_outer_kind kind }
-{
-    match kind {
-        ImmKind::MapFd | ImmKind::MapFdValue | ImmKind::Variable => true,
+        Insn::LoadImm {
+            kind: ImmKind::MapFd | ImmKind::MapFdValue | ImmKind::Variable,
+            ..
+        } => true,
         _ => false,
     }
 }
@@ -118,27 +105,22 @@ fn has_byte(count: Option<u32>, offset: i32) -> bool
     }
 }
 
-fn lacks_map(sizes: &[u32], kind: ImmKind, imm: i32, next_imm: i32) -> bool
-    ensures { result ≡ lacks_map sizes.now kind imm next_imm }
-{
-    match kind {
-        ImmKind::Map => count_of_map(sizes, imm).is_none(),
-        ImmKind::MapValue => !has_byte(count_of_map(sizes, imm), next_imm),
-        _ => false,
-    }
-}
-
 /// V10: no such map, or no such byte of its values.
 fn loads_no_map(sizes: &[u32], insn: Insn) -> bool
     ensures { result ≡ loads_no_map sizes.now insn }
 {
     match insn {
         Insn::LoadImm {
-            kind,
+            kind: ImmKind::Map,
+            imm,
+            ..
+        } => count_of_map(sizes, imm).is_none(),
+        Insn::LoadImm {
+            kind: ImmKind::MapValue,
             imm,
             next_imm,
             ..
-        } => lacks_map(sizes, kind, imm, next_imm),
+        } => !has_byte(count_of_map(sizes, imm), next_imm),
         _ => false,
     }
 }
@@ -200,21 +182,15 @@ pub fn insn_fault(sizes: &[u32], insn: &Insn) -> Option<Rule>
     }
 }
 
-fn is_loop(helper: Option<Helper>) -> bool
-    ensures { result ≡ is_loop helper }
-{
-    match helper {
-        Some(Helper::Loop) => true,
-        _ => false,
-    }
-}
-
 fn uses_callbacks(insn: Insn) -> bool
     ensures { result ≡ uses_callbacks insn }
 {
     match insn {
-        Insn::Call { callee, imm } => is_loop(helper_of(callee, imm)),
-        Insn::LoadImm { kind, .. } => is_code_kind(kind),
+        Insn::Call { callee, imm } => matches!(helper_of(callee, imm), Some(Helper::Loop)),
+        Insn::LoadImm {
+            kind: ImmKind::Code,
+            ..
+        } => true,
         _ => false,
     }
 }

@@ -3,7 +3,7 @@
 ghost use Rattle.std.specs.Prelude.{◌≡◌, ◌+ℤ◌, ◌*◌, ◌^◌, ◌≤◌, pos, slice_get};
 ghost use Rattle.bpf_verify_model.specs.Accesses.{is_memory, is_part_of_half, is_misaligned, is_spread};
 ghost use Rattle.bpf_verify_model.specs.Accesses.{misses_alignment, is_outside_frame, is_outside_map, is_outside};
-ghost use Rattle.bpf_verify_model.specs.Accesses.{lacks_bytes, caller_lacks, has_unwritten_byte, is_ctx};
+ghost use Rattle.bpf_verify_model.specs.Accesses.{lacks_bytes, has_unwritten_byte, is_ctx};
 
 use bpf_insn_types::FRAME_BYTES;
 use bpf_verify_model::{AbstractValue, State, WrittenBytes};
@@ -13,10 +13,10 @@ use value_range::Range;
 pub(crate) fn is_memory(base: AbstractValue) -> bool
     ensures { result ≡ is_memory base }
 {
-    match base {
-        AbstractValue::Frame(_) | AbstractValue::Ctx(_) | AbstractValue::Area(_, _) => true,
-        _ => false,
-    }
+    matches!(
+        base,
+        AbstractValue::Frame(_) | AbstractValue::Ctx(_) | AbstractValue::Area(_, _)
+    )
 }
 
 /// V17: an access of n bytes is of a map's values, and neither of a value nor of a half.
@@ -33,10 +33,7 @@ pub(crate) fn is_part_of_half(size: u32, base: AbstractValue) -> bool
 pub(crate) fn is_ctx(base: AbstractValue) -> bool
     ensures { result ≡ is_ctx base }
 {
-    match base {
-        AbstractValue::Ctx(_) => true,
-        _ => false,
-    }
+    matches!(base, AbstractValue::Ctx(_))
 }
 
 /// A place in a frame, which may lie outside.
@@ -46,41 +43,26 @@ fn place(position: u32, offset: i16) -> i64
     position as i64 + offset as i64
 }
 
-/// A place among a map's values, which may lie outside.
+/// A place in a frame or among a map's values, which may lie outside.
 fn area_place(place: u64, offset: i16) -> i128
     ensures { result ≡ pos place +ℤ offset }
 {
     place as i128 + offset as i128
 }
 
-/// Whether a place in a frame isn't a multiple of a size.
-fn is_misaligned(size: u32, place: i64) -> bool
+/// Whether a place isn't a multiple of a size.
+fn is_misaligned(size: u32, place: i128) -> bool
     requires { 1 ≤ size }
     ensures { result ≡ is_misaligned size place }
 {
-    place % size as i64 != 0
-}
-
-/// Whether a place among a map's values, at an offset from another, isn't a multiple of a size.
-fn is_area_misaligned(size: u32, lo: u64, offset: i16) -> bool
-    requires { 1 ≤ size }
-    ensures { result ≡ is_misaligned size (pos lo +ℤ offset) }
-{
-    area_place(lo, offset) % size as i128 != 0
+    place % size as i128 != 0
 }
 
 /// Whether a range has more than one offset, and not all of them are multiples of a size.
 fn is_spread(size: u32, range: Range) -> bool
     ensures { result ≡ is_spread size range }
 {
-    range.lo() < range.hi() && multiple_of(range) < size as u128
-}
-
-/// The power of two of which all numbers of a range are multiples.
-fn multiple_of(range: Range) -> u128
-    ensures { result ≡ 2 ^ range.zeros }
-{
-    1u128 << range.zeros()
+    range.lo() < range.hi() && (1u128 << range.zeros()) < size as u128
 }
 
 /// V18: an access of n bytes at an offset from this base isn't aligned.
@@ -89,10 +71,11 @@ pub(crate) fn misses_alignment(size: u32, offset: i16, base: AbstractValue) -> b
     ensures { result ≡ misses_alignment size offset base }
 {
     match base {
-        AbstractValue::Frame(position) => is_misaligned(size, place(position, offset)),
-        AbstractValue::Ctx(position) => is_misaligned(size, place(position, offset)),
+        AbstractValue::Frame(position) | AbstractValue::Ctx(position) => {
+            is_misaligned(size, area_place(u64::from(position), offset))
+        }
         AbstractValue::Area(_, range) => {
-            is_area_misaligned(size, range.lo(), offset) || is_spread(size, range)
+            is_misaligned(size, area_place(range.lo(), offset)) || is_spread(size, range)
         }
         _ => false,
     }
@@ -111,8 +94,9 @@ pub(crate) fn is_outside(sizes: &[u32], size: u32, offset: i16, base: AbstractVa
     ensures { result ≡ is_outside sizes.now size offset base }
 {
     match base {
-        AbstractValue::Frame(position) => is_outside_frame(size, position, offset),
-        AbstractValue::Ctx(position) => is_outside_frame(size, position, offset),
+        AbstractValue::Frame(position) | AbstractValue::Ctx(position) => {
+            is_outside_frame(size, position, offset)
+        }
         AbstractValue::Area(map, range) => {
             is_outside_map(size_of_map(sizes, map), size, offset, range)
         }
@@ -152,15 +136,6 @@ fn lacks(written: &WrittenBytes, size: u32, position: u32, offset: i16) -> bool
     !written.all_written(place as usize, size as usize)
 }
 
-fn caller_lacks(written: &Option<WrittenBytes>, size: u32, position: u32, offset: i16) -> bool
-    ensures { result ≡ caller_lacks written.now size (pos position +ℤ offset) }
-{
-    match written {
-        None => true,
-        Some(written) => lacks(written, size, position, offset),
-    }
-}
-
 /// Whether n bytes at an offset from this base lie within a frame, and one of them isn't
 /// written.
 pub(crate) fn has_unwritten_byte(state: &State, size: u32, offset: i16, base: AbstractValue) -> bool
@@ -168,7 +143,10 @@ pub(crate) fn has_unwritten_byte(state: &State, size: u32, offset: i16, base: Ab
 {
     match base {
         AbstractValue::Frame(position) => lacks(&state.own, size, position, offset),
-        AbstractValue::Ctx(position) => caller_lacks(&state.caller, size, position, offset),
+        AbstractValue::Ctx(position) => match &state.caller {
+            None => true,
+            Some(written) => lacks(written, size, position, offset),
+        },
         _ => false,
     }
 }

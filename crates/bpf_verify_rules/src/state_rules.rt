@@ -1,15 +1,15 @@
 //! The rules that an instruction breaks by the abstract values of registers.
 
 ghost use Rattle.std.specs.Prelude.{◌≡◌, ◌≤◌};
-ghost use Rattle.bpf_verify_model.specs.declared.helper.Helper.TheVariants.{Lookup, Loop};
+ghost use Rattle.bpf_verify_model.specs.declared.helper.Helper.TheVariants.{Lookup};
 ghost use Rattle.bpf_verify_model.specs.Accesses.{memory_access_of};
 ghost use Rattle.bpf_verify_model.specs.Rules.{unwritten_register, unwritten_operand, unwritten_compared};
 ghost use Rattle.bpf_verify_model.specs.Rules.{unwritten_arguments, unwritten_operands, reads_unwritten};
 ghost use Rattle.bpf_verify_model.specs.Rules.{has_wrong_arithmetic_operands, has_wrong_comparison_operands};
 ghost use Rattle.bpf_verify_model.specs.Rules.{compares_with_no_number, stores_no_number, place_fault, bytes_fault};
-ghost use Rattle.bpf_verify_model.specs.Rules.{access_fault, is_key_position, is_key, is_map, is_code, is_ctx_argument};
+ghost use Rattle.bpf_verify_model.specs.Rules.{access_fault, is_key, is_map, is_code, is_ctx_argument};
 ghost use Rattle.bpf_verify_model.specs.Rules.{has_wrong_loop_arguments, helper_fault, call_fault, operand_fault};
-ghost use Rattle.bpf_verify_model.specs.Rules.{state_fault, is_bit, end_fault, exit_fault, or_else};
+ghost use Rattle.bpf_verify_model.specs.Rules.{state_fault, is_bit, exit_fault, or_else};
 
 use crate::access::{access_of, reads, writes};
 use crate::places::{
@@ -230,31 +230,20 @@ pub fn or_else(first: Option<Rule>, later: Option<Rule>) -> Option<Rule>
     }
 }
 
-fn fault_of_access(sizes: &[u32], state: &State, access: &MemoryAccess) -> Option<Rule>
-    requires { 1 ≤ access.now.size }
-    ensures { result ≡ access_fault sizes.now state.now (Some access.now) }
-{
-    let base = state.register(access.base);
-    or_else(
-        place_fault(sizes, access, &base),
-        bytes_fault(state, access, &base),
-    )
-}
-
 /// V16 to V21: the access that an instruction makes.
 fn access_fault(sizes: &[u32], state: &State, insn: Insn) -> Option<Rule>
     ensures { result ≡ access_fault sizes.now state.now (memory_access_of insn) }
 {
     match access_of(insn) {
         None => None,
-        Some(access) => fault_of_access(sizes, state, &access),
+        Some(access) => {
+            let base = state.register(access.base);
+            or_else(
+                place_fault(sizes, &access, &base),
+                bytes_fault(state, &access, &base),
+            )
+        }
     }
-}
-
-fn is_key_position(position: u32) -> bool
-    ensures { result ≡ is_key_position position }
-{
-    position % 4 == 0 && position <= 508
 }
 
 /// The address of a key.
@@ -262,8 +251,8 @@ fn is_key(value: AbstractValue) -> bool
     ensures { result ≡ is_key value }
 {
     match value {
-        AbstractValue::Frame(position) => is_key_position(position),
-        AbstractValue::Ctx(position) => is_key_position(position),
+        AbstractValue::Frame(position) | AbstractValue::Ctx(position) => position % 4 == 0
+            && position <= 508,
         _ => false,
     }
 }
@@ -271,19 +260,13 @@ fn is_key(value: AbstractValue) -> bool
 fn is_map(value: AbstractValue) -> bool
     ensures { result ≡ is_map value }
 {
-    match value {
-        AbstractValue::Map(_) => true,
-        _ => false,
-    }
+    matches!(value, AbstractValue::Map(_))
 }
 
 fn is_code(value: AbstractValue) -> bool
     ensures { result ≡ is_code value }
 {
-    match value {
-        AbstractValue::Code(_) => true,
-        _ => false,
-    }
+    matches!(value, AbstractValue::Code(_))
 }
 
 /// A loop's ctx: an address of main's frame, or the number 0.
@@ -321,17 +304,6 @@ fn has_wrong_loop_arguments(state: &State) -> bool
         || !is_number(state.register(reg(4)))
 }
 
-/// V22 of a loop.
-fn loop_fault(state: &State) -> Option<Rule>
-    ensures { result ≡ helper_fault state.now (Some Loop) }
-{
-    if has_wrong_loop_arguments(state) {
-        Some(Rule::HelperArgument)
-    } else {
-        None
-    }
-}
-
 /// V20 and V22 of a helper.
 fn helper_fault(state: &State, helper: Option<Helper>) -> Option<Rule>
     ensures { result ≡ helper_fault state.now helper }
@@ -339,7 +311,11 @@ fn helper_fault(state: &State, helper: Option<Helper>) -> Option<Rule>
     match helper {
         None => None,
         Some(Helper::Lookup) => lookup_fault(state),
-        Some(Helper::Loop) => loop_fault(state),
+        Some(Helper::Loop) => if has_wrong_loop_arguments(state) {
+            Some(Rule::HelperArgument)
+        } else {
+            None
+        },
     }
 }
 
@@ -372,31 +348,27 @@ fn is_bit(value: AbstractValue) -> bool
     }
 }
 
-/// V24: a callback doesn't end with 0 or 1. V25: main doesn't end with a number.
-fn end_fault(function: u32, value: AbstractValue) -> Option<Rule>
-    ensures { result ≡ end_fault function value }
-{
-    if function == 0 {
-        if is_number(value) {
-            None
-        } else {
-            Some(Rule::MainResult)
-        }
-    } else {
-        if is_bit(value) {
-            None
-        } else {
-            Some(Rule::CallbackResult)
-        }
-    }
-}
-
-/// V24 or V25: a function doesn't end as it has to. Main is function 0.
+/// V24: a callback doesn't end with 0 or 1. V25: main doesn't end with a number. Main is function 0.
 pub fn exit_fault(function: u32, state: &State, insn: Insn) -> Option<Rule>
     ensures { result ≡ exit_fault function state.now insn }
 {
     match insn {
-        Insn::Exit => end_fault(function, state.register(reg(0))),
+        Insn::Exit => {
+            let value = state.register(reg(0));
+            if function == 0 {
+                if is_number(value) {
+                    None
+                } else {
+                    Some(Rule::MainResult)
+                }
+            } else {
+                if is_bit(value) {
+                    None
+                } else {
+                    Some(Rule::CallbackResult)
+                }
+            }
+        }
         _ => None,
     }
 }
