@@ -1,7 +1,7 @@
 -- The first fault of a program, and the slots up to it.
 use Rattle.std.proofs.Common.{◌≡◌, ℕ, zero, suc, ◌<◌, ◌≤◌, inl, inr, ◌⊎◌, Bool, true, false, List, refl, sym, ◌∙◌}
 use Rattle.std.proofs.{Common.{subst, arith, Option, Some, None, is_some}, lemmas.Bool.Decides.{nat_tests}}
-use Rattle.std.{specs.Prelude.{nat_eq, if◌then◌else◌}, proofs.lemmas.Bool.{cases_lt, eq-eqb, ltb-false, or_right}}
+use Rattle.std.{specs.Prelude.{nat_eq, if◌then◌else◌}, proofs.lemmas.Bool.{cases_lt, ltb-false}}
 use Rattle.bpf_insn_types.specs.{declared.insn.Insn.{Insn}, Program.{Program, insn_at, slot_count}}
 use Rattle.bpf_insn_types.proofs.ProgramLaws.{insn_at-end}
 use Rattle.bpf_verify_model.specs.declared.rule.Rule.{Rule, TheVariants.{NoSlot, OverLimits}}
@@ -9,7 +9,7 @@ use Rattle.bpf_verify_model.specs.Accepted.{BrokenRule, unless_earlier, fault_at
 use Rattle.bpf_verify_model.specs.Accepted.{first_fault, is_too_large, WithinLimits}
 use Rattle.bpf_verify_model.proofs.JumpLaws.{first_fault-within}
 use Rattle.bpf_verify.proofs.PassLaws.{fault_within-later}
-use Rattle.bpf_verify_origin.specs.{Edges.{slots_before, passed_slots}, Inspected.{IsPassedTo, is_stop}}
+use Rattle.bpf_verify_origin.specs.{Edges.{slots_before, passed_slots}, Inspected.{IsPassedTo}}
 
 -- an instruction starts within the slots
 pub starts-within : (insns : List Insn) (slot : ℕ) → is_some (insn_at insns slot) ≡ true → slot < slot_count insns
@@ -61,15 +61,6 @@ passed-fine program count None is within = sym (is ∙ first_fault-within progra
 passed-fine program count (Some fault) is within =
     (found program count fault (sym (is ∙ first_fault-within program count within))).fine
 
--- a pass may stop at the first fault, or at the end
-pub passed-stop : (program : Program) (count : ℕ) (fault : Option BrokenRule) → fault ≡ first_fault program
-    → WithinLimits program count → is_stop program (slots_before fault count) ≡ true
-passed-stop program count None is within =
-    rw (eq-eqb count (slot_count program.insns) (sym within.counted)) refl
-passed-stop program count (Some fault) is within =
-    or_right (nat_eq fault.slot (slot_count program.insns)) (is_some (insn_at program.insns fault.slot))
-    (found program count fault (sym (is ∙ first_fault-within program count within))).starts
-
 -- a slot to which the pass comes is one up to the first fault
 pub passed-up_to : (program : Program) (slot : ℕ) → IsPassedTo program slot → slot ≤ passed_slots program
 passed-up_to program slot to = by_fault (first_fault program) refl
@@ -107,3 +98,17 @@ limits program = by_tests (nat_eq (slot_count program.insns) 0) refl (is_too_lar
       few = ltb-false 4096 (slot_count program.insns) (grind (arith, nat_tests));
       small = f;
     })
+
+-- no more slots are before the first fault than there are
+pub passed-within : (program : Program) → passed_slots program ≤ slot_count program.insns
+passed-within program = by_fault (first_fault program) refl (limits program)
+  where
+    by_fault : (fault : Option BrokenRule) → first_fault program ≡ fault
+        → WithinLimits program (slot_count program.insns) ⊎ (slots_before fault (slot_count program.insns) ≡ 0)
+        → slots_before fault (slot_count program.insns) ≤ slot_count program.insns
+    by_fault None is limits = omega arith
+    by_fault (Some fault) is (inr none) = omega (arith, none)
+    by_fault (Some fault) is (inl within) =
+        let f = found program (slot_count program.insns) fault
+        (sym (first_fault-within program (slot_count program.insns) within) ∙ is) in
+        omega (arith, starts-within program.insns fault.slot f.starts)

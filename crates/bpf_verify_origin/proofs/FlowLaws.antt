@@ -1,50 +1,24 @@
 -- What flows from a slot before the first fault.
-use Rattle.std.proofs.Common.{◌≡◌, ℕ, inl, inr, true, false, not, refl, ap, ◌∙◌, arith, Option, Some, None, is_some}
-use Rattle.std.{proofs.lemmas.{Bool.{cases_Bool, lt-ltb, ltb-true}, Bool.Decides.{nat_tests}}, specs.Prelude.{nat_lt}}
-use Rattle.bpf_insn_types.specs.{declared.insn.Insn.{Insn}, Program.{Program, insn_at, slot_count}}
-use Rattle.bpf_verify_model.specs.declared.{state.State.{State}, outflow.Outflow.{Outflow}}
-use Rattle.bpf_verify_model.specs.{Accepted.{BrokenRule, first_fault}, Inflow.{no_edges, received_all, state_before}}
-use Rattle.bpf_verify.specs.Passing.{out_of}
-use Rattle.bpf_verify_origin.specs.Edges.{flow_passed, passed_slots, slots_before}
-use Rattle.bpf_verify_origin.specs.{Inspected.{IsPassedTo, is_past}, Runs.{HoldsBetween, StatesHold}}
-use Rattle.bpf_verify_origin.proofs.{FaultLaws.{starts-within, passed-fine}, PassedLaws.{fine-earlier}}
-use Rattle.bpf_verify_origin.proofs.RunLaws.{within-passed}
+use Rattle.std.proofs.{Common.{◌≡◌, ℕ, ◌<◌, ◌≤◌, true, arith, is_some}, lemmas.Bool.{lt-ltb, le-ltb}}
+use Rattle.std.proofs.Common.{refl, None}
+use Rattle.bpf_insn_types.specs.Program.{Program, insn_at}
+use Rattle.bpf_verify_model.specs.{declared.outflow.Outflow.{Outflow}, Inflow.{no_edges, received_all}}
+use Rattle.bpf_verify_origin.specs.Edges.{flow_at, flow_passed, passed_slots}
+use Rattle.bpf_verify_origin.specs.{Inspected.{IsPassedTo}, Runs.{HoldsBetween, StatesHold}}
+use Rattle.bpf_verify_origin.proofs.{PassedLaws.{passed-there}, RunLaws.{within-passed}}
 
--- a slot where an instruction starts is before the first fault, or it is its slot or past it
-early : (program : Program) (slot : ℕ) → is_some (insn_at program.insns slot) ≡ true
-    → nat_lt slot (passed_slots program) ≡ not (is_past (first_fault program) slot)
-early program slot starts = by_fault (first_fault program)
-  where
-    by_fault : (f : Option BrokenRule) → nat_lt slot (slots_before f (slot_count program.insns)) ≡ not (is_past f slot)
-    by_fault None = lt-ltb slot (slot_count program.insns) (starts-within program.insns slot starts)
-    by_fault (Some f) = grind (arith, nat_tests)
-
--- the pass comes to it if it is before
-pub passed-to : (program : Program) (slot : ℕ) → is_past (first_fault program) slot ≡ false
+-- the pass comes to a slot before it where an instruction starts
+pub passed-to : (program : Program) (slot : ℕ) → slot < passed_slots program
     → is_some (insn_at program.insns slot) ≡ true → IsPassedTo program slot
-passed-to program slot before starts =
-    let inside = ltb-true slot (passed_slots program) (early program slot starts ∙ ap not before) in
-    let within = within-passed program (omega (arith, inside)) in
-    record {
-      within = within;
-      starts = starts;
-      fine = fine-earlier program slot (passed_slots program)
-          (passed-fine program (slot_count program.insns) (first_fault program) refl within) (omega (arith, inside));
-    }
+passed-to program slot early starts =
+    passed-there program slot (omega (arith, early)) (within-passed program (omega (arith, early))) starts
 
-pub flow-none : (program : Program) (slot : ℕ) → insn_at program.insns slot ≡ None
-    → no_edges ≡ flow_passed program slot
-flow-none program slot none =
-    elim (cases_Bool (nat_lt slot (passed_slots program))) [
-      | inl before ↦ rw (before, none) refl
-      | inr past ↦ rw past refl
-    ]
+pub flow-none : (program : Program) (slot : ℕ) → passed_slots program ≤ slot → no_edges ≡ flow_passed program slot
+flow-none program slot past = rw (le-ltb slot (passed_slots program) past) refl
 
-pub flow-there : (program : Program) (slot : ℕ) (insn : Insn) (before : Option State)
-    → is_past (first_fault program) slot ≡ false → insn_at program.insns slot ≡ Some insn
-    → before ≡ state_before program slot → out_of program.sizes slot insn before ≡ flow_passed program slot
-flow-there program slot insn before passed here known =
-    rw (early program slot (ap is_some here), passed, known, here) refl
+pub flow-there : (program : Program) (slot : ℕ) (out : Outflow) → slot < passed_slots program
+    → out ≡ flow_at program slot → out ≡ flow_passed program slot
+flow-there program slot out early is = rw (lt-ltb slot (passed_slots program) early) is
 
 -- it holds on runs
 pub flow-holds : (program : Program) (slot : ℕ) (out : Outflow) → StatesHold program → out ≡ flow_passed program slot

@@ -203,13 +203,8 @@ states-hold fit program fits = record {
   between = between-holds fit program fits;
 }
 
--- what is told of a slot, and of the edges between two
+-- what is known before a slot
 pub holds-before : (program : Program) (slot : ℕ) (found : Option State) → StatesHold program
     → IsPassedTo program slot → found ≡ state_before program slot → HoldsBefore program slot found
 holds-before program slot found hold to is passed m comes at =
     rw (is, ← at) (hold.before to.within passed m comes).contained
-
-pub holds-between : (program : Program) (from to : ℕ) (found : Option State) → StatesHold program
-    → found ≡ state_between program from to → HoldsBetween program from to found
-holds-between program from to found hold is =
-    subst (HoldsBetween program from to) (sym is) (hold.between from to)

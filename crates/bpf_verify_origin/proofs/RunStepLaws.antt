@@ -1,13 +1,13 @@
 -- Steps of the machine's definition go on from a run.
 use Rattle.std.proofs.Common.{◌≡◌, ℕ, zero, suc, ◌<◌, ◌^◌, inl, List, [], ◌∷◌, ◌++◌, sym, subst, append_assoc}
 use Rattle.std.{specs.Prelude.{slice_index}, proofs.lemmas.Option.{get_or_from_slice_get}}
-use Rattle.array_maps.specs.Accesses.{Access, left_by}
+use Rattle.array_maps.specs.{Accesses.{Access, left_by}, MapList.{AreWords}}
 use Rattle.bpf_insn_types.specs.{Values.{AreInsns}, Program.{Program}, WordBounds.{ResultsFit}}
 use Rattle.bpf_step_model.specs.{State.{Machine}, SoundMachine.{SoundMachine}, Run.{action_of}, Steps.{GoesOn, Steps}}
 use Rattle.bpf_step_model.specs.Step.{StepOutcome, NoStep, Next, Asks, step}
 use Rattle.bpf_verify_sound.{specs.Soundness.{StepSound}, proofs.{RegisterLaws.{all-set}, RunLaws.{word-at}}}
 use Rattle.bpf_verify_sound.proofs.SoundLaws.{step-sound, entry-sound}
-use Rattle.bpf_verify_origin.specs.{Runs.{GoesOnTo, RunsTo}, RunSteps.{AreWords, StepsAreRuns}}
+use Rattle.bpf_verify_origin.specs.{Runs.{GoesOnTo, RunsTo}, RunSteps.{StepsAreRuns}}
 use Rattle.bpf_verify_origin.proofs.RunLaws.{sound-next}
 
 -- each machine of a run is sound

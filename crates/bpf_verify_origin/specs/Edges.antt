@@ -1,5 +1,5 @@
 -- The edges between the slots of a program, up to its first fault.
-use Rattle.std.specs.Prelude.{ℕ, zero, suc, ◌==◌, nat_lt, Bool, true, false, if◌then◌else◌, Option, Some, None}
+use Rattle.std.specs.Prelude.{ℕ, zero, suc, ◌==◌, nat_lt, Bool, true, false, if◌then◌else◌, Option, Some, None, List}
 use Rattle.bpf_insn_types.specs.{declared.insn.Insn.{Insn}, Program.{Program, insn_at, slot_count}}
 use Rattle.bpf_verify_model.specs.declared.{state.State.{State}, outflow.{Edge.{Edge}, Outflow.{Outflow}}}
 use Rattle.bpf_verify_model.specs.{Inflow.{no_edges, received_all, state_before}, Accepted.{BrokenRule, first_fault}}
@@ -7,12 +7,12 @@ use Rattle.bpf_verify.specs.Passing.{out_of}
 use Rattle.bpf_verify_origin.specs.declared.inflow.Inflow.{Inflow, TheVariants.{Nowhere, One, Several}}
 
 -- what flows from a slot, if an instruction starts there
-abbrev pub flow_of : Program → ℕ → Option Insn → Option State → Outflow
-flow_of program slot None before = no_edges
-flow_of program slot (Some insn) before = out_of program.sizes slot insn before
+abbrev pub flow_of : (sizes : List ℕ) → ℕ → Option Insn → Option State → Outflow
+flow_of sizes slot None before = no_edges
+flow_of sizes slot (Some insn) before = out_of sizes slot insn before
 
 abbrev pub flow_at : Program → ℕ → Outflow
-flow_at program slot = flow_of program slot (insn_at program.insns slot) (state_before program slot)
+flow_at program slot = flow_of program.sizes slot (insn_at program.insns slot) (state_before program slot)
 
 -- whether an edge leads to a slot
 abbrev pub edge_leads : ℕ → Option Edge → Bool

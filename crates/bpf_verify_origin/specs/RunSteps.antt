@@ -1,13 +1,9 @@
 -- Runs are those of the machine's definition.
-use Rattle.std.specs.{Prelude.{ℕ, ◌<◌, ◌^◌, List, ◌++◌}, List.{AllByRecursion}}
-use Rattle.array_maps.specs.Accesses.{Access}
+use Rattle.std.specs.Prelude.{ℕ, List, ◌++◌}
+use Rattle.array_maps.specs.{Accesses.{Access}, MapList.{AreWords}}
 use Rattle.bpf_insn_types.specs.{Values.{AreInsns}, Program.{Program}}
 use Rattle.bpf_step_model.specs.{State.{Machine}, Steps.{Steps}}
 use Rattle.bpf_verify_origin.specs.Runs.{RunsTo}
-
--- the words of maps, each below 2 ^ 64
-abbrev pub AreWords : List ℕ → Type 0
-AreWords words = AllByRecursion (λ (word : ℕ). word < 2 ^ 64) words
 
 -- if a run reaches a machine, and steps lead from there to another, over the maps' words, the run goes on to that one;
 -- and the words stay below 2 ^ 64

@@ -56,14 +56,10 @@ source_by_inflow slot reg insns earlier Nowhere = Start
 source_by_inflow slot reg insns earlier (One from) = source_by_insn from slot reg (insns from) (earlier from)
 source_by_inflow slot reg insns earlier Several = Meeting slot
 
--- the same also of slot 0, where main starts
-abbrev pub source_into : (slot reg : ℕ) → (ℕ → Option Insn) → (earlier : ℕ → Source) → Inflow → Source
-source_into slot reg insns earlier inflow =
-    if slot == 0 then Start else source_by_inflow slot reg insns earlier inflow
-
--- the source before a slot of a program, by those before other slots
+-- the source before a slot of a program, by those before other slots; at slot 0 main starts
 abbrev pub source_back : Program → (slot reg : ℕ) → (earlier : ℕ → Source) → Source
-source_back program slot reg earlier = source_into slot reg (insn_at program.insns) earlier (inflow program slot)
+source_back program slot reg earlier =
+    if slot == 0 then Start else source_by_inflow slot reg (insn_at program.insns) earlier (inflow program slot)
 
 -- the source before a slot among the first n: edges lead from earlier slots to later ones
 unfoldable pub source_among : Program → (count slot reg : ℕ) → Source

@@ -1,26 +1,24 @@
 //! Where the edges into each slot come from: a table, made in one pass.
 
-ghost use Rattle.std.specs.Prelude.{◌≡◌, ℕ, ◌<◌, ◌≤◌, true, length, replicate, slice_index_or};
-ghost use Rattle.std.specs.Prelude.{IfOk};
+ghost use Rattle.std.specs.Prelude.{◌≡◌, ℕ, ◌<◌, ◌≤◌, true, length, replicate, slice_index_or, IfOk};
 ghost use Rattle.bpf_insn_types.specs.Program.{slot_count};
 ghost use Rattle.bpf_verify.specs.States.{AreStatesBefore};
 ghost use Rattle.bpf_verify_origin.specs.declared.inflow.Inflow.TheVariants.{Nowhere};
-ghost use Rattle.bpf_verify_origin.specs.{Edges.{edge_leads, with_edge, with_edges}, Inspected.{AreInflows, is_stop}};
+ghost use Rattle.bpf_verify_origin.specs.Edges.{edge_leads, with_edge, passed_slots};
+ghost use Rattle.bpf_verify_origin.specs.Inspected.{AreInflows, AreInsns};
 
+use crate::finding::insn_in;
 use crate::inflow::Inflow;
 use crate::outflow::{outflow, state_in};
-use bpf_insn_types::{Insn, slots};
-use bpf_verify_model::{Edge, Outflow, State};
+use bpf_insn_types::{Insn, Unit};
+use bpf_verify_model::{Edge, State};
 use std::alloc::{AllocError, Global};
 
 /// Where the edges into a slot come from, of those into all slots.
 pub(crate) fn inflow_in(table: &[Inflow], slot: u32) -> Inflow
     ensures { result ≡ slice_index_or table.now slot Nowhere }
 {
-    match table.get(slot as usize) {
-        None => Inflow::Nowhere,
-        Some(inflow) => *inflow,
-    }
+    table.get(slot as usize).copied().unwrap_or(Inflow::Nowhere)
 }
 
 /// No edge leads to any slot.
@@ -59,44 +57,29 @@ fn mark(table: &mut Vec<Inflow>, from: u32, edge: &Option<Edge>)
     }
 }
 
-/// Both edges out of a slot.
-fn mark_both(table: &mut Vec<Inflow>, from: u32, out: &Outflow)
-    ensures size { length table.new.items ≡ length table.old.items }
-    ensures marked { (slot : ℕ) → slot < length table.old.items
-        → slice_index_or table.new.items slot Nowhere
-        ≡ with_edges slot from out.now (slice_index_or table.old.items slot Nowhere) }
-{
-    mark(table, from, &out.ahead);
-    mark(table, from, &out.aside);
-}
-
-/// Where the edges into each slot come from, of those out of the slots before the last: it is the end, or an
-/// instruction starts there.
+/// Where the edges into each slot of a unit come from, of those out of the slots before the first fault: by the
+/// instructions at all slots, and the abstract states before them.
 pub(crate) fn inflows(
     alloc: Global,
-    sizes: &[u32],
-    insns: &[Insn],
+    unit: &Unit,
+    by_slot: &[Option<Insn>],
     states: &[Option<State>],
     count: u32,
-    last: u32,
+    passed: u32,
 ) -> Result<Vec<Inflow>, AllocError>
-    requires slots { slot_count insns.now ≡ count }
+    requires slots { slot_count unit.now.insns ≡ count }
     requires few { count ≤ 4096 }
-    requires states { AreStatesBefore (record { sizes = sizes.now; insns = insns.now }) last states.now }
-    requires stop { is_stop (record { sizes = sizes.now; insns = insns.now }) last ≡ true }
-    ensures at { IfOk result (λ table. AreInflows (record { sizes = sizes.now; insns = insns.now }) last table.items) }
-    ensures size { IfOk result (λ table. length table.items ≡ count) }
+    requires passed { passed_slots unit.now ≡ passed }
+    requires insns { AreInsns unit.now.insns by_slot.now }
+    requires states { AreStatesBefore unit.now passed states.now }
+    ensures { IfOk result (λ table. AreInflows unit.now table.items) }
 {
     let mut table = no_inflows(alloc, count)?;
-    let mut slot = 0;
-    for insn in insns {
-        if last <= slot {
-            return Ok(table);
-        }
+    for slot in 0..passed {
         let before = state_in(states, slot);
-        let out = outflow(sizes, slot, &before, *insn);
-        mark_both(&mut table, slot, &out);
-        slot += slots(insn);
+        let out = outflow(&unit.sizes, slot, insn_in(by_slot, slot), &before);
+        mark(&mut table, slot, &out.ahead);
+        mark(&mut table, slot, &out.aside);
     }
     Ok(table)
 }

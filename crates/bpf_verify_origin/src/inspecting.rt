@@ -9,7 +9,6 @@ use crate::fault::Fault;
 use crate::finding::insns_by_slot;
 use crate::inflows::inflows;
 use crate::inspection::Inspection;
-use crate::sourcing::sources;
 use bpf_insn_types::{Insn, Unit, elements_of, slot_count};
 use bpf_verify::{VerifyError, insns_fit, states_before, verify};
 use std::alloc::{AllocError, Global};
@@ -41,8 +40,8 @@ pub fn copied(alloc: Global, unit: &Unit) -> Result<Unit, AllocError>
     Ok(Unit { sizes, insns })
 }
 
-/// The last slot that is passed to: that of the first fault, or the end.
-fn last_slot(fault: Option<Fault>, count: u32) -> u32
+/// How many slots are before the first fault: all where there is none.
+fn slots_before(fault: Option<Fault>, count: u32) -> u32
     ensures { result ≡ slots_before (option_map broken_rule fault) count }
 {
     match fault {
@@ -62,26 +61,24 @@ fn with_fault(alloc: Global, unit: Unit, fault: Option<Fault>) -> Result<Inspect
         return Ok(Inspection {
             unit,
             fault,
+            passed: 0,
             by_slot,
             states: Vec::new(alloc),
             inflows: Vec::new(alloc),
-            sources: Vec::new(alloc),
         });
     };
-    let last = last_slot(fault, count);
-    let states = match states_before(alloc, &unit.sizes, &unit.insns, count, last) {
-        Ok(states) => states,
-        Err(_) => return Err(AllocError),
+    let passed = slots_before(fault, count);
+    let Ok(states) = states_before(alloc, &unit.sizes, &unit.insns, count, passed) else {
+        return Err(AllocError);
     };
-    let inflows = inflows(alloc, &unit.sizes, &unit.insns, &states, count, last)?;
-    let sources = sources(alloc, &by_slot, &inflows, count)?;
+    let inflows = inflows(alloc, &unit, &by_slot, &states, count, passed)?;
     Ok(Inspection {
         unit,
         fault,
+        passed,
         by_slot,
         states,
         inflows,
-        sources,
     })
 }
 

@@ -21,7 +21,6 @@ mod inspection;
 mod laws;
 mod outflow;
 mod source;
-mod sourcing;
 mod writing;
 
 pub use fault::Fault;

@@ -1,8 +1,8 @@
 //! What flows from a slot.
 
 ghost use Rattle.std.specs.Prelude.{◌≡◌, ◌≤◌, slice_index_or, None};
-ghost use Rattle.bpf_verify_model.specs.Inflow.{joined_with, no_edges, received, received_all};
-ghost use Rattle.bpf_verify.specs.Passing.{out_of};
+ghost use Rattle.bpf_verify_model.specs.Inflow.{no_edges, received, received_all};
+ghost use Rattle.bpf_verify_origin.specs.Edges.{flow_of};
 
 use bpf_insn_types::Insn;
 use bpf_verify_model::{Edge, Outflow, State};
@@ -13,10 +13,7 @@ use bpf_verify_values::join_states;
 pub(crate) fn state_in(states: &[Option<State>], slot: u32) -> Option<State>
     ensures { result ≡ slice_index_or states.now slot None }
 {
-    match states.get(slot as usize) {
-        None => None,
-        Some(state) => *state,
-    }
+    states.get(slot as usize).copied().unwrap_or(None)
 }
 
 /// No edges.
@@ -29,27 +26,22 @@ pub(crate) fn no_outflow() -> Outflow
     }
 }
 
-/// The edges out of an instruction, if it is reached.
-pub(crate) fn outflow(sizes: &[u32], slot: u32, before: &Option<State>, insn: Insn) -> Outflow
+/// The edges out of a slot, if an instruction starts there and is reached.
+pub(crate) fn outflow(
+    sizes: &[u32],
+    slot: u32,
+    insn: Option<Insn>,
+    before: &Option<State>,
+) -> Outflow
     requires { slot ≤ 4096 }
-    ensures { result ≡ out_of sizes.now slot insn before.now }
+    ensures { result ≡ flow_of sizes.now slot insn before.now }
 {
+    let Some(insn) = insn else {
+        return no_outflow();
+    };
     match before {
         None => no_outflow(),
         Some(state) => flow(sizes, slot, state, insn),
-    }
-}
-
-/// The join with the abstract state of one more edge, if one came before.
-fn joined_with(before: Option<State>, state: &State) -> Option<State>
-    ensures { result ≡ joined_with before state.now }
-{
-    match before {
-        None => Some(*state),
-        Some(mut known) => {
-            join_states(&mut known, state);
-            Some(known)
-        }
     }
 }
 
@@ -57,14 +49,17 @@ fn joined_with(before: Option<State>, state: &State) -> Option<State>
 fn received(slot: u32, before: Option<State>, edge: &Option<Edge>) -> Option<State>
     ensures { result ≡ received slot before edge.now }
 {
-    match edge {
-        None => before,
-        Some(edge) => if edge.target == slot {
-            joined_with(before, &edge.state)
-        } else {
-            before
-        },
+    let Some(edge) = edge else {
+        return before;
+    };
+    if edge.target != slot {
+        return before;
     }
+    let Some(mut known) = before else {
+        return Some(edge.state);
+    };
+    join_states(&mut known, &edge.state);
+    Some(known)
 }
 
 /// The abstract state on those edges that lead to a slot: the join of both, where both do; None where none does.

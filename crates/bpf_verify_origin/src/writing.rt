@@ -1,21 +1,10 @@
 //! Which registers an instruction writes.
 
 ghost use Rattle.std.specs.Prelude.{◌≡◌, ◌+◌, ◌==◌, ◌&&◌, not};
-ghost use Rattle.bpf_verify_origin.specs.Sources.{fetches, writes_register, is_call, source_through};
+ghost use Rattle.bpf_verify_origin.specs.Sources.{writes_register, is_call, source_through};
 
 use crate::source::Source;
 use bpf_insn_types::{AtomicOp, Insn, Reg};
-
-/// Whether an atomic operation writes a register.
-fn fetches(op: AtomicOp, src: Reg, reg: Reg) -> bool
-    ensures { result ≡ fetches op src reg }
-{
-    match op {
-        AtomicOp::Fetch(_) | AtomicOp::Xchg => src.number() == reg.number(),
-        AtomicOp::Cmpxchg => reg.number() == 0,
-        AtomicOp::Simple(_) => false,
-    }
-}
 
 /// Whether an instruction writes a register: a call writes R0 to R5.
 fn writes(insn: &Insn, reg: Reg) -> bool
@@ -29,7 +18,11 @@ fn writes(insn: &Insn, reg: Reg) -> bool
         | Insn::Load { dst, .. }
         | Insn::LoadSx { dst, .. }
         | Insn::LoadImm { dst, .. } => dst.number() == reg.number(),
-        Insn::Atomic { op, src, .. } => fetches(op, src, reg),
+        Insn::Atomic { op, src, .. } => match op {
+            AtomicOp::Fetch(_) | AtomicOp::Xchg => src.number() == reg.number(),
+            AtomicOp::Cmpxchg => reg.number() == 0,
+            AtomicOp::Simple(_) => false,
+        },
         Insn::Call { .. } => reg.number() <= 5,
         _ => false,
     }

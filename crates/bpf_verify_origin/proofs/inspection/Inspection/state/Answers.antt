@@ -1,5 +1,6 @@
-use Rattle.std.proofs.Common.{◌≡◌, true, false, None, refl, sym, ◌∙◌}
-use Rattle.bpf_verify_origin.proofs.{InspectionLaws.{state-there}, PassedLaws.{passed-is_up_to, state-passed}}
+use Rattle.std.proofs.Common.{◌≡◌, true, false, None, refl, sym, ◌∙◌, arith}
+use Rattle.bpf_verify_origin.specs.Edges.{passed_slots}
+use Rattle.bpf_verify_origin.proofs.{FaultLaws.{passed-up_to}, InspectionLaws.{state-there}, PassedLaws.{state-passed}}
 use Rattle.bpf_verify_origin.proofs.RunLaws.{holds-before}
 use Rattle.bpf_verify_origin.proofs.inspection.Inspection.state.Goals as goal
 
@@ -7,10 +8,10 @@ pub returns-in_default-clause-whole : goal.returns-in_default-clause-whole
 returns-in_default-clause-whole c = λ to.
     absurd (let starts : true ≡ false = sym to.starts ∙ rw (sym c.insn.ensures ∙ c.in_default.is) refl in cc)
 
-pub returns-then-not-is_up_to-clause-whole : goal.returns-then-not-is_up_to-clause-whole
-returns-then-not-is_up_to-clause-whole c = λ to.
-    absurd (let both : true ≡ false = sym (passed-is_up_to c.args.self.now c.args.slot to) ∙ sym c.is_up_to.ensures
-    ∙ c.if-not-is_up_to.true in cc)
+pub returns-then-slot-self-clause-whole : goal.returns-then-slot-self-clause-whole
+returns-then-slot-self-clause-whole c = λ to.
+    let passed : passed_slots c.args.self.now ≡ c.self.inside.passed = rw c.self.view_is at c.self.invariant.passed_is in
+    absurd (omega (arith, passed-up_to c.args.self.now c.args.slot to, passed, c.if-slot-self.true))
 
 pub returns-clause-whole : goal.returns-clause-whole
 returns-clause-whole c =
@@ -22,17 +23,17 @@ returns-clause-passed c =
     rw c.self.view_is at (state-passed c.self.inside.unit c.self.inside.states.items c.args.slot c.state_in.result
     c.self.invariant.within c.self.invariant.states_are (rw c.as_slice.ensures.value at c.state_in.ensures)
     (rw (c.self.view_is, sym c.insn.ensures ∙ c.in-Some.is) refl)
-    (rw c.self.view_is (sym c.is_up_to.ensures ∙ c.if-not-is_up_to.false)))
+    (omega (arith, c.self.invariant.passed_is, c.if-slot-self.false)))
 
 pub returns-in_default-clause-runs : goal.returns-in_default-clause-runs
 returns-in_default-clause-runs c = λ to.
-    holds-before c.args.self.now c.args.slot None c.states_hold.ensures to (returns-in_default-clause-whole c to)
+    holds-before c.args.self.now c.args.slot None c.holds.ensures.states to (returns-in_default-clause-whole c to)
 
-pub returns-then-not-is_up_to-clause-runs : goal.returns-then-not-is_up_to-clause-runs
-returns-then-not-is_up_to-clause-runs c = λ to.
-    holds-before c.args.self.now c.args.slot None c.states_hold.ensures to
-    (returns-then-not-is_up_to-clause-whole c to)
+pub returns-then-slot-self-clause-runs : goal.returns-then-slot-self-clause-runs
+returns-then-slot-self-clause-runs c = λ to.
+    holds-before c.args.self.now c.args.slot None c.holds.ensures.states to
+    (returns-then-slot-self-clause-whole c to)
 
 pub returns-clause-runs : goal.returns-clause-runs
 returns-clause-runs c = λ to.
-    holds-before c.args.self.now c.args.slot c.state_in.result c.states_hold.ensures to (returns-clause-whole c to)
+    holds-before c.args.self.now c.args.slot c.state_in.result c.holds.ensures.states to (returns-clause-whole c to)
