@@ -4,10 +4,10 @@ use Rattle.std.proofs.{Common.{eqb, inl, inr}, lemmas.Bool.{eqb-true, cases_eq, 
 use Rattle.std.specs.Prelude.{IfSome, ◌&&◌}
 use Rattle.bpf_insn_types.specs.declared.insn.Width.TheVariants.{W32, W64}
 use Rattle.bpf_insn_types.specs.declared.insn.Size.TheVariants as size
+use Rattle.bpf_insn_types.specs.declared.insn.AluOp.TheVariants as op
 use Rattle.bpf_insn_types.specs.declared.insn.ByteOrder.TheVariants as order
 use Rattle.bpf_insn_types.specs.declared.insn.Compare.TheVariants as compare
 use Rattle.bpf_insn.specs.{declared.form.Form.{Form}, Opcode.{opcode, form_at}}
-use Rattle.bpf_insn.specs.declared.form.AluCode.TheVariants as alu
 use Rattle.bpf_insn.specs.declared.form.Form.TheVariants as form
 
 -- the form that an opcode says, if one does, has this opcode
@@ -42,17 +42,25 @@ is_opcode (Some f) n h = eqb-true (opcode f) n h
 pub opcode-form_at : (n : ℕ) → n < 256 → IfSome (form_at n) (λ f. opcode f ≡ n)
 opcode-form_at n lt = is_opcode (form_at n) n (below agrees 256 n all_agree lt)
 
--- an opcode says its form; a sign-extending load of eight bytes has none
+-- an opcode says its form; a sign-extending load of eight bytes has none, and signed operations have that of plain ones
 abbrev pub SaysItsForm : Form → Type 0
 SaysItsForm (form.LoadSx size.Dw) = Unit {0}
+SaysItsForm (form.AluImm w op.Sdiv) = Unit {0}
+SaysItsForm (form.AluImm w op.Smod) = Unit {0}
+SaysItsForm (form.AluReg w op.Sdiv) = Unit {0}
+SaysItsForm (form.AluReg w op.Smod) = Unit {0}
 SaysItsForm f = form_at (opcode f) ≡ Some f
 
 pub form_at-opcode : (f : Form) → SaysItsForm f
 form_at-opcode (form.LoadSx size.Dw) = tt
-form_at-opcode (form.AluImm W32 alu.Add) = refl
-form_at-opcode (form.AluImm W64 alu.Add) = refl
-form_at-opcode (form.AluReg W32 alu.Add) = refl
-form_at-opcode (form.AluReg W64 alu.Add) = refl
+form_at-opcode (form.AluImm W32 op.Add) = refl
+form_at-opcode (form.AluImm W64 op.Add) = refl
+form_at-opcode (form.AluReg W32 op.Add) = refl
+form_at-opcode (form.AluReg W64 op.Add) = refl
+form_at-opcode (form.AluImm w op.Sdiv) = tt
+form_at-opcode (form.AluImm w op.Smod) = tt
+form_at-opcode (form.AluReg w op.Sdiv) = tt
+form_at-opcode (form.AluReg w op.Smod) = tt
 form_at-opcode (form.Neg W32) = refl
 form_at-opcode (form.Endian order.Le) = refl
 form_at-opcode (form.JumpImm W32 compare.Eq) = refl

@@ -15,12 +15,11 @@ use Rattle.bpf_insn_types.specs.declared.insn.ImmKind.TheVariants as kind
 use Rattle.bpf_insn_types.specs.declared.insn.Insn.TheVariants as insn
 use Rattle.bpf_insn.specs.declared.{form.Form.{Form}, slot.Slot.{Slot}, codec_error.CodecFault.{CodecFault}}
 use Rattle.bpf_insn.specs.{Opcode.{opcode, form_at}, SlotBytes.{slot, slot_bytes, slots_bytes}}
-use Rattle.bpf_insn.specs.Spelling.{code_of, kind_src, has_next, second, two_slots, spelling}
+use Rattle.bpf_insn.specs.Spelling.{kind_src, has_next, second, two_slots, spelling}
 use Rattle.bpf_insn.specs.Reading.{unused_are_zero, imm_kind_at, load_imm_at, insn_of_form, checked_slot, insn_of_slot}
 use Rattle.bpf_insn.specs.Reading.{first, slots_in, first_insn}
 use Rattle.bpf_insn.proofs.{Forms.{form_at-opcode}, Bytes.{HasBytes, HaveBytes, slot_at-slot_bytes}}
 use Rattle.bpf_insn.proofs.Fronts.{first_insn-slot_bytes}
-use Rattle.bpf_insn.specs.declared.form.AluCode.TheVariants as alu
 use Rattle.bpf_insn.specs.declared.form.Form.TheVariants as form
 use Rattle.bpf_insn.specs.declared.codec_error.CodecFault.TheVariants as faults
 
@@ -115,19 +114,27 @@ two_spelled kind false dst imm _ d i n h = tt
 
 pub spelled_by : (i : Insn) → InsnFits i → IfOk (spelling i) (IsSpelledBy i)
 spelled_by (insn.Alu w op.Add dst (Imm imm)) h =
-    one (form.AluImm w alu.Add) (form_at-opcode (form.AluImm w alu.Add)) h.0 no_reg no_offset h.1 refl (λ _. refl)
-spelled_by (insn.Alu w o dst (Imm imm)) h = one (form.AluImm w (code_of o)) (form_at-opcode (form.AluImm w (code_of o)))
+    one (form.AluImm w op.Add) (form_at-opcode (form.AluImm w op.Add)) h.0 no_reg no_offset h.1 refl (λ _. refl)
+spelled_by (insn.Alu w op.Sdiv dst (Imm imm)) h = one (form.AluImm w op.Div) (form_at-opcode (form.AluImm w op.Div))
+    h.0 no_reg (fits16 1 (omega arith)) h.1 refl (λ _. refl)
+spelled_by (insn.Alu w op.Smod dst (Imm imm)) h = one (form.AluImm w op.Mod) (form_at-opcode (form.AluImm w op.Mod))
+    h.0 no_reg (fits16 1 (omega arith)) h.1 refl (λ _. refl)
+spelled_by (insn.Alu w o dst (Imm imm)) h = one (form.AluImm w o) (form_at-opcode (form.AluImm w o))
     h.0 no_reg (fits16 _ (omega arith)) h.1 refl (λ _. refl)
 spelled_by (insn.Alu w op.Add dst (Reg src)) h =
-    one (form.AluReg w alu.Add) (form_at-opcode (form.AluReg w alu.Add)) h.0 h.1 no_offset no_imm refl (λ _. refl)
-spelled_by (insn.Alu w o dst (Reg src)) h = one (form.AluReg w (code_of o)) (form_at-opcode (form.AluReg w (code_of o)))
+    one (form.AluReg w op.Add) (form_at-opcode (form.AluReg w op.Add)) h.0 h.1 no_offset no_imm refl (λ _. refl)
+spelled_by (insn.Alu w op.Sdiv dst (Reg src)) h = one (form.AluReg w op.Div) (form_at-opcode (form.AluReg w op.Div))
+    h.0 h.1 (fits16 1 (omega arith)) no_imm refl (λ _. refl)
+spelled_by (insn.Alu w op.Smod dst (Reg src)) h = one (form.AluReg w op.Mod) (form_at-opcode (form.AluReg w op.Mod))
+    h.0 h.1 (fits16 1 (omega arith)) no_imm refl (λ _. refl)
+spelled_by (insn.Alu w o dst (Reg src)) h = one (form.AluReg w o) (form_at-opcode (form.AluReg w o))
     h.0 h.1 (fits16 _ (omega arith)) no_imm refl (λ _. refl)
 spelled_by (insn.Neg w dst) h =
     one (form.Neg w) (form_at-opcode (form.Neg w)) h no_reg no_offset no_imm refl (λ _. refl)
 spelled_by (insn.Movsx W32 movsx.B32 dst src) h = tt
 spelled_by (insn.Movsx W64 movsx.B8 dst src) h =
-    one (form.AluReg W64 alu.Mov) refl h.0 h.1 (fits16 8 (omega arith)) no_imm refl (λ _. refl)
-spelled_by (insn.Movsx w _ dst src) h = one (form.AluReg w alu.Mov) (form_at-opcode (form.AluReg w alu.Mov)) h.0 h.1
+    one (form.AluReg W64 op.Mov) refl h.0 h.1 (fits16 8 (omega arith)) no_imm refl (λ _. refl)
+spelled_by (insn.Movsx w _ dst src) h = one (form.AluReg w op.Mov) (form_at-opcode (form.AluReg w op.Mov)) h.0 h.1
     (fits16 _ (omega arith)) no_imm refl (λ _. refl)
 spelled_by (insn.Endian o endian.B16 dst) h = one (form.Endian o) (form_at-opcode (form.Endian o)) h no_reg no_offset
     (fits32 16 (omega arith)) refl (λ _. refl)

@@ -8,6 +8,7 @@ use Rattle.bpf_insn_types.specs.declared.insn.{Callee.{TheVariants.{Helper, Loca
 use Rattle.bpf_insn_types.specs.declared.insn.{AtomicOp.TheVariants.{Simple, Fetch, Xchg, Cmpxchg}, ImmKind.{ImmKind}}
 use Rattle.bpf_insn_types.specs.declared.insn.Insn.{Insn}
 use Rattle.bpf_insn_types.specs.declared.insn.Size.TheVariants as size
+use Rattle.bpf_insn_types.specs.declared.insn.AluOp.TheVariants as op
 use Rattle.bpf_insn_types.specs.declared.insn.EndianBits.TheVariants as endian
 use Rattle.bpf_insn_types.specs.declared.insn.SimpleOp.TheVariants as simple
 use Rattle.bpf_insn_types.specs.declared.insn.ImmKind.TheVariants as kind
@@ -19,7 +20,6 @@ use Rattle.bpf_insn.specs.Reading.{is, unused_are_zero, endian_at, call_at, atom
 use Rattle.bpf_insn.specs.Reading.{is_second, load_imm_at, insn_of_form}
 use Rattle.bpf_insn.proofs.{Forms.{opcode-form_at}, Spelled.{Holds, Reads, Passed, kept-same, reads, chosen, slot_is}}
 use Rattle.bpf_insn.proofs.Spelled.{is_true, four_true, imm_reads, reg_reads, mov_reads}
-use Rattle.bpf_insn.specs.declared.form.AluCode.TheVariants as alu
 use Rattle.bpf_insn.specs.declared.form.Form.TheVariants as form
 use Rattle.bpf_insn.specs.declared.codec_error.CodecFault.TheVariants as faults
 
@@ -103,7 +103,7 @@ none_is_some f e = absurd cc
 form_reads : (f : Form) (s : Slot) (next : Option Slot) → Passed f s → NextHolds next
     → IfOk (insn_of_form f s.dst s.src s.offset s.imm next) (Reads s next)
 form_reads (form.AluImm w c) s next p n = imm_reads w c s next p
-form_reads (form.AluReg w alu.Mov) s next p n = mov_reads w s next p
+form_reads (form.AluReg w op.Mov) s next p n = mov_reads w s next p
 form_reads (form.AluReg w c) s next p n = reg_reads w c s next p refl
 form_reads (form.Neg w) s next p n = reads p refl p.dst
 form_reads (form.Endian o) s next p n = endian_reads o s next p

@@ -8,12 +8,11 @@ use Rattle.bpf_insn_types.specs.declared.insn.MovsxBits.{MovsxBits}
 use Rattle.bpf_insn_types.specs.declared.insn.MovsxBits.TheVariants as movsx
 use Rattle.bpf_insn_types.specs.declared.insn.AluOp.TheVariants as op
 use Rattle.bpf_insn_types.specs.declared.insn.Insn.TheVariants as insn
-use Rattle.bpf_insn.specs.{declared.{form.{AluCode.{AluCode}, Form.{Form}}, slot.Slot.{Slot}}, Opcode.{opcode, form_at}}
+use Rattle.bpf_insn.specs.{declared.{form.Form.{Form}, slot.Slot.{Slot}}, Opcode.{alu_code, opcode, form_at}}
 use Rattle.bpf_insn.specs.{declared.codec_error.CodecFault.{CodecFault}, SlotBytes.{slot}}
-use Rattle.bpf_insn.specs.Spelling.{code_of, op_offset, movsx_offset, spelling}
-use Rattle.bpf_insn.specs.Reading.{is, uses_dst, uses_src, uses_offset, uses_imm, unused_are_zero, has_signed}
+use Rattle.bpf_insn.specs.Spelling.{op_offset, movsx_offset, spelling}
+use Rattle.bpf_insn.specs.Reading.{is, uses, unused_are_zero, has_signed}
 use Rattle.bpf_insn.specs.Reading.{has_offset, signed_op_at, alu_op_at, alu_insn, movsx_32, mov_at}
-use Rattle.bpf_insn.specs.declared.form.AluCode.TheVariants as alu
 use Rattle.bpf_insn.specs.declared.form.Form.TheVariants as form
 use Rattle.bpf_insn.specs.declared.codec_error.CodecFault.TheVariants as faults
 
@@ -66,16 +65,16 @@ signed_field_is false z h = sym (is_true z 0 h)
 
 -- the slot of a form with the fields of another that it uses
 abbrev pub kept : Form → Slot → Slot
-kept f s = slot f (field (uses_dst f) s.dst) (field (uses_src f) s.src) (signed_field (uses_offset f) s.offset)
-    (signed_field (uses_imm f) s.imm)
+kept f s = slot f (field (uses f).0 s.dst) (field (uses f).1 s.src) (signed_field (uses f).2 s.offset)
+    (signed_field (uses f).3 s.imm)
 
 -- it is the slot itself, where the other fields are zero
 pub kept-same : (f : Form) (s : Slot) → opcode f ≡ s.opcode → unused_are_zero f s ≡ true → kept f s ≡ s
 kept-same f s h u =
-    let zero = four_true (uses_dst f || eqb s.dst 0) (uses_src f || eqb s.src 0) (uses_offset f || is s.offset 0)
-    (uses_imm f || is s.imm 0) u in
-    let same = slot_is h (field_is (uses_dst f) s.dst zero.0) (field_is (uses_src f) s.src zero.1)
-    (signed_field_is (uses_offset f) s.offset zero.2) (signed_field_is (uses_imm f) s.imm zero.3) in
+    let zero = four_true ((uses f).0 || eqb s.dst 0) ((uses f).1 || eqb s.src 0) ((uses f).2 || is s.offset 0)
+    ((uses f).3 || is s.imm 0) u in
+    let same = slot_is h (field_is (uses f).0 s.dst zero.0) (field_is (uses f).1 s.src zero.1)
+    (signed_field_is (uses f).2 s.offset zero.2) (signed_field_is (uses f).3 s.imm zero.3) in
     same
 
 -- what the tests of a slot leave
@@ -116,8 +115,8 @@ chosen P number made (x ∷ xs) none z h q =
 
 -- ---- arithmetic
 
-abbrev IsOp : AluCode → ℤ → AluOp → Type 0
-IsOp c offset o = (code_of o ≡ c) × (op_offset o ≡ signed_field (has_signed c) offset)
+abbrev IsOp : AluOp → ℤ → AluOp → Type 0
+IsOp c offset o = (alu_code o ≡ alu_code c) × (op_offset o ≡ signed_field (has_signed c) offset)
 
 signed_is : (P : AluOp → Type 0) (offset : ℤ) (plain signed : AluOp) → (offset ≡ pos 0 → P plain)
     → (offset ≡ pos 1 → P signed) → IfOk (signed_op_at offset plain signed) P
@@ -127,9 +126,11 @@ signed_is P offset plain signed a b =
     (λ _. cond_both (is offset 1) (Ok signed) (Err faults.Offset) (λ r. IfOk r P) (λ h. b (is_true offset 1 h))
     (λ _. tt))
 
-op_is : (c : AluCode) (offset : ℤ) → IfOk (alu_op_at c offset) (IsOp c offset)
-op_is alu.Div offset = signed_is (IsOp alu.Div offset) offset op.Div op.Sdiv (λ h. (refl, sym h)) (λ h. (refl, sym h))
-op_is alu.Mod offset = signed_is (IsOp alu.Mod offset) offset op.Mod op.Smod (λ h. (refl, sym h)) (λ h. (refl, sym h))
+op_is : (c : AluOp) (offset : ℤ) → IfOk (alu_op_at c offset) (IsOp c offset)
+op_is op.Div offset = signed_is (IsOp op.Div offset) offset op.Div op.Sdiv (λ h. (refl, sym h)) (λ h. (refl, sym h))
+op_is op.Sdiv offset = signed_is (IsOp op.Sdiv offset) offset op.Div op.Sdiv (λ h. (refl, sym h)) (λ h. (refl, sym h))
+op_is op.Mod offset = signed_is (IsOp op.Mod offset) offset op.Mod op.Smod (λ h. (refl, sym h)) (λ h. (refl, sym h))
+op_is op.Smod offset = signed_is (IsOp op.Smod offset) offset op.Mod op.Smod (λ h. (refl, sym h)) (λ h. (refl, sym h))
 op_is _ offset = (refl, refl)
 
 alu_if : (P : Insn → Type 0) (w : Width) (dst : ℕ) (operand : Operand) (Q : AluOp → Type 0)
@@ -138,13 +139,13 @@ alu_if : (P : Insn → Type 0) (w : Width) (dst : ℕ) (operand : Operand) (Q : 
 alu_if P w dst operand Q (Ok o) q h = h o q
 alu_if P w dst operand Q (Err e) q h = tt
 
-pub imm_reads : (w : Width) (c : AluCode) (s : Slot) (next : Option Slot) → Passed (form.AluImm w c) s
+pub imm_reads : (w : Width) (c : AluOp) (s : Slot) (next : Option Slot) → Passed (form.AluImm w c) s
     → IfOk (alu_insn w s.dst (Imm s.imm) (alu_op_at c s.offset)) (Reads s next)
 imm_reads w c s next p =
     alu_if (Reads s next) w s.dst (Imm s.imm) (IsOp c s.offset) (alu_op_at c s.offset) (op_is c s.offset)
     (λ o q. reads p (rw (q.0, q.1) refl) (p.dst, p.holds.imm))
 
-pub reg_reads : (w : Width) (c : AluCode) (s : Slot) (next : Option Slot) → Passed (form.AluReg w c) s
+pub reg_reads : (w : Width) (c : AluOp) (s : Slot) (next : Option Slot) → Passed (form.AluReg w c) s
     → has_offset c ≡ has_signed c → IfOk (alu_insn w s.dst (Reg s.src) (alu_op_at c s.offset)) (Reads s next)
 reg_reads w c s next p e =
     alu_if (Reads s next) w s.dst (Reg s.src) (IsOp c s.offset) (alu_op_at c s.offset) (op_is c s.offset)
@@ -155,13 +156,13 @@ abbrev movsx_insn : Width → MovsxBits → ℕ → ℕ → Result Insn CodecFau
 movsx_insn w movsx.B32 dst src = movsx_32 w dst src
 movsx_insn w bits dst src = Ok (insn.Movsx w bits dst src)
 
-movsx_reads : (w : Width) (bits : MovsxBits) (s : Slot) (next : Option Slot) → Passed (form.AluReg w alu.Mov) s
+movsx_reads : (w : Width) (bits : MovsxBits) (s : Slot) (next : Option Slot) → Passed (form.AluReg w op.Mov) s
     → s.offset ≡ movsx_offset bits → IfOk (movsx_insn w bits s.dst s.src) (Reads s next)
 movsx_reads W32 movsx.B32 s next p h = tt
 movsx_reads W64 movsx.B32 s next p h = reads p (rw h refl) (p.dst, p.src)
 movsx_reads _ _ s next p h = reads p (rw h refl) (p.dst, p.src)
 
-pub mov_reads : (w : Width) (s : Slot) (next : Option Slot) → Passed (form.AluReg w alu.Mov) s
+pub mov_reads : (w : Width) (s : Slot) (next : Option Slot) → Passed (form.AluReg w op.Mov) s
     → IfOk (mov_at w s.dst s.src s.offset) (Reads s next)
 mov_reads w s next p =
     let P : Result Insn CodecFault → Type 0 = λ r. IfOk r (Reads s next) in

@@ -13,10 +13,9 @@ use Rattle.bpf_insn_types.specs.declared.insn.AluOp.TheVariants as op
 use Rattle.bpf_insn_types.specs.declared.insn.SimpleOp.TheVariants as simple
 use Rattle.bpf_insn_types.specs.declared.insn.ImmKind.TheVariants as kind
 use Rattle.bpf_insn_types.specs.declared.insn.Insn.TheVariants as insn
-use Rattle.bpf_insn.specs.{declared.{form.{AluCode.{AluCode}, Form.{Form}}, slot.Slot.{Slot}}, Opcode.{form_at}}
+use Rattle.bpf_insn.specs.{declared.{form.Form.{Form}, slot.Slot.{Slot}}, Opcode.{form_at}}
 use Rattle.bpf_insn.specs.{declared.codec_error.{CodecFault.{CodecFault}, CodecError.{CodecError}}, SlotBytes.{slot_at}}
 use Rattle.bpf_insn.specs.{declared.codec_error.CodecError.TheVariants.{Refused, Memory}, Spelling.{has_next}}
-use Rattle.bpf_insn.specs.declared.form.AluCode.TheVariants as alu
 use Rattle.bpf_insn.specs.declared.form.Form.TheVariants as form
 use Rattle.bpf_insn.specs.declared.codec_error.CodecFault.TheVariants as faults
 
@@ -25,88 +24,56 @@ abbrev pub is : ℤ → ℕ → Bool
 is (pos m) n = m == n
 is (negsuc m) n = false
 
--- the forms that use the destination field
-abbrev pub uses_dst : Form → Bool
-uses_dst form.Ja = false
-uses_dst form.Ja32 = false
-uses_dst form.Call = false
-uses_dst form.Exit = false
-uses_dst _ = true
-
--- the forms that use the source field
-abbrev pub uses_src : Form → Bool
-uses_src (form.AluReg w c) = true
-uses_src (form.JumpReg w c) = true
-uses_src form.Call = true
-uses_src (form.Load s) = true
-uses_src (form.LoadSx s) = true
-uses_src (form.Store s) = true
-uses_src (form.Atomic w) = true
-uses_src form.LoadImm = true
-uses_src _ = false
-
--- the codes whose offset says signed (RFC 9669, section 4.1)
-abbrev pub has_signed : AluCode → Bool
-has_signed alu.Div = true
-has_signed alu.Mod = true
+-- the operations whose offset says whether they are signed (RFC 9669, section 4.1)
+abbrev pub has_signed : AluOp → Bool
+has_signed op.Div = true
+has_signed op.Sdiv = true
+has_signed op.Mod = true
+has_signed op.Smod = true
 has_signed _ = false
 
--- the codes whose offset says something where both operands are registers (RFC 9669, section 4.1)
-abbrev pub has_offset : AluCode → Bool
-has_offset alu.Mov = true
-has_offset c = has_signed c
+-- the operations whose offset says something where both operands are registers (RFC 9669, section 4.1)
+abbrev pub has_offset : AluOp → Bool
+has_offset op.Mov = true
+has_offset o = has_signed o
 
--- the forms that use the offset field
-abbrev pub uses_offset : Form → Bool
-uses_offset (form.AluImm w c) = has_signed c
-uses_offset (form.AluReg w c) = has_offset c
-uses_offset form.Ja = true
-uses_offset (form.JumpImm w c) = true
-uses_offset (form.JumpReg w c) = true
-uses_offset (form.Load s) = true
-uses_offset (form.LoadSx s) = true
-uses_offset (form.StoreImm s) = true
-uses_offset (form.Store s) = true
-uses_offset (form.Atomic w) = true
-uses_offset _ = false
-
--- the forms that use the immediate
-abbrev pub uses_imm : Form → Bool
-uses_imm (form.AluImm w c) = true
-uses_imm (form.Endian o) = true
-uses_imm form.Ja32 = true
-uses_imm (form.JumpImm w c) = true
-uses_imm form.Call = true
-uses_imm (form.StoreImm s) = true
-uses_imm (form.Atomic w) = true
-uses_imm form.LoadImm = true
-uses_imm _ = false
+-- whether a form uses the fields dst, src, offset and imm, in this order
+abbrev pub uses : Form → Bool × Bool × Bool × Bool
+uses (form.AluImm w o) = (true, false, has_signed o, true)
+uses (form.AluReg w o) = (true, true, has_offset o, false)
+uses (form.Neg w) = (true, false, false, false)
+uses (form.Endian o) = (true, false, false, true)
+uses form.Ja = (false, false, true, false)
+uses form.Ja32 = (false, false, false, true)
+uses (form.JumpImm w c) = (true, false, true, true)
+uses (form.JumpReg w c) = (true, true, true, false)
+uses form.Call = (false, true, false, true)
+uses form.Exit = (false, false, false, false)
+uses (form.Load s) = (true, true, true, false)
+uses (form.LoadSx s) = (true, true, true, false)
+uses (form.StoreImm s) = (true, false, true, true)
+uses (form.Store s) = (true, true, true, false)
+uses (form.Atomic w) = (true, true, true, true)
+uses form.LoadImm = (true, true, false, true)
 
 -- each field that the form doesn't use is zero
 abbrev pub unused_are_zero : Form → Slot → Bool
 unused_are_zero f s =
-    (uses_dst f || s.dst == 0) && (uses_src f || s.src == 0) && (uses_offset f || is s.offset 0)
-    && (uses_imm f || is s.imm 0)
+    ((uses f).0 || s.dst == 0) && ((uses f).1 || s.src == 0) && ((uses f).2 || is s.offset 0)
+    && ((uses f).3 || is s.imm 0)
 
 -- plain at offset 0, signed at offset 1
 abbrev pub signed_op_at : ℤ → AluOp → AluOp → Result AluOp CodecFault
 signed_op_at offset plain signed = if is offset 0 then Ok plain else if is offset 1 then Ok signed
     else Err faults.Offset
 
--- the operation of a code and an offset (RFC 9669, section 4.1)
-abbrev pub alu_op_at : AluCode → ℤ → Result AluOp CodecFault
-alu_op_at alu.Add offset = Ok op.Add
-alu_op_at alu.Sub offset = Ok op.Sub
-alu_op_at alu.Mul offset = Ok op.Mul
-alu_op_at alu.Div offset = signed_op_at offset op.Div op.Sdiv
-alu_op_at alu.Or offset = Ok op.Or
-alu_op_at alu.And offset = Ok op.And
-alu_op_at alu.Lsh offset = Ok op.Lsh
-alu_op_at alu.Rsh offset = Ok op.Rsh
-alu_op_at alu.Mod offset = signed_op_at offset op.Mod op.Smod
-alu_op_at alu.Xor offset = Ok op.Xor
-alu_op_at alu.Mov offset = Ok op.Mov
-alu_op_at alu.Arsh offset = Ok op.Arsh
+-- the operation at an offset, which says of a division or a modulo whether it is signed (RFC 9669, section 4.1)
+abbrev pub alu_op_at : AluOp → ℤ → Result AluOp CodecFault
+alu_op_at op.Div offset = signed_op_at offset op.Div op.Sdiv
+alu_op_at op.Sdiv offset = signed_op_at offset op.Div op.Sdiv
+alu_op_at op.Mod offset = signed_op_at offset op.Mod op.Smod
+alu_op_at op.Smod offset = signed_op_at offset op.Mod op.Smod
+alu_op_at o offset = Ok o
 
 -- the instruction of an operation
 abbrev pub alu_insn : Width → ℕ → Operand → Result AluOp CodecFault → Result Insn CodecFault
@@ -126,11 +93,6 @@ mov_at w dst src offset =
     else if is offset 16 then Ok (insn.Movsx w movsx.B16 dst src)
     else if is offset 32 then movsx_32 w dst src
     else Err faults.Offset
-
--- arithmetic on two registers
-abbrev pub alu_reg_insn : Width → AluCode → ℕ → ℕ → ℤ → Result Insn CodecFault
-alu_reg_insn w alu.Mov dst src offset = mov_at w dst src offset
-alu_reg_insn w c dst src offset = alu_insn w dst (Reg src) (alu_op_at c offset)
 
 -- a byte order by its immediate (RFC 9669, section 4.2)
 abbrev pub endian_at : ByteOrder → ℕ → ℤ → Result Insn CodecFault
@@ -185,8 +147,9 @@ load_imm_at (Some kind) dst imm (Some t) =
 
 -- the instruction of a form with these fields; next is the slot after it
 abbrev pub insn_of_form : Form → ℕ → ℕ → ℤ → ℤ → Option Slot → Result Insn CodecFault
-insn_of_form (form.AluImm w c) dst src offset imm next = alu_insn w dst (Imm imm) (alu_op_at c offset)
-insn_of_form (form.AluReg w c) dst src offset imm next = alu_reg_insn w c dst src offset
+insn_of_form (form.AluImm w o) dst src offset imm next = alu_insn w dst (Imm imm) (alu_op_at o offset)
+insn_of_form (form.AluReg w op.Mov) dst src offset imm next = mov_at w dst src offset
+insn_of_form (form.AluReg w o) dst src offset imm next = alu_insn w dst (Reg src) (alu_op_at o offset)
 insn_of_form (form.Neg w) dst src offset imm next = Ok (insn.Neg w dst)
 insn_of_form (form.Endian o) dst src offset imm next = endian_at o dst imm
 insn_of_form form.Ja dst src offset imm next = Ok (insn.Ja offset)

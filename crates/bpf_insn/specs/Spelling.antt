@@ -13,30 +13,12 @@ use Rattle.bpf_insn_types.specs.declared.insn.AluOp.TheVariants as op
 use Rattle.bpf_insn_types.specs.declared.insn.SimpleOp.TheVariants as simple
 use Rattle.bpf_insn_types.specs.declared.insn.ImmKind.TheVariants as kind
 use Rattle.bpf_insn_types.specs.declared.insn.Insn.TheVariants as insn
-use Rattle.bpf_insn.specs.declared.{form.{AluCode.{AluCode}, Form.{Form}}, slot.Slot.{Slot}, encoding.Spelled.{Spelled}}
+use Rattle.bpf_insn.specs.declared.{form.Form.{Form}, slot.Slot.{Slot}, encoding.Spelled.{Spelled}}
 use Rattle.bpf_insn.specs.declared.codec_error.{CodecFault.{CodecFault}, CodecError.{CodecError}}
 use Rattle.bpf_insn.specs.declared.codec_error.CodecError.TheVariants.{Refused, Memory}
 use Rattle.bpf_insn.specs.SlotBytes.{slot, slots_bytes, SlotFits}
-use Rattle.bpf_insn.specs.declared.form.AluCode.TheVariants as alu
 use Rattle.bpf_insn.specs.declared.form.Form.TheVariants as form
 use Rattle.bpf_insn.specs.declared.codec_error.CodecFault.TheVariants as faults
-
--- the code of an operation; signed division and modulo share theirs (RFC 9669, section 4.1)
-abbrev pub code_of : AluOp → AluCode
-code_of op.Add = alu.Add
-code_of op.Sub = alu.Sub
-code_of op.Mul = alu.Mul
-code_of op.Div = alu.Div
-code_of op.Sdiv = alu.Div
-code_of op.Or = alu.Or
-code_of op.And = alu.And
-code_of op.Lsh = alu.Lsh
-code_of op.Rsh = alu.Rsh
-code_of op.Mod = alu.Mod
-code_of op.Smod = alu.Mod
-code_of op.Xor = alu.Xor
-code_of op.Mov = alu.Mov
-code_of op.Arsh = alu.Arsh
 
 -- the offset of an operation: 1 for signed division and modulo (RFC 9669, section 4.1)
 abbrev pub op_offset : AluOp → ℤ
@@ -113,11 +95,11 @@ two_slots kind false dst imm _ = Err faults.FieldNotZero
 
 -- the slots of an instruction, or the number of the refusal where it has none (RFC 9669, sections 3 to 5)
 abbrev pub spelling : Insn → Result (List Slot) CodecFault
-spelling (insn.Alu w o dst (Imm imm)) = one_slot (form.AluImm w (code_of o)) dst 0 (op_offset o) imm
-spelling (insn.Alu w o dst (Reg src)) = one_slot (form.AluReg w (code_of o)) dst src (op_offset o) (pos 0)
+spelling (insn.Alu w o dst (Imm imm)) = one_slot (form.AluImm w o) dst 0 (op_offset o) imm
+spelling (insn.Alu w o dst (Reg src)) = one_slot (form.AluReg w o) dst src (op_offset o) (pos 0)
 spelling (insn.Neg w dst) = one_slot (form.Neg w) dst 0 (pos 0) (pos 0)
 spelling (insn.Movsx W32 movsx.B32 dst src) = Err faults.Offset
-spelling (insn.Movsx w bits dst src) = one_slot (form.AluReg w alu.Mov) dst src (movsx_offset bits) (pos 0)
+spelling (insn.Movsx w bits dst src) = one_slot (form.AluReg w op.Mov) dst src (movsx_offset bits) (pos 0)
 spelling (insn.Endian order bits dst) = one_slot (form.Endian order) dst 0 (pos 0) (endian_imm bits)
 spelling (insn.Ja offset) = one_slot form.Ja 0 0 offset (pos 0)
 spelling (insn.Ja32 imm) = one_slot form.Ja32 0 0 (pos 0) imm

@@ -4,15 +4,14 @@ ghost use Rattle.std.specs.Prelude.{◌≡◌, ◌≤◌, ◌<◌, ◌*◌, List
 ghost use Rattle.std.specs.Prelude.{MatchResult};
 ghost use Rattle.bpf_insn_types.specs.{Slots.{slots_of}, Outcome.{MatchesUnlessMemory}, Values.{AreInsns}};
 ghost use Rattle.bpf_insn_types.specs.declared.insn.Insn.{Insn};
-ghost use Rattle.bpf_insn.specs.Reading.{signed_op_at, alu_op_at, alu_insn, mov_at, endian_at, call_at};
+ghost use Rattle.bpf_insn.specs.Reading.{alu_op_at, alu_insn, mov_at, endian_at, call_at};
 ghost use Rattle.bpf_insn.specs.Reading.{atomic_at, atomic_insn, imm_kind_at, is_second, load_imm_at, insn_of_form};
 ghost use Rattle.bpf_insn.specs.Reading.{insn_of_slot, front_slot, first_insn, FailsFirst, reading};
 ghost use Rattle.bpf_insn.specs.{CodecRefusal.{codec_refusal}, Spelling.{program_spelling}};
 
 use crate::codec_error::{CodecError, CodecFault};
 use crate::encoding::has_next_imm;
-use crate::fields::only_its_fields;
-use crate::form::{AluCode, Form, form_of};
+use crate::form::{Form, form_of, only_its_fields};
 use crate::slot::Slot;
 use bpf_insn_types::{
     AluOp, AtomicOp, ByteOrder, Callee, Compare, EndianBits, ImmKind, Insn, MovsxBits, Operand,
@@ -20,10 +19,15 @@ use bpf_insn_types::{
 };
 use std::alloc::Global;
 
-/// The plain operation at offset 0, the signed one at offset 1.
-fn signed_op(offset: i16, plain: AluOp, signed: AluOp) -> Result<AluOp, CodecFault>
-    ensures { result ≡ signed_op_at offset plain signed }
+/// The operation at an offset, which says of a division or a modulo whether it is signed.
+fn op_at(op: AluOp, offset: i16) -> Result<AluOp, CodecFault>
+    ensures { result ≡ alu_op_at op offset }
 {
+    let (plain, signed) = match op {
+        AluOp::Div | AluOp::Sdiv => (AluOp::Div, AluOp::Sdiv),
+        AluOp::Mod | AluOp::Smod => (AluOp::Mod, AluOp::Smod),
+        _ => return Ok(op),
+    };
     match offset {
         0 => Ok(plain),
         1 => Ok(signed),
@@ -31,37 +35,11 @@ fn signed_op(offset: i16, plain: AluOp, signed: AluOp) -> Result<AluOp, CodecFau
     }
 }
 
-/// The operation of a code; the offset of a division or a modulo says whether it is signed.
-fn op_of(code: AluCode, offset: i16) -> Result<AluOp, CodecFault>
-    ensures { result ≡ alu_op_at code offset }
-{
-    match code {
-        AluCode::Add => Ok(AluOp::Add),
-        AluCode::Sub => Ok(AluOp::Sub),
-        AluCode::Mul => Ok(AluOp::Mul),
-        AluCode::Div => signed_op(offset, AluOp::Div, AluOp::Sdiv),
-        AluCode::Or => Ok(AluOp::Or),
-        AluCode::And => Ok(AluOp::And),
-        AluCode::Lsh => Ok(AluOp::Lsh),
-        AluCode::Rsh => Ok(AluOp::Rsh),
-        AluCode::Mod => signed_op(offset, AluOp::Mod, AluOp::Smod),
-        AluCode::Xor => Ok(AluOp::Xor),
-        AluCode::Mov => Ok(AluOp::Mov),
-        AluCode::Arsh => Ok(AluOp::Arsh),
-    }
-}
-
 /// Arithmetic with two operands.
-fn alu(
-    width: Width,
-    code: AluCode,
-    dst: Reg,
-    operand: Operand,
-    offset: i16,
-) -> Result<Insn, CodecFault>
-    ensures { result ≡ alu_insn width dst operand (alu_op_at code offset) }
+fn alu(width: Width, op: AluOp, dst: Reg, operand: Operand, offset: i16) -> Result<Insn, CodecFault>
+    ensures { result ≡ alu_insn width dst operand (alu_op_at op offset) }
 {
-    let op = op_of(code, offset)?;
+    let op = op_at(op, offset)?;
     Ok(Insn::Alu {
         width,
         op,
@@ -141,20 +119,6 @@ fn atomic_op(imm: i32) -> Result<AtomicOp, CodecFault>
     }
 }
 
-/// An atomic, whose immediate encodes its operation.
-fn atomic(width: Width, dst: Reg, src: Reg, offset: i16, imm: i32) -> Result<Insn, CodecFault>
-    ensures { result ≡ atomic_insn width dst src offset (atomic_at imm) }
-{
-    let op = atomic_op(imm)?;
-    Ok(Insn::Atomic {
-        width,
-        op,
-        dst,
-        src,
-        offset,
-    })
-}
-
 /// The kind of a two-slot load by its source.
 fn kind_of(src: u8) -> Option<ImmKind>
     ensures { result ≡ imm_kind_at src }
@@ -227,9 +191,9 @@ fn insn_of_form(
 {
     let Slot { offset, imm, .. } = slot;
     match form {
-        Form::AluImm(width, code) => alu(width, code, dst, Operand::Imm(imm), offset),
-        Form::AluReg(width, AluCode::Mov) => mov(width, dst, src, offset),
-        Form::AluReg(width, code) => alu(width, code, dst, Operand::Reg(src), offset),
+        Form::AluImm(width, op) => alu(width, op, dst, Operand::Imm(imm), offset),
+        Form::AluReg(width, AluOp::Mov) => mov(width, dst, src, offset),
+        Form::AluReg(width, op) => alu(width, op, dst, Operand::Reg(src), offset),
         Form::Neg(width) => Ok(Insn::Neg { width, dst }),
         Form::Endian(order) => endian(order, dst, imm),
         Form::Ja => Ok(Insn::Ja { offset }),
@@ -262,7 +226,13 @@ fn insn_of_form(
             src,
             offset,
         }),
-        Form::Atomic(width) => atomic(width, dst, src, offset, imm),
+        Form::Atomic(width) => Ok(Insn::Atomic {
+            width,
+            op: atomic_op(imm)?,
+            dst,
+            src,
+            offset,
+        }),
         Form::LoadImm => load_imm(src.number(), dst, imm, next),
     }
 }

@@ -2,12 +2,12 @@
 
 ghost use Rattle.std.specs.Prelude.{◌≡◌, ◌≤◌, ◌∷◌, [], MatchResult, IfOk, Some};
 ghost use Rattle.bpf_insn.specs.{SlotBytes.{slot, SlotFits}, Spelling.{program_spelling}, CodecRefusal.{codec_refusal}};
-ghost use Rattle.bpf_insn.specs.Spelling.{code_of, op_offset, movsx_offset, endian_imm, callee_src, atomic_imm};
+ghost use Rattle.bpf_insn.specs.Spelling.{op_offset, movsx_offset, endian_imm, callee_src, atomic_imm};
 ghost use Rattle.bpf_insn.specs.Spelling.{kind_src, has_next, two_slots, spelling, spelled_slots, SpelledFits, Appends};
 ghost use Rattle.bpf_insn_types.specs.Outcome.{MatchesUnlessMemory};
 
 use crate::codec_error::{CodecError, CodecFault};
-use crate::form::{AluCode, Form};
+use crate::form::Form;
 use crate::slot::Slot;
 use bpf_insn_types::{
     AluOp, AtomicOp, Callee, Compare, EndianBits, ImmKind, Insn, MovsxBits, Operand, SimpleOp,
@@ -20,26 +20,6 @@ use std::alloc::Global;
 pub struct Spelled {
     pub first: Slot,
     pub second: Option<Slot>,
-}
-
-/// The code of an operation; signed division and modulo share theirs.
-fn code_of_op(op: AluOp) -> AluCode
-    ensures { result ≡ code_of op }
-{
-    match op {
-        AluOp::Add => AluCode::Add,
-        AluOp::Sub => AluCode::Sub,
-        AluOp::Mul => AluCode::Mul,
-        AluOp::Div | AluOp::Sdiv => AluCode::Div,
-        AluOp::Or => AluCode::Or,
-        AluOp::And => AluCode::And,
-        AluOp::Lsh => AluCode::Lsh,
-        AluOp::Rsh => AluCode::Rsh,
-        AluOp::Mod | AluOp::Smod => AluCode::Mod,
-        AluOp::Xor => AluCode::Xor,
-        AluOp::Mov => AluCode::Mov,
-        AluOp::Arsh => AluCode::Arsh,
-    }
 }
 
 /// The offset of an operation: 1 for signed division and modulo.
@@ -166,20 +146,16 @@ fn alu(width: Width, op: AluOp, dst: u8, operand: Operand) -> Spelled
     ensures fits { SpelledFits result }
 {
     match operand {
-        Operand::Imm(imm) => one_slot(
-            Form::AluImm(width, code_of_op(op)),
-            dst,
-            0,
-            offset_of_op(op),
-            imm,
-        ),
-        Operand::Reg(src) => one_slot(
-            Form::AluReg(width, code_of_op(op)),
-            dst,
-            src.number(),
-            offset_of_op(op),
-            0,
-        ),
+        Operand::Imm(imm) => one_slot(Form::AluImm(width, op), dst, 0, offset_of_op(op), imm),
+        Operand::Reg(src) => {
+            one_slot(
+                Form::AluReg(width, op),
+                dst,
+                src.number(),
+                offset_of_op(op),
+                0,
+            )
+        }
     }
 }
 
@@ -219,7 +195,7 @@ fn spell(insn: &Insn) -> Result<Spelled, CodecFault>
             dst,
             src,
         } => Ok(one_slot(
-            Form::AluReg(width, AluCode::Mov),
+            Form::AluReg(width, AluOp::Mov),
             dst.number(),
             src.number(),
             offset_of_movsx(bits),

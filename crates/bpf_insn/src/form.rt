@@ -1,34 +1,19 @@
 //! What an opcode says (RFC 9669, section 3): the one place of the opcode tables.
 
 ghost use Rattle.std.specs.Prelude.{◌≡◌, ◌/◌, ◌%◌, ◌≤◌};
-ghost use Rattle.bpf_insn.specs.Opcode.{alu_code, alu_class, jump_code, jump_class, size_bits, opcode, alu_code_at};
+ghost use Rattle.bpf_insn.specs.Opcode.{alu_code, alu_class, jump_code, jump_class, size_bits, opcode, alu_op_of_code};
 ghost use Rattle.bpf_insn.specs.Opcode.{compare_at, size_at, alu_form, jump_form, load_form};
-ghost use Rattle.bpf_insn.specs.Opcode.{store_form, form_at};
+ghost use Rattle.bpf_insn.specs.{Opcode.{store_form, form_at}, Reading.{has_signed, uses, unused_are_zero}};
 
-use bpf_insn_types::{ByteOrder, Compare, Size, Width};
+use crate::slot::Slot;
+use bpf_insn_types::{AluOp, ByteOrder, Compare, Size, Width};
 
-/// The operation code of an arithmetic opcode (RFC 9669, section 4.1).
-#[derive(Clone, Copy)]
-pub enum AluCode {
-    Add,
-    Sub,
-    Mul,
-    Div,
-    Or,
-    And,
-    Lsh,
-    Rsh,
-    Mod,
-    Xor,
-    Mov,
-    Arsh,
-}
-
-/// What an opcode says: the form of the instruction, before its other fields.
+/// What an opcode says: the form of the instruction, before its other fields. A signed division or modulo has the
+/// opcode of the plain one.
 #[derive(Clone, Copy)]
 pub enum Form {
-    AluImm(Width, AluCode),
-    AluReg(Width, AluCode),
+    AluImm(Width, AluOp),
+    AluReg(Width, AluOp),
     Neg(Width),
     Endian(ByteOrder),
     Ja,
@@ -45,22 +30,22 @@ pub enum Form {
     LoadImm,
 }
 
-fn alu_code_of(code: u8) -> Option<AluCode>
-    ensures { result ≡ alu_code_at code }
+fn op_of_code(code: u8) -> Option<AluOp>
+    ensures { result ≡ alu_op_of_code code }
 {
     match code {
-        0x0 => Some(AluCode::Add),
-        0x1 => Some(AluCode::Sub),
-        0x2 => Some(AluCode::Mul),
-        0x3 => Some(AluCode::Div),
-        0x4 => Some(AluCode::Or),
-        0x5 => Some(AluCode::And),
-        0x6 => Some(AluCode::Lsh),
-        0x7 => Some(AluCode::Rsh),
-        0x9 => Some(AluCode::Mod),
-        0xa => Some(AluCode::Xor),
-        0xb => Some(AluCode::Mov),
-        0xc => Some(AluCode::Arsh),
+        0x0 => Some(AluOp::Add),
+        0x1 => Some(AluOp::Sub),
+        0x2 => Some(AluOp::Mul),
+        0x3 => Some(AluOp::Div),
+        0x4 => Some(AluOp::Or),
+        0x5 => Some(AluOp::And),
+        0x6 => Some(AluOp::Lsh),
+        0x7 => Some(AluOp::Rsh),
+        0x9 => Some(AluOp::Mod),
+        0xa => Some(AluOp::Xor),
+        0xb => Some(AluOp::Mov),
+        0xc => Some(AluOp::Arsh),
         _ => None,
     }
 }
@@ -104,8 +89,8 @@ fn arithmetic(width: Width, opcode: u8) -> Option<Form>
         (0xd, 0, Width::W32) => Some(Form::Endian(ByteOrder::Le)),
         (0xd, 1, Width::W32) => Some(Form::Endian(ByteOrder::Be)),
         (0xd, 0, Width::W64) => Some(Form::Endian(ByteOrder::Swap)),
-        (code, 0, _) => Some(Form::AluImm(width, alu_code_of(code)?)),
-        (code, _, _) => Some(Form::AluReg(width, alu_code_of(code)?)),
+        (code, 0, _) => Some(Form::AluImm(width, op_of_code(code)?)),
+        (code, _, _) => Some(Form::AluReg(width, op_of_code(code)?)),
     }
 }
 
@@ -166,23 +151,23 @@ pub(crate) fn form_of(opcode: u8) -> Option<Form>
     }
 }
 
-fn code_of_alu(code: AluCode) -> u8
-    ensures value { result ≡ alu_code code }
+fn code_of_op(op: AluOp) -> u8
+    ensures value { result ≡ alu_code op }
     ensures bound { result ≤ 12 }
 {
-    match code {
-        AluCode::Add => 0x0,
-        AluCode::Sub => 0x1,
-        AluCode::Mul => 0x2,
-        AluCode::Div => 0x3,
-        AluCode::Or => 0x4,
-        AluCode::And => 0x5,
-        AluCode::Lsh => 0x6,
-        AluCode::Rsh => 0x7,
-        AluCode::Mod => 0x9,
-        AluCode::Xor => 0xa,
-        AluCode::Mov => 0xb,
-        AluCode::Arsh => 0xc,
+    match op {
+        AluOp::Add => 0x0,
+        AluOp::Sub => 0x1,
+        AluOp::Mul => 0x2,
+        AluOp::Div | AluOp::Sdiv => 0x3,
+        AluOp::Or => 0x4,
+        AluOp::And => 0x5,
+        AluOp::Lsh => 0x6,
+        AluOp::Rsh => 0x7,
+        AluOp::Mod | AluOp::Smod => 0x9,
+        AluOp::Xor => 0xa,
+        AluOp::Mov => 0xb,
+        AluOp::Arsh => 0xc,
     }
 }
 
@@ -242,8 +227,8 @@ pub(crate) fn opcode_of(form: Form) -> u8
     ensures { result ≡ opcode form }
 {
     match form {
-        Form::AluImm(width, code) => 16 * code_of_alu(code) + class_of_alu(width),
-        Form::AluReg(width, code) => 16 * code_of_alu(code) + 8 + class_of_alu(width),
+        Form::AluImm(width, op) => 16 * code_of_op(op) + class_of_alu(width),
+        Form::AluReg(width, op) => 16 * code_of_op(op) + 8 + class_of_alu(width),
         Form::Neg(width) => 0x80 + class_of_alu(width),
         Form::Endian(ByteOrder::Le) => 0xd4,
         Form::Endian(ByteOrder::Be) => 0xdc,
@@ -262,4 +247,45 @@ pub(crate) fn opcode_of(form: Form) -> u8
         Form::Atomic(Width::W64) => 0xdb,
         Form::LoadImm => 0x18,
     }
+}
+
+/// Whether the offset of an operation says if it is signed.
+fn has_signed(op: AluOp) -> bool
+    ensures { result ≡ has_signed op }
+{
+    matches!(op, AluOp::Div | AluOp::Sdiv | AluOp::Mod | AluOp::Smod)
+}
+
+/// Whether a form uses the fields dst, src, offset and imm, in this order.
+fn uses(form: Form) -> (bool, bool, bool, bool)
+    ensures { result ≡ uses form }
+{
+    match form {
+        Form::AluImm(_, op) => (true, false, has_signed(op), true),
+        Form::AluReg(_, AluOp::Mov) => (true, true, true, false),
+        Form::AluReg(_, op) => (true, true, has_signed(op), false),
+        Form::Neg(_) => (true, false, false, false),
+        Form::Endian(_) => (true, false, false, true),
+        Form::Ja => (false, false, true, false),
+        Form::Ja32 => (false, false, false, true),
+        Form::JumpImm(..) | Form::StoreImm(_) => (true, false, true, true),
+        Form::Call => (false, true, false, true),
+        Form::Exit => (false, false, false, false),
+        Form::JumpReg(..) | Form::Load(_) | Form::LoadSx(_) | Form::Store(_) => {
+            (true, true, true, false)
+        }
+        Form::Atomic(_) => (true, true, true, true),
+        Form::LoadImm => (true, true, false, true),
+    }
+}
+
+/// Whether each field that the form doesn't use is zero.
+pub(crate) fn only_its_fields(form: Form, slot: Slot) -> bool
+    ensures { result ≡ unused_are_zero form slot }
+{
+    let (dst, src, offset, imm) = uses(form);
+    (dst || slot.dst == 0)
+        && (src || slot.src == 0)
+        && (offset || slot.offset == 0)
+        && (imm || slot.imm == 0)
 }

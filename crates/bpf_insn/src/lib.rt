@@ -12,7 +12,6 @@
 mod codec_error;
 mod decoding;
 mod encoding;
-mod fields;
 mod form;
 pub mod laws;
 mod slot;
