@@ -3,6 +3,5 @@ pub mod LabelLaws
 pub mod MnemonicLaws
 pub mod PlainLaws
 pub mod ValueLaws
-pub mod LineBack
 pub mod InsnBack
 pub mod LineSlots

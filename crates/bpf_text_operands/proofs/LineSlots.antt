@@ -1,6 +1,7 @@
 -- A line takes the slots of the instruction that it is.
 use Rattle.std.proofs.Common.{◌≡◌, ℕ, ℤ, pos, ◌-◌, ◌^◌, Bool, true, false, cond, ◌&&◌, ◌||◌, ◌==◌, List, length, drop}
-use Rattle.std.{proofs.Common.{Option, Some, None, Result, Ok, Err, refl, sym, ap, ◌∙◌}, specs.Prelude.{is_ok}}
+use Rattle.std.proofs.Common.{Option, Some, None, Result, Ok, Err, refl, sym, ap, ◌∙◌}
+use Rattle.std.specs.{Prelude.{is_ok}, Option.{ok_or}}
 use Rattle.std.proofs.lemmas.Bool.{and_from, or_left, or_right, cond-true}
 use Rattle.bpf_insn_types.specs.{declared.insn.{ImmKind.{ImmKind}, Insn.{Insn}}, Slots.{slots_of}}
 use Rattle.bpf_insn_types.specs.declared.insn.ImmKind.TheVariants as load
@@ -19,7 +20,7 @@ use Rattle.bpf_text_operands.specs.Operands.{kinds_of, pair}
 use Rattle.bpf_text_operands.specs.Operands.{as_address, is_bracketed, inside, base_part, offset_part, value_at}
 use Rattle.bpf_text_operands.specs.Operands.{cut_comma, both_at, three_at}
 use Rattle.bpf_text_operands.specs.Operands.{operands_at, fits, both_fit, three_fit, all_fit}
-use Rattle.bpf_text_operands.specs.Statements.{statement_at, two_slots_of, insn_of_mnemonic, some_insn, built}
+use Rattle.bpf_text_operands.specs.Statements.{statement_at, two_slots_of, insn_of_mnemonic, built}
 use Rattle.bpf_text_operands.specs.Statements.{with_operands, insn_of_line, mnemonic_slots, slots_where, slots_at}
 use Rattle.bpf_text_operands.specs.declared.kind.Kind.TheVariants as kind
 use Rattle.bpf_text_operands.specs.declared.kind.Kinds.TheVariants as kinds
@@ -38,9 +39,6 @@ both_read (Err fault) (Err other) x e = absurd cc
 made_read : {A B : Type 0} (f : A → B) (r : Result A TextFault) (y : B) → made f r ≡ Ok y → (x : A) × (r ≡ Ok x)
 made_read f (Ok x) y e = (x, refl)
 made_read f (Err fault) y e = absurd cc
-
-ok_is_ok : {A : Type 0} (r : Result A TextFault) (x : A) → r ≡ Ok x → is_ok r ≡ true
-ok_is_ok r x e = ap is_ok e
 
 signed_read : (bound : ℕ) (word : List ℕ) (z : ℤ) → signed_at bound word ≡ Ok z → is_number word ≡ true
 signed_read bound word z e = by_sign (is_negative word) refl e
@@ -74,13 +72,12 @@ module _ (find : List ℕ → Option ℕ) (slot : ℕ) where
 
   -- a word that is read as an operand of a kind has its form
   value_fits : (k : Kind) (word : List ℕ) (v : Value) → value_at find slot k word ≡ Ok v → fits k word ≡ true
-  value_fits kind.Reg word v e = (let r = made_read value.Reg (register_at word) v e in
-      ok_is_ok (register_at word) r.0 r.1)
+  value_fits kind.Reg word v e = ap is_ok (made_read value.Reg (register_at word) v e).1
   value_fits kind.RegOrImm word v e = by_register (is_register word) e
     where
       by_register : (b : Bool) → cond b (made value.Reg (register_at word)) (made value.Imm (signed_at (2 ^ 31) word))
           ≡ Ok v → cond b (is_ok (register_at word)) (is_number word) ≡ true
-      by_register true h = (let r = made_read value.Reg (register_at word) v h in ok_is_ok (register_at word) r.0 r.1)
+      by_register true h = ap is_ok (made_read value.Reg (register_at word) v h).1
       by_register false h = (let z = made_read value.Imm (signed_at (2 ^ 31) word) v h in
           signed_read (2 ^ 31) word z.0 z.1)
   value_fits kind.Imm word v e = (let z = made_read value.Imm (signed_at (2 ^ 31) word) v e in
@@ -105,7 +102,7 @@ module _ (find : List ℕ → Option ℕ) (slot : ℕ) where
           let parts = both_read (register_at (base_part (inside word))) (offset_at (2 ^ 15) (offset_part (inside word)))
           x.0 x.1 in
           and_from (is_ok (register_at (base_part (inside word)))) (is_offset (offset_part (inside word)))
-          (ok_is_ok (register_at (base_part (inside word))) parts.0.0 parts.0.1)
+          (ap is_ok parts.0.1)
           (offset_read (2 ^ 15) (offset_part (inside word)) parts.1.0 parts.1.1)
       by_brackets false h = absurd cc
 
@@ -178,15 +175,15 @@ module _ (find : List ℕ → Option ℕ) (slot : ℕ) where
 
   -- ---- the line
 
-  -- what was read of the operands of an instruction that was built
-  built_read : (m : Mnemonic) (r : Result Operands TextFault) (i : Insn) → built m r ≡ Ok i → (o : Operands)
-      × (r ≡ Ok o) × (some_insn (insn_of_mnemonic m o) ≡ Ok i)
-  built_read m (Ok o) i e = (o, refl, e)
-  built_read m (Err fault) i e = absurd cc
-
-  insn_there : (r : Option Insn) (i : Insn) → some_insn r ≡ Ok i → r ≡ Some i
+  insn_there : (r : Option Insn) (i : Insn) → ok_or r faults.Form ≡ Ok i → r ≡ Some i
   insn_there (Some j) i e = (let same : j ≡ i = cc in ap (λ (x : Insn). Some x) same)
   insn_there None i e = absurd cc
+
+  -- what was read of the operands of an instruction that was built
+  built_read : (m : Mnemonic) (r : Result Operands TextFault) (i : Insn) → built m r ≡ Ok i → (o : Operands)
+      × (r ≡ Ok o) × (insn_of_mnemonic m o ≡ Some i)
+  built_read m (Ok o) i e = (o, refl, insn_there (insn_of_mnemonic m o) i e)
+  built_read m (Err fault) i e = absurd cc
 
   statement_slots : (s : Option (Mnemonic × List ℕ)) (i : Insn) → with_operands find slot s ≡ Ok i
       → slots_where s ≡ slots_of i
@@ -194,7 +191,7 @@ module _ (find : List ℕ → Option ℕ) (slot : ℕ) where
   statement_slots (Some s) i e =
       let made = built_read s.0 (operands_at find slot (kinds_of s.0) s.1) i e in
       cond-true (all_fit (kinds_of s.0) s.1) (mnemonic_slots s.0) 0 (operands_fit (kinds_of s.0) s.1 made.0 made.1)
-      ∙ insn_slots s.0 made.0 i (insn_there (insn_of_mnemonic s.0 made.0) i made.2)
+      ∙ insn_slots s.0 made.0 i made.2
 
   pub line_slots : (line : List ℕ) (i : Insn) → insn_of_line find slot line ≡ Ok i → slots_at line ≡ slots_of i
   unfolding insn_of_line slots_at

@@ -2,6 +2,7 @@
 use Rattle.std.proofs.Common.{◌≡◌, ℕ, ◌+◌, ◌<◌, true, false, cond, ◌==◌, List, [], ◌∷◌, ◌++◌, length, drop, Some, None}
 use Rattle.std.{proofs.Common.{refl, ap, ◌∙◌, arith}, specs.{Prelude.{position, nat_lt}, Char.{is_ascii_digit}}}
 use Rattle.std.{specs.List.{position_or_len, list_all}, proofs.lemmas.Bool.{ne_eqb, lt-ltb, and_parts}}
+use Rattle.std.proofs.lemmas.Bool.Decides.{nat_tests}
 use Rattle.std.proofs.{lemmas.List.{length-append}, Math.Seq.{take-append_seam, drop-append-add}}
 use Rattle.bpf_text_lex.specs.Lines.{is_blank, trim_start, before_kept, trim_end, trim}
 use Rattle.bpf_text_lex.proofs.SpellingLaws.{digit_low}
@@ -17,10 +18,7 @@ plain-append [] ys a b = b
 plain-append (x ∷ xs) ys a b = (a.0, a.1, plain-append xs ys a.2 b)
 
 no_blank : (b : ℕ) → 42 < b → is_blank b ≡ false
-no_blank b lt =
-    let space : (b == 32) ≡ false = ne_eqb b 32 (λ e. absurd (omega arith)) in
-    let tab : (b == 9) ≡ false = ne_eqb b 9 (λ e. absurd (omega arith)) in
-    rw (space, tab) refl
+no_blank b lt = grind (arith, nat_tests)
 
 trim_end-plain : (bs : List ℕ) → Plain bs → trim_end bs ≡ bs
 trim_end-plain [] p = refl

@@ -4,6 +4,7 @@ use Rattle.std.proofs.Common.{List, [], ◌∷◌, ◌++◌, length, take, drop,
 use Rattle.std.{proofs.Common.{arith}, specs.{Prelude.{nat_lt, FitsSigned}, Char.{is_ascii_digit}, Int.{w32}}}
 use Rattle.std.specs.{Fmt.{decimal, signed_decimal}, List.{list_all, position_or_len}}
 use Rattle.std.proofs.lemmas.{Bool.{ne_eqb, lt-ltb, and_parts, and_from, cond-true, cond-false}, Fmt.{first_decimal}}
+use Rattle.std.proofs.lemmas.Bool.Decides.{nat_tests}
 use Rattle.std.proofs.{lemmas.List.{length-append}, Math.Seq.{take-append_seam, drop-append_seam, get_or-append_seam}}
 use Rattle.bpf_text_lex.specs.{Names.{continues_name, is_name}, Numbers.{is_numeral, is_negative, number_in}}
 use Rattle.bpf_text_lex.{proofs.SpellingLaws.{in_field, digit_low, decimal_digits}, specs.declared.value.Value.{Value}}
@@ -79,22 +80,19 @@ distance_back find bound slot (negsuc n) small lt =
 -- ---- memory
 
 no_sign : (b : ℕ) → 48 ≤ b → is_sign b ≡ false
-no_sign b low =
-    let plus : (b == 43) ≡ false = ne_eqb b 43 (λ e. absurd (omega (arith, e, low))) in
-    let dash : (b == 45) ≡ false = ne_eqb b 45 (λ e. absurd (omega (arith, e, low))) in
-    rw (plus, dash) refl
+no_sign b low = grind (arith, nat_tests)
 
-sign_behind : (digits rest : List ℕ) (s : ℕ) → list_all is_ascii_digit digits ≡ true → is_sign s ≡ true
-    → position_or_len is_sign (digits ++ s ∷ rest) ≡ length digits
-sign_behind [] rest s e sign = rw sign refl
-sign_behind (b ∷ bs) rest s e sign =
+distance_signed : (z : ℤ) → position_or_len is_sign (distance_spelling z) ≡ 0
+distance_signed (pos n) = refl
+distance_signed (negsuc n) = refl
+
+sign_behind : (digits : List ℕ) (z : ℤ) → list_all is_ascii_digit digits ≡ true
+    → position_or_len is_sign (digits ++ distance_spelling z) ≡ length digits
+sign_behind [] z e = distance_signed z
+sign_behind (b ∷ bs) z e =
     let h = and_parts (is_ascii_digit b) (list_all is_ascii_digit bs) e in
-    let behind = sign_behind bs rest s h.1 sign in
+    let behind = sign_behind bs z h.1 in
     rw (no_sign b (digit_low b h.0)) (omega (arith, behind))
-
-sign_at : (digits rest : List ℕ) (s : ℕ) → list_all is_ascii_digit digits ≡ true → is_sign s ≡ true
-    → position_or_len is_sign ((114 ∷ digits) ++ s ∷ rest) ≡ length (114 ∷ digits)
-sign_at digits rest s e sign = let behind = sign_behind digits rest s e sign in omega (arith, behind)
 
 bracketed : (text : List ℕ) → is_bracketed (91 ∷ (text ++ 93 ∷ [])) ≡ true
 bracketed text =
@@ -116,33 +114,24 @@ inside_is text =
 abbrev memory : List ℕ → Result Value TextFault
 memory text = as_address (pair (register_at (base_part text)) (offset_at (2 ^ 15) (offset_part text)))
 
-memory_back : (digits rest : List ℕ) (s r : ℕ) (z : ℤ) → list_all is_ascii_digit digits ≡ true → is_sign s ≡ true
-    → register_at (114 ∷ digits) ≡ Ok r → offset_at (2 ^ 15) (s ∷ rest) ≡ Ok z →
-    memory ((114 ∷ digits) ++ s ∷ rest) ≡ Ok (value.Address r z)
-memory_back digits rest s r z e sign reg off =
-    let at = sign_at digits rest s e sign in
-    let base : base_part ((114 ∷ digits) ++ s ∷ rest) ≡ 114 ∷ digits = ap (λ n. take n ((114 ∷ digits) ++ s ∷ rest)) at
-    ∙ take-append_seam (114 ∷ digits) (s ∷ rest) in
-    let offset : offset_part ((114 ∷ digits) ++ s ∷ rest) ≡ s ∷ rest = ap (λ n. drop n ((114 ∷ digits) ++ s ∷ rest)) at
-    ∙ drop-append_seam (114 ∷ digits) (s ∷ rest) in
-    ap (λ b. as_address (pair b (offset_at (2 ^ 15) (offset_part ((114 ∷ digits) ++ s ∷ rest))))) (ap register_at base
-    ∙ reg)
-    ∙ ap (λ o. as_address (pair (Ok r) o)) (ap (offset_at (2 ^ 15)) offset ∙ off)
-
--- text between brackets, as it is printed
-address_from : (text : List ℕ) (v : Value) → memory text ≡ Ok v → address_at (91 ∷ (text ++ 93 ∷ [])) ≡ Ok v
-address_from text v read =
-    cond-true (is_bracketed (91 ∷ (text ++ 93 ∷ []))) (memory (inside (91 ∷ (text ++ 93 ∷ [])))) (Err faults.Form)
-    (bracketed text) ∙ ap memory (inside_is text) ∙ read
+memory_back : (digits : List ℕ) (r : ℕ) (z : ℤ) → list_all is_ascii_digit digits ≡ true
+    → register_at (114 ∷ digits) ≡ Ok r → InBound (2 ^ 15) z
+    → memory ((114 ∷ digits) ++ distance_spelling z) ≡ Ok (value.Address r z)
+memory_back digits r z e reg lt =
+    let text = (114 ∷ digits) ++ distance_spelling z in
+    let behind = sign_behind digits z e in
+    let at : position_or_len is_sign text ≡ length (114 ∷ digits) = omega (arith, behind) in
+    let base : base_part text ≡ 114 ∷ digits = ap (λ n. take n text) at
+    ∙ take-append_seam (114 ∷ digits) (distance_spelling z) in
+    let offset : offset_part text ≡ distance_spelling z = ap (λ n. drop n text) at
+    ∙ drop-append_seam (114 ∷ digits) (distance_spelling z) in
+    ap (λ b. as_address (pair b (offset_at (2 ^ 15) (offset_part text)))) (ap register_at base ∙ reg)
+    ∙ ap (λ o. as_address (pair (Ok r) o)) (ap (offset_at (2 ^ 15)) offset ∙ offset_back (2 ^ 15) z (omega arith) lt)
 
 pub address_back : (r : ℕ) (z : ℤ) → r ≤ 10 → InBound (2 ^ 15) z → address_at (value_spelling (value.Address r z))
     ≡ Ok (value.Address r z)
-address_back r (pos n) le lt =
+address_back r z le lt =
     let d = decimal_digits r (omega arith) in
-    address_from ((114 ∷ decimal r) ++ 43 ∷ decimal n) (value.Address r (pos n)) (memory_back (decimal r) (decimal n) 43
-    r (pos n) d.digits refl (register_decimal r le) (offset_back (2 ^ 15) (pos n) (omega arith) lt))
-address_back r (negsuc n) le lt =
-    let d = decimal_digits r (omega arith) in
-    address_from ((114 ∷ decimal r) ++ 45 ∷ decimal (suc n)) (value.Address r (negsuc n))
-    (memory_back (decimal r) (decimal (suc n)) 45 r (negsuc n) d.digits refl (register_decimal r le)
-    (offset_back (2 ^ 15) (negsuc n) (omega arith) lt))
+    let text = (114 ∷ decimal r) ++ distance_spelling z in
+    cond-true (is_bracketed (91 ∷ (text ++ 93 ∷ []))) (memory (inside (91 ∷ (text ++ 93 ∷ [])))) (Err faults.Form)
+    (bracketed text) ∙ ap memory (inside_is text) ∙ memory_back (decimal r) r z d.digits (register_decimal r le) lt

@@ -33,23 +33,18 @@ kinds_of (mnemonic.StoreImm s) = kinds.Two kind.Address kind.Imm
 kinds_of (mnemonic.Store s) = kinds.Two kind.Address kind.Reg
 kinds_of (mnemonic.Atomic w o) = kinds.Two kind.Address kind.Reg
 kinds_of (mnemonic.LoadImm load.Number) = kinds.Two kind.Reg kind.Wide
-kinds_of (mnemonic.LoadImm load.MapFd) = kinds.Two kind.Reg kind.Imm
-kinds_of (mnemonic.LoadImm load.MapFdValue) = kinds.Three kind.Reg kind.Imm kind.Imm
-kinds_of (mnemonic.LoadImm load.Variable) = kinds.Two kind.Reg kind.Imm
 kinds_of (mnemonic.LoadImm load.Code) = kinds.Two kind.Reg kind.FarDistance
-kinds_of (mnemonic.LoadImm load.Map) = kinds.Two kind.Reg kind.Imm
+kinds_of (mnemonic.LoadImm load.MapFdValue) = kinds.Three kind.Reg kind.Imm kind.Imm
 kinds_of (mnemonic.LoadImm load.MapValue) = kinds.Three kind.Reg kind.Imm kind.Imm
-
--- the least of two faults
-abbrev pub least : TextFault → TextFault → TextFault
-least a b = if nat_le (text_fault_number a) (text_fault_number b) then a else b
+kinds_of (mnemonic.LoadImm k) = kinds.Two kind.Reg kind.Imm
 
 -- both, or the least fault
 abbrev pub pair : {A B : Type 0} → Result A TextFault → Result B TextFault → Result (A × B) TextFault
 pair (Ok a) (Ok b) = Ok (a, b)
 pair (Ok a) (Err fault) = Err fault
 pair (Err fault) (Ok b) = Err fault
-pair (Err fault) (Err other) = Err (least fault other)
+pair (Err fault) (Err other) =
+    Err (if nat_le (text_fault_number fault) (text_fault_number other) then fault else other)
 
 -- the memory at a register and an offset that were read
 abbrev pub as_address : Result (ℕ × ℤ) TextFault → Result Value TextFault

@@ -1,7 +1,7 @@
 -- What a line that isn't a label means: the instruction of its mnemonic and operands.
 use Rattle.std.specs.Prelude.{ℕ, ◌%◌, ◌/◌, ◌^◌, if◌then◌else◌, List, take, drop, Option, Some, None, pos, Result, Ok}
-use Rattle.std.specs.{Prelude.{Err}, Int.{w32, cast_signed}, List.{position_or_len}}
-use Rattle.bpf_insn_types.specs.declared.insn.{ImmKind.{ImmKind}, Width.{Width}, AtomicOp.{AtomicOp}, Insn.{Insn}}
+use Rattle.std.specs.{Prelude.{Err}, Int.{w32, cast_signed}, List.{position_or_len}, Option.{option_map, ok_or}}
+use Rattle.bpf_insn_types.specs.declared.insn.{ImmKind.{ImmKind}, Width.{Width}, Insn.{Insn}}
 use Rattle.bpf_insn_types.specs.declared.insn.ImmKind.TheVariants as load
 use Rattle.bpf_insn_types.specs.declared.insn.Operand.TheVariants as operand
 use Rattle.bpf_insn_types.specs.declared.insn.Insn.TheVariants as insn
@@ -58,34 +58,20 @@ first_word text = take (position_or_len is_blank text) text
 abbrev pub after_word : List ℕ → List ℕ
 after_word text = trim_start (drop (position_or_len is_blank text) text)
 
--- a mnemonic before a text of operands
-abbrev pub before_text : List ℕ → Option Mnemonic → Option (Mnemonic × List ℕ)
-before_text text None = None
-before_text text (Some m) = Some (m, text)
-
--- an atomic before a text of operands
-abbrev pub atomic_of : Width → List ℕ → Option AtomicOp → Option (Mnemonic × List ℕ)
-atomic_of w text None = None
-atomic_of w text (Some o) = Some (mnemonic.Atomic w o, text)
-
 -- an atomic where its first word gives a width, or another mnemonic
 abbrev pub by_width : Option Width → (word rest : List ℕ) → Option (Mnemonic × List ℕ)
-by_width (Some w) word rest = atomic_of w (after_word rest) (first_atomic (first_word rest) atomics)
-by_width None word rest = before_text rest (mnemonic_at word)
+by_width (Some w) word rest =
+    option_map (λ o. (mnemonic.Atomic w o, after_word rest)) (first_atomic (first_word rest) atomics)
+by_width None word rest = option_map (λ m. (m, rest)) (mnemonic_at word)
 
 -- the mnemonic of a line, and the text of its operands
 abbrev pub statement_at : List ℕ → Option (Mnemonic × List ℕ)
 statement_at line = by_width (atomic_width (first_word line)) (first_word line) (after_word line)
 
--- an instruction where there is one
-abbrev pub some_insn : Option Insn → Result Insn TextFault
-some_insn None = Err faults.Form
-some_insn (Some i) = Ok i
-
 -- the instruction of a mnemonic and what was read of its operands
 abbrev pub built : Mnemonic → Result Operands TextFault → Result Insn TextFault
 built m (Err fault) = Err fault
-built m (Ok values) = some_insn (insn_of_mnemonic m values)
+built m (Ok values) = ok_or (insn_of_mnemonic m values) faults.Form
 
 -- the instruction of a mnemonic and a text of operands
 abbrev pub with_operands : (List ℕ → Option ℕ) → ℕ → Option (Mnemonic × List ℕ) → Result Insn TextFault

@@ -7,7 +7,6 @@ mod labels;
 pub mod laws;
 mod numbers;
 mod operands;
-mod pairs;
 mod statement;
 mod stem;
 mod tables;

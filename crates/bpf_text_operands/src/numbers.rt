@@ -1,8 +1,8 @@
 //! Registers, numbers with a sign, and distances.
 
-ghost use Rattle.std.specs.{Prelude.{◌≡◌, ◌≤◌, ◌<◌, ◌-◌, ◌^◌, pos, neg_ℤ, IfOk, FitsSigned}, Int.{w16}};
+ghost use Rattle.std.specs.{Prelude.{◌≡◌, ◌≤◌, ◌<◌, ◌^◌, pos, neg_ℤ, IfOk, FitsSigned}, Int.{w16}};
 ghost use Rattle.bpf_text_lex.specs.Numbers.{number_in};
-ghost use Rattle.bpf_text_operands.specs.SignedNumbers.{is_register, register_at, ahead, back, signed_at, is_ahead};
+ghost use Rattle.bpf_text_operands.specs.SignedNumbers.{is_register, register_at, back, signed_at, is_ahead};
 ghost use Rattle.bpf_text_operands.specs.SignedNumbers.{is_offset, offset_at, distance_to};
 
 use bpf_insn_types::Reg;
@@ -28,15 +28,6 @@ pub(crate) fn register_at(word: &[u8]) -> Result<Reg, TextFault>
     }
 }
 
-/// A number without a minus sign, up to a limit.
-fn ahead(digits: &[u8], limit: u64) -> Result<i32, TextFault>
-    requires { limit < 2 ^ 31 }
-    ensures value { result ≡ ahead (number_in limit digits.now) }
-    ensures small { IfOk result (λ n. limit < 2 ^ 15 → FitsSigned w16 n) }
-{
-    Ok(read_number(digits, limit)? as i32)
-}
-
 /// The negative of a number.
 fn minus(number: u64) -> i32
     requires { number ≤ 2 ^ 31 }
@@ -54,14 +45,17 @@ fn back(digits: &[u8], limit: u64) -> Result<i32, TextFault>
     Ok(minus(read_number(digits, limit)?))
 }
 
-/// The number of a word, in a field of 32 bits.
-pub(crate) fn signed_at(word: &[u8]) -> Result<i32, TextFault>
-    ensures { result ≡ signed_at (2 ^ 31) word.now }
+/// The number of a word, in a field of -bound to bound - 1.
+pub(crate) fn signed_at(word: &[u8], bound: u64) -> Result<i32, TextFault>
+    requires low { 0 < bound }
+    requires high { bound ≤ 2 ^ 31 }
+    ensures value { result ≡ signed_at bound word.now }
+    ensures small { IfOk result (λ n. bound ≤ 2 ^ 15 → FitsSigned w16 n) }
 {
     if is_negative(word) {
-        return back(&word[1..], 1 << 31);
+        return back(&word[1..], bound);
     }
-    ahead(word, (1 << 31) - 1)
+    Ok(read_number(word, bound - 1)? as i32)
 }
 
 /// Whether a word is a plus sign and a number of any size.
@@ -86,10 +80,10 @@ pub(crate) fn offset_at(word: &[u8], bound: u64) -> Result<i32, TextFault>
     ensures small { IfOk result (λ n. bound ≤ 2 ^ 15 → FitsSigned w16 n) }
 {
     if is_negative(word) {
-        return back(&word[1..], bound);
+        return signed_at(word, bound);
     }
     if is_ahead(word) {
-        return ahead(&word[1..], bound - 1);
+        return Ok(read_number(&word[1..], bound - 1)? as i32);
     }
     Err(TextFault::Form)
 }

@@ -2,16 +2,15 @@
 
 ghost use Rattle.std.specs.Prelude.{◌≡◌, ◌<◌, ◌≤◌, ◌-◌, ◌^◌, Some, None, IfSome, IfNone, IfOk, FitsSigned, length};
 ghost use Rattle.std.specs.{Prelude.{position, ◌==◌}, Int.{w16}};
-ghost use Rattle.bpf_text_operands.specs.{LabelTable.{label_slots}, Operands.{both_fit, three_fit, all_fit}};
+ghost use Rattle.bpf_text_operands.specs.{LabelTable.{label_slots}, Operands.{both_fit, all_fit}};
 ghost use Rattle.bpf_text_operands.specs.SignedNumbers.{register_at, signed_at, offset_at, distance_at};
 ghost use Rattle.bpf_text_operands.specs.Operands.{pair};
 ghost use Rattle.bpf_text_operands.specs.Operands.{is_sign, is_bracketed, inside, base_part, offset_part, address_at};
-ghost use Rattle.bpf_text_operands.specs.Operands.{value_at, cut_comma, both_at, three_at, operands_at, fits};
+ghost use Rattle.bpf_text_operands.specs.Operands.{value_at, cut_comma, both_at, operands_at, fits};
 
 use crate::kind::{Kind, Kinds};
 use crate::labels::Labels;
 use crate::numbers::{distance_to, is_offset, is_register, offset_at, register_at, signed_at};
-use crate::pairs::pair;
 use bpf_text_lex::{Operands, TextFault, Value, is_name, is_number, read_number, trim};
 
 /// The bound of distances and offsets of 16 bits, which lie from its negative to below it.
@@ -19,6 +18,24 @@ const NEAR: u64 = 1 << 15;
 
 /// The bound of distances of 32 bits.
 const FAR: u64 = 1 << 31;
+
+/// Both, or the least fault.
+fn pair<A: Copy, B: Copy>(
+    a: Result<A, TextFault>,
+    b: Result<B, TextFault>,
+) -> Result<(A, B), TextFault>
+    ensures { result ≡ pair a b }
+{
+    match (a, b) {
+        (Ok(a), Ok(b)) => Ok((a, b)),
+        (Ok(_), Err(fault)) | (Err(fault), Ok(_)) => Err(fault),
+        (Err(fault), Err(other)) => Err(if fault.number() <= other.number() {
+            fault
+        } else {
+            other
+        }),
+    }
+}
 
 /// Whether a byte is a sign.
 fn is_sign(byte: u8) -> bool
@@ -97,7 +114,7 @@ fn value_at(kind: Kind, word: &[u8], labels: &Labels<'_>, slot: u32) -> Result<V
     match kind {
         Kind::Reg => Ok(Value::Reg(register_at(word)?)),
         Kind::RegOrImm if is_register(word) => Ok(Value::Reg(register_at(word)?)),
-        Kind::RegOrImm | Kind::Imm => Ok(Value::Imm(signed_at(word)?)),
+        Kind::RegOrImm | Kind::Imm => Ok(Value::Imm(signed_at(word, FAR)?)),
         Kind::Wide => Ok(Value::Wide(read_number(word, u64::MAX)?)),
         Kind::Distance => Ok(Value::Distance(near(distance_at(word, NEAR, labels, slot))?)),
         Kind::FarDistance => Ok(Value::FarDistance(distance_at(word, FAR, labels, slot)?)),
@@ -139,25 +156,6 @@ fn both_at(
     }
 }
 
-/// Three operands, with commas between them.
-fn three_at(
-    first: Kind,
-    others: (Kind, Kind),
-    text: &[u8],
-    labels: &Labels<'_>,
-    slot: u32,
-) -> Result<(Value, (Value, Value)), TextFault>
-    ensures { result ≡ three_at (label_slots labels.now) slot first others.0 others.1 (cut_comma text.now) }
-{
-    match cut_comma(text) {
-        Some((word, rest)) => pair(
-            value_at(first, trim(word), labels, slot),
-            both_at(others, rest, labels, slot),
-        ),
-        None => Err(TextFault::Form),
-    }
-}
-
 /// The operands of these kinds that a text is, parted by commas with blanks round them.
 pub(crate) fn operands_at(
     kinds: Kinds,
@@ -176,7 +174,13 @@ pub(crate) fn operands_at(
             Ok(Operands::Two(a, b))
         }
         Kinds::Three(first, second, third) => {
-            let (a, (b, c)) = three_at(first, (second, third), text, labels, slot)?;
+            let Some((word, others)) = cut_comma(text) else {
+                return Err(TextFault::Form);
+            };
+            let (a, (b, c)) = pair(
+                value_at(first, trim(word), labels, slot),
+                both_at((second, third), others, labels, slot),
+            )?;
             Ok(Operands::Three(a, b, c))
         }
     }
@@ -209,16 +213,6 @@ fn both_fit(kinds: (Kind, Kind), text: &[u8]) -> bool
     }
 }
 
-/// Whether three operands with commas between them have the forms of their kinds, and their registers exist.
-fn three_fit(first: Kind, others: (Kind, Kind), text: &[u8]) -> bool
-    ensures { result ≡ three_fit first others.0 others.1 (cut_comma text.now) }
-{
-    match cut_comma(text) {
-        Some((word, rest)) => fits(first, trim(word)) && both_fit(others, rest),
-        None => false,
-    }
-}
-
 /// Whether a text has the form of operands of these kinds, and its registers exist.
 pub(crate) fn all_fit(kinds: Kinds, text: &[u8]) -> bool
     ensures { result ≡ all_fit kinds text.now }
@@ -227,6 +221,9 @@ pub(crate) fn all_fit(kinds: Kinds, text: &[u8]) -> bool
         Kinds::Zero => text.is_empty(),
         Kinds::One(kind) => fits(kind, trim(text)),
         Kinds::Two(first, second) => both_fit((first, second), text),
-        Kinds::Three(first, second, third) => three_fit(first, (second, third), text),
+        Kinds::Three(first, second, third) => match cut_comma(text) {
+            Some((word, others)) => fits(first, trim(word)) && both_fit((second, third), others),
+            None => false,
+        },
     }
 }
