@@ -1,53 +1,10 @@
 -- Words that are put back, page after page.
-use Rattle.std.proofs.Common.{◌≡◌, ℕ, ◌+◌, ◌*◌, ◌-◌, ◌/◌, ◌<◌, ◌≤◌, true, false, List, length, get_or, drop, inl, inr}
-use Rattle.std.{proofs.Common.{refl, sym, ◌∙◌, ap, arith, length-drop}, specs.Prelude.{min, slice_range}}
-use Rattle.std.proofs.lemmas.{Bool.{cases_eq, cases_lt}, List.{get_or-take, get_or-drop, length-take}}
+use Rattle.std.proofs.Common.{◌≡◌, ℕ, ◌+◌, ◌/◌, ◌<◌, ◌≤◌, true, false, List, length, get_or, inl, inr, refl, sym, ◌∙◌, ap}
+use Rattle.std.proofs.{Common.{arith}, lemmas.{Bool.{cases_eq}, Grind.{same_number_lists}}}
 use Rattle.std.proofs.lemmas.List.FromFn.{get_or-map-range_with_len, length-map-range_with_len}
-use Rattle.std.proofs.lemmas.Grind.{same_number_lists}
-use Rattle.array_maps.specs.{Accesses.{Write, words_after_run}, MapList.{MapList}}
+use Rattle.array_maps.specs.MapList.{MapList}
 use Rattle.loop_core_undo.specs.{declared.undo_log.UndoLog.{UndoLog}, Undo.{log_elements, word_before, words_before}}
-use Rattle.loop_core_undo.{specs.Pages.{PageIsBack}, proofs.{RunLaws.{stored_run}, UndoLaws.{from_saved, from_now}}}
-
--- a part of a list
-pub part_length : (xs : List ℕ) (first end : ℕ) → end ≤ length xs → length (slice_range xs first end) ≡ end - first
-part_length xs first end room =
-    let taken = length-take (end - first) (drop first xs) in
-    let dropped = length-drop first xs in
-    omega (arith, taken, dropped, room)
-
-pub part_entry : (xs : List ℕ) (first end e : ℕ) → first ≤ e → e < end
-    → get_or (slice_range xs first end) (e - first) 0 ≡ get_or xs e 0
-part_entry xs first end e low high =
-    let place : first + (e - first) ≡ e = omega (arith, low) in
-    get_or-take (end - first) (drop first xs) (e - first) 0 (omega (arith, low, high))
-    ∙ get_or-drop first xs (e - first) 0 ∙ ap (λ (k : ℕ). get_or xs k 0) place
-
--- the words of a page that are stored
-pub page_back : (page end : ℕ) (before : List ℕ) (old new : MapList) → new ≡ record {
-  sizes = old.sizes;
-  words = words_after_run (page * 64) (λ k. Write (get_or (slice_range before (page * 64) end) k 0))
-      (length (slice_range before (page * 64) end)) old.words;
-} → length before ≡ length old.words → page * 64 < length before
-    → end ≡ min (page * 64 + 64) (length before) → PageIsBack page before old new
-page_back page end before old new stored count within is =
-    let values : List ℕ = slice_range before (page * 64) end in
-    let long : length values ≡ end - page * 64 = part_length before (page * 64) end (omega (arith, is)) in
-    let run = stored_run (page * 64) (length values) values old.words (omega (arith, long, is, count, within)) in
-    let words : new.words ≡ words_after_run (page * 64) (λ k. Write (get_or values k 0)) (length values) old.words =
-    ap (λ (maps : MapList). maps.words) stored in
-    record {
-      sizes = ap (λ (maps : MapList). maps.sizes) stored;
-      count = ap length words ∙ run.count;
-      here = λ e inside at.
-          ap (λ (ws : List ℕ). get_or ws e 0) words
-          ∙ run.inside e (omega (arith, at)) (omega (arith, at, inside, long, is, count, within))
-          ∙ part_entry before (page * 64) end e (omega (arith, at)) (omega (arith, at, inside, is, count));
-      others = λ e other.
-          ap (λ (ws : List ℕ). get_or ws e 0) words ∙ elim (cases_lt e (page * 64)) [
-            | inl low ↦ run.below e low
-            | inr high ↦ run.above e (omega (arith, high, other, long, is))
-          ];
-    }
+use Rattle.loop_core_undo.{specs.Pages.{PageIsBack}, proofs.UndoLaws.{from_saved, from_now}}
 
 -- the words of the pages below one are back where they were saved
 pub record AreBack (log : UndoLog) (start now : MapList) (page : ℕ) : Type 0 where

@@ -1,8 +1,7 @@
 -- Entries that follow each other.
-use Rattle.std.proofs.Common.{◌≡◌, ℕ, zero, suc, ◌+◌, ◌-◌, ◌<◌, ◌≤◌, Bool, false, ◌||◌, ◌↔◌, List, length, get_or, set}
-use Rattle.std.proofs.Common.{inl, inr, refl, sym, ◌∙◌, ap, subst, arith, length-set, get_or-set_same, get_or-set_other}
+use Rattle.std.proofs.Common.{◌≡◌, ℕ, ◌+◌, ◌<◌, ◌≤◌, Bool, false, ◌||◌, ◌↔◌, List, length, get_or, set, inl, inr, refl}
+use Rattle.std.proofs.Common.{sym, ◌∙◌, ap, subst, arith, length-set, get_or-set_same, get_or-set_other}
 use Rattle.std.proofs.lemmas.Bool.{cases_eq, or_parts, or_from}
-use Rattle.array_maps.specs.Accesses.{Write, words_after_run}
 use Rattle.loop_core_undo.specs.Runs.{RunIsSet}
 
 pub no_run_yet : {X : Type 0} (entries : List X) (d : X) (first : ℕ) (entry : ℕ → X)
@@ -36,23 +35,6 @@ pub all_entries : {X : Type 0} (old new : List X) (d : X) (first end all : ℕ) 
     → RunIsSet old new d first end entry → RunIsSet old new d first all entry
 all_entries old new d first end all entry same so_far =
     subst (λ (n : ℕ). RunIsSet old new d first n entry) same so_far
-
--- words that are stored one after another
-pub stored_run : (first count : ℕ) (values words : List ℕ) → first + count ≤ length words
-    → RunIsSet words (words_after_run first (λ k. Write (get_or values k 0)) count words) 0 first (first + count)
-    (λ e. get_or values (e - first) 0)
-stored_run first zero values words room =
-    all_entries words words 0 first first (first + 0) (λ e. get_or values (e - first) 0) (omega arith)
-    (no_run_yet words 0 first (λ e. get_or values (e - first) 0))
-stored_run first (suc count) values words room =
-    let so_far = stored_run first count values words (omega (arith, room)) in
-    let same : first + count + 1 ≡ first + suc count = omega arith in
-    let place : count ≡ first + count - first = omega arith in
-    let now : List ℕ = words_after_run first (λ k. Write (get_or values k 0)) count words in
-    all_entries words (set now (first + count) (get_or values count 0)) 0 first (first + count + 1)
-    (first + suc count) (λ e. get_or values (e - first) 0) same
-    (one_entry_more words now 0 first (first + count) (λ e. get_or values (e - first) 0) (get_or values count 0) so_far
-    (omega arith) (omega (arith, room, so_far.count)) (ap (λ (k : ℕ). get_or values k 0) place))
 
 -- whether any is set, one entry more
 pub any_more : (entries : List Bool) (first k : ℕ) (any here : Bool) → here ≡ get_or entries (first + k) false

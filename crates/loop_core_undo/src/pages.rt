@@ -1,7 +1,7 @@
 //! The pages of an undo log.
 
 ghost use Rattle.std.specs.Prelude.{◌≡◌, ℕ, ◌+◌, ◌*◌, ◌<◌, ◌≤◌, true, false, length, slice_index_or};
-ghost use Rattle.loop_core_undo.specs.{Undo.{log_elements, is_saved}, Pages.{KeepsBefore, PageIsBack, PageIsExchanged}};
+ghost use Rattle.loop_core_undo.specs.{Undo.{log_elements, is_saved}, Pages.{KeepsBefore, PageIsExchanged}};
 
 use crate::runs::{copy_words, exchange_words, set_flags};
 use crate::undo_log::UndoLog;
@@ -50,17 +50,6 @@ impl UndoLog {
         let end = (first + PAGE).min(self.elements());
         copy_words(&mut self.before, first as usize, end as usize, maps.words());
         self.saved[page as usize] = true;
-    }
-
-    /// Puts the saved words of a page, which is in range, back.
-    pub(crate) fn restore_page(&self, page: u32, maps: &mut Maps)
-        requires within { page * 64 < log_elements self.now }
-        requires count { length maps.old.words ≡ log_elements self.now }
-        ensures { PageIsBack page self.now.before.items maps.old maps.new }
-    {
-        let first = page * PAGE;
-        let end = (first + PAGE).min(self.elements());
-        maps.store_run(first, &self.before[first as usize..end as usize]);
     }
 
     /// Exchanges the saved words of a page, which is in range, and those that are there.

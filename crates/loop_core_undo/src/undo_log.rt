@@ -107,11 +107,7 @@ impl UndoLog {
         ensures maps { maps.new ≡ record { sizes = maps.old.sizes; words = words_before self.old maps.old.words } }
         ensures empty { IsEmpty (log_elements self.old) self.new }
     {
-        for page in 0..self.saved.len() as u32 {
-            if self.saved[page as usize] {
-                self.restore_page(page, maps);
-            }
-        }
+        self.exchange(maps);
         self.clear();
     }
 
