@@ -3,12 +3,12 @@
 ghost use Rattle.std.specs.Prelude.{◌≡◌, ◌*◌, ◌<◌, ◌≤◌, ℕ, List, length};
 ghost use Rattle.loop_core_model.specs.Marks.{Visit};
 ghost use Rattle.shadow_marks.specs.{Iteration.{element_count, IsEmptied}, Standing.{StandFor, no_visits}};
-ghost use Rattle.shadow_marks.specs.Standing.{words_for, EachPlane, ArePlanes, AreTested, AreLrpdPlanes, AreFlowPlanes};
+ghost use Rattle.shadow_marks.specs.Standing.{words_for, ArePlanes, AreTested, AreLrpdPlanes, AreFlowPlanes};
 ghost use Rattle.shadow_marks.specs.{Ending.{KeepsShape}, Clearing.{TestedClears, ClearsPage}};
-ghost use Rattle.shadow_marks.specs.Clearing.{ClearsBits, SetsNumbers, OperatorsClear, LrpdClears, FlowClears};
+ghost use Rattle.shadow_marks.specs.Clearing.{ClearsBits, SetsNumbers, LrpdClears, FlowClears};
 
 use crate::iter_flags::IterFlags;
-use crate::planes::{NO_WRITER, OperatorPlanes, Planes, Tested};
+use crate::planes::{NO_WRITER, Planes, Tested};
 use loop_core_model::PAGE;
 
 impl Planes {
@@ -33,21 +33,13 @@ impl Planes {
         ensures { ClearsPage self.old self.new page }
     {
         clear_bits(self.plain.as_mut_slice(), page);
-        self.operators.clear_page(page);
+        let operators = &mut self.operators;
+        clear_bits(operators.add.as_mut_slice(), page);
+        clear_bits(operators.or.as_mut_slice(), page);
+        clear_bits(operators.and.as_mut_slice(), page);
+        clear_bits(operators.xor.as_mut_slice(), page);
+        clear_bits(operators.addh.as_mut_slice(), page);
         self.tested.clear_page(self.elements as usize, page);
-    }
-}
-
-impl OperatorPlanes {
-    fn clear_page(&mut self, page: usize)
-        requires { EachPlane (λ words. page < length words) self.old }
-        ensures { OperatorsClear self.old self.new page }
-    {
-        clear_bits(self.add.as_mut_slice(), page);
-        clear_bits(self.or.as_mut_slice(), page);
-        clear_bits(self.and.as_mut_slice(), page);
-        clear_bits(self.xor.as_mut_slice(), page);
-        clear_bits(self.addh.as_mut_slice(), page);
     }
 }
 

@@ -1,9 +1,9 @@
 //! What the iteration under way did at one element.
 
-ghost use Rattle.std.specs.Prelude.{◌≡◌, false, ◌==◌, ◌^◌};
+ghost use Rattle.std.specs.Prelude.{◌≡◌, false, ◌^◌};
 ghost use Rattle.array_maps.specs.declared.access.Op.{Op as Operator};
 ghost use Rattle.loop_core_model.specs.Flags.{flagged};
-ghost use Rattle.shadow_marks.specs.Kept.{bit_place, has_flag, flags_in, nothing_kept, with_flag, with_read};
+ghost use Rattle.shadow_marks.specs.Kept.{bit_place, has_flag, flags_in, with_flag, with_read};
 
 use array_maps::Op;
 use loop_core_model::Access;
@@ -25,29 +25,13 @@ pub(crate) enum Flag {
 /// one at least.
 #[derive(Clone, Copy)]
 pub(crate) struct ElementFlags {
-    bits: u8,
+    pub(crate) bits: u8,
 }
 
 /// The bits of all operators.
 const OPERATORS: u8 = 0b1111_1000;
 
 impl ElementFlags {
-    /// No flag.
-    #[inline]
-    pub(crate) fn none() -> ElementFlags
-        ensures { result ≡ nothing_kept }
-    {
-        ElementFlags { bits: 0 }
-    }
-
-    /// Whether there is no flag: the element wasn't touched.
-    #[inline]
-    pub(crate) fn is_none(self) -> bool
-        ensures { result ≡ (self.bits == 0) }
-    {
-        self.bits == 0
-    }
-
     /// Whether a flag is set.
     #[inline]
     pub(crate) fn has(self, flag: Flag) -> bool

@@ -10,6 +10,9 @@ use std::alloc::{AllocError, Global};
 /// The greatest number of marks of one iteration.
 pub const MAX_MARKS: usize = 4096;
 
+/// The flags of an element that wasn't touched.
+const NO_FLAG: ElementFlags = ElementFlags { bits: 0 };
+
 /// What the iteration under way did at each element so far: a byte for each, and a list of those that
 /// it touched.
 #[derive(Drop)]
@@ -34,7 +37,7 @@ impl IterFlags {
         ensures emptied { IfOk result IsEmptied }
     {
         Ok(IterFlags {
-            cells: vec![in alloc; ElementFlags::none(); elements as usize]?,
+            cells: vec![in alloc; NO_FLAG; elements as usize]?,
             touched: Vec::with_capacity(alloc, MAX_MARKS)?,
         })
     }
@@ -51,7 +54,9 @@ impl IterFlags {
         ensures count { touched_count self.new ≤ touched_count self.old + 1 }
     {
         let before = self.cells[e as usize];
-        self.touch(e);
+        if before.bits == 0 {
+            self.touched.push_reserved(e);
+        }
         self.cells[e as usize] = before.after(access);
     }
 
@@ -65,20 +70,6 @@ impl IterFlags {
         kept.has(Flag::Plain) || kept.has(Flag::Wrote)
     }
 
-    /// Lists an element as touched, where its flags don't tell that it is.
-    #[inline]
-    fn touch(&mut self, e: u32)
-        requires in_range { e < element_count self.old }
-        requires room { touched_count self.old < MAX_MARKS }
-        ensures listed { has_element self.new.touched.items e ≡ true }
-        ensures cells { self.new.cells ≡ self.old.cells }
-        ensures count { touched_count self.new ≤ touched_count self.old + 1 }
-    {
-        if self.cells[e as usize].is_none() {
-            self.touched.push_reserved(e);
-        }
-    }
-
     /// Takes the flags of an element that was touched, and empties them there; none is left where
     /// there is no such element.
     #[inline]
@@ -90,7 +81,7 @@ impl IterFlags {
             return None;
         };
         let flags = self.cells[e as usize];
-        self.cells[e as usize] = ElementFlags::none();
+        self.cells[e as usize] = NO_FLAG;
         Some((e, flags))
     }
 }

@@ -1,9 +1,8 @@
 //! Planes: what is remembered, element by element, of the iterations that ended.
 
 ghost use Rattle.std.specs.Prelude.{◌≡◌, ◌<◌, ◌↔◌, IfOk, replicate, false, ℕ};
-ghost use Rattle.array_maps.specs.declared.access.Op.{Op as Operator};
 ghost use Rattle.loop_core_model.specs.Marks.{no_marks};
-ghost use Rattle.shadow_marks.specs.Standing.{words_for, plane_by, AreTested, ArePlanes, test_of, TestedStandAt};
+ghost use Rattle.shadow_marks.specs.Standing.{words_for, AreTested, ArePlanes, test_of, TestedStandAt};
 ghost use Rattle.shadow_marks.specs.Standing.{no_visits, StandFor, IsUnmarkedPage};
 
 use loop_core_model::Test;
@@ -76,7 +75,13 @@ impl Planes {
         Ok(Planes {
             elements,
             plain: bit_plane(alloc, elements)?,
-            operators: operator_planes(alloc, elements)?,
+            operators: OperatorPlanes {
+                add: bit_plane(alloc, elements)?,
+                or: bit_plane(alloc, elements)?,
+                and: bit_plane(alloc, elements)?,
+                xor: bit_plane(alloc, elements)?,
+                addh: bit_plane(alloc, elements)?,
+            },
             tested: tested_planes(alloc, elements, test)?,
         })
     }
@@ -115,19 +120,6 @@ fn bit_plane(alloc: Global, elements: u32) -> Result<Vec<u64>, AllocError>
     ensures { IfOk result (λ words. words.items ≡ replicate (words_for elements) 0) }
 {
     Ok(vec![in alloc; 0u64; (elements as usize + 63) / 64]?)
-}
-
-/// Planes of all operators, none of their bits set.
-fn operator_planes(alloc: Global, elements: u32) -> Result<OperatorPlanes, AllocError>
-    ensures { IfOk result (λ planes. (op : Operator) → plane_by planes op ≡ replicate (words_for elements) 0) }
-{
-    Ok(OperatorPlanes {
-        add: bit_plane(alloc, elements)?,
-        or: bit_plane(alloc, elements)?,
-        and: bit_plane(alloc, elements)?,
-        xor: bit_plane(alloc, elements)?,
-        addh: bit_plane(alloc, elements)?,
-    })
 }
 
 /// What a test needs where no iteration was ended.

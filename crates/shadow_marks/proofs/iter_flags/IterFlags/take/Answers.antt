@@ -34,10 +34,10 @@ pub invariant_of-self-2-clause-within : goal.invariant_of-self-2-clause-within
 invariant_of-self-2-clause-within c =
     let covers : Covers c.args.self.now.touched.items c.args.self.now.cells.items =
     record { within = c.args.self.now.within; covered = c.args.self.now.covered } in
-    (covers_emptied _ _ _ _ _ c.in-Some.ensures.items covers c.none.ensures).within
+    (covers_emptied _ _ _ _ _ c.in-Some.ensures.items covers refl).within
 
 pub invariant_of-self-2-clause-covered : goal.invariant_of-self-2-clause-covered
 invariant_of-self-2-clause-covered c =
     let covers : Covers c.args.self.now.touched.items c.args.self.now.cells.items =
     record { within = c.args.self.now.within; covered = c.args.self.now.covered } in
-    (covers_emptied _ _ _ _ _ c.in-Some.ensures.items covers c.none.ensures).covered
+    (covers_emptied _ _ _ _ _ c.in-Some.ensures.items covers refl).covered
