@@ -1,24 +1,16 @@
 //! Least breaks: of the indices at which blocks broke, the least that is known.
 
-ghost use Rattle.std.specs.Prelude.{◌≡◌, Some};
+ghost use Rattle.std.specs.Prelude.{◌≡◌};
 ghost use Rattle.loop_core_model.specs.{LeastBreak.{lesser as lesser_break}, Gather.{starts_late}};
 
 /// The lesser of two breaks, of which each may be there or not.
 pub fn lesser(index: Option<u32>, other: Option<u32>) -> Option<u32>
     ensures { result ≡ lesser_break index other }
 {
-    match index {
-        None => other,
-        Some(index) => Some(lesser_of(index, other)),
-    }
-}
-
-fn lesser_of(index: u32, other: Option<u32>) -> u32
-    ensures { Some result ≡ lesser_break (Some index) other }
-{
-    match other {
-        None => index,
-        Some(other) => index.min(other),
+    match (index, other) {
+        (None, other) => other,
+        (Some(index), None) => Some(index),
+        (Some(index), Some(other)) => Some(index.min(other)),
     }
 }
 
