@@ -7,7 +7,7 @@ use crate::kept::committed;
 use crate::merged::{is_reduction, reduced_in_page};
 use crate::order::PLACES;
 use crate::pages::{PAGE_WORDS, overwrite_in_turn, page_by_elements, page_of};
-use crate::sharing::{SHARED_PAGES, left_in_threads, left_in_turn, touched_numbers};
+use crate::sharing::{left_in_threads, left_in_turn, touched_numbers};
 use crate::storing::LeftPage;
 use arrayvec::ArrayVec;
 use loop_core_block::Block;
@@ -127,10 +127,6 @@ impl<'a> Gathered<'a> {
         ensures { IfOk result (λ pages. AreLeft self.now.start self.now.words pages.items) }
     {
         let numbers = touched_numbers(alloc, &self.touched)?;
-        if numbers.len() < SHARED_PAGES {
-            left_in_turn(alloc, self, &numbers)
-        } else {
-            left_in_threads(rt, alloc, self, &numbers)
-        }
+        left_in_threads(rt, alloc, self, &numbers)
     }
 }

@@ -12,9 +12,6 @@ use std::thread::Threads;
 /// How many pages a thread works out at least: to start it and wait for it takes as long as some hundred of them.
 const LEAST_SHARE: usize = 256;
 
-/// From how many pages on they are worth threads: two of them have their least share.
-pub(crate) const SHARED_PAGES: usize = 2 * LEAST_SHARE;
-
 /// The numbers of the pages that were touched, in order: of a word for each page, those whose word isn't 0.
 pub(crate) fn touched_numbers(alloc: Global, touched: &[u64]) -> Result<Vec<u32>, AllocError>
     requires { length touched.now ≤ 1024 }
@@ -54,7 +51,8 @@ pub(crate) fn left_in_turn(
     Ok(pages)
 }
 
-/// The pages of these numbers, as `left_in_turn` returns them, worked out by several threads: each page by one of them.
+/// The pages of these numbers, as `left_in_turn` returns them, worked out by several threads where two of them have
+/// their least share: each page by one of them.
 pub(crate) fn left_in_threads<R: Threads + Sync>(
     rt: &R,
     alloc: Global,

@@ -1,6 +1,6 @@
 //! Which blocks touched which pages.
 
-ghost use Rattle.std.specs.{Prelude.{◌≡◌, ◌^◌, ◌<◌, ◌≤◌, map, length, IfOk}, List.{All}};
+ghost use Rattle.std.specs.{Prelude.{◌≡◌, ◌<◌, ◌≤◌, map, length, IfOk}, List.{All}};
 ghost use Rattle.shadow_marks.specs.Standing.{words_for};
 ghost use Rattle.loop_core_block.specs.Shown.{shown};
 ghost use Rattle.loop_core_gather.specs.Touched.{MarksPage, MarksPages, AreMarked};
@@ -8,21 +8,13 @@ ghost use Rattle.loop_core_gather.specs.Touched.{MarksPage, MarksPages, AreMarke
 use loop_core_block::Block;
 use std::alloc::{AllocError, Global};
 
-/// A word with one bit, 0 to 63.
-fn mask(bit: u32) -> u64
-    requires { bit < 64 }
-    ensures { result ≡ 2 ^ bit }
-{
-    1 << bit
-}
-
 /// Marks a page by a bit, 0 to 63, where there is such a page.
 fn mark(touched: &mut [u64], page: u32, bit: u32)
     requires { bit < 64 }
     ensures { MarksPage touched.old touched.new page bit }
 {
     if (page as usize) < touched.len() {
-        touched[page as usize] |= mask(bit);
+        touched[page as usize] |= 1 << bit;
     }
 }
 
