@@ -10,7 +10,7 @@ use Rattle.bpf_verify_sound.specs.Soundness.{most_from}
 use Rattle.loop_core_block.proofs.MostLaws.{count_is}
 use Rattle.loop_core_model.specs.Split.{even_bounds}
 use Rattle.loop_core_split.specs.declared.{plan.Plan.{Plan}, strategy.BlocksReason.{BlocksReason}}
-use Rattle.spec_run_loop.specs.declared.strategy.{Executor.TheVariants.{Caller, Workers}}
+use Rattle.spec_run_loop.specs.declared.strategy.{BlockPlan.{BlockPlan}, Executor.TheVariants.{Caller, Workers}}
 use Rattle.spec_run_loop.specs.{Jobs.{JobOf}, Costs.{useful_blocks}, StrategyPlans.{profitable_blocks}}
 use Rattle.spec_run_loop.specs.Costs.{share, least_shares, cost_of_elements, shares_of, useful_workers, work_by_blocks}
 
@@ -65,14 +65,17 @@ keeps_some work elements cost plan shared busy few is enough up are =
     (rw (are, up, is) (few_shared plan.workers (shares_of work elements) plan.blocks few))
 
 -- the blocks that pay for one worker, and for several
-pub pays_alone : (job : JobOf) (elements workers : ℕ) (why : BlocksReason) (split : List ℕ) → workers ≡ 1
-    → split ≡ even_bounds job.call.n 1
-    → record { split = split; executor = Caller; why = why } ≡ profitable_blocks job elements workers why
-pays_alone job elements workers why split alone is =
+pub pays_alone : (job : JobOf) (elements workers : ℕ) (why : BlocksReason) (blocks : BlockPlan) → workers ≡ 1
+    → blocks ≡ record { split = even_bounds job.call.n 1; executor = Caller; why = why }
+    → blocks ≡ profitable_blocks job elements workers why
+pays_alone job elements workers why blocks alone is =
     let one : (workers == 1) ≡ true = grind (arith, nat_tests) in rw (is, one)
 
-pub pays_together : (job : JobOf) (elements workers : ℕ) (why : BlocksReason) (split : List ℕ) → workers ≢ 1
-    → split ≡ even_bounds job.call.n (useful_blocks (work_by_blocks job) elements job.plan.blocks workers)
-    → record { split = split; executor = Workers workers; why = why } ≡ profitable_blocks job elements workers why
-pays_together job elements workers why split several is =
+pub pays_together : (job : JobOf) (elements workers : ℕ) (why : BlocksReason) (blocks : BlockPlan) → workers ≢ 1
+    → blocks ≡ record {
+      split = even_bounds job.call.n (useful_blocks (work_by_blocks job) elements job.plan.blocks workers);
+      executor = Workers workers;
+      why = why;
+    } → blocks ≡ profitable_blocks job elements workers why
+pays_together job elements workers why blocks several is =
     let one : (workers == 1) ≡ false = grind (arith, nat_tests) in rw (is, one)

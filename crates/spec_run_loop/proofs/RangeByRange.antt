@@ -1,10 +1,10 @@
 -- Sums, combined range after range.
 use Rattle.std.proofs.Common.{◌≡◌, ℕ, ◌+◌, ◌<◌, List, length, Some, None, sym, ap, ◌∙◌, subst, arith}
 use Rattle.std.specs.{Prelude.{slice_index_or}, List.{sum}}
-use Rattle.array_maps.specs.MapList.{MapList, AreWords}
+use Rattle.array_maps.specs.{declared.access.Op.{Op}, MapList.{MapList, AreWords}}
 use Rattle.loop_core_sequential.{specs.Rests.{RanOn, RanTo}, proofs.InOrder.{stayed, ran_both, broke_before}}
 use Rattle.spec_run_loop.specs.{declared.partial_reduction.PartialReduction.{PartialReduction}, SumLoops.{SumLoopOf}}
-use Rattle.spec_run_loop.specs.Sums.{combined_words, IsSumFor, IsSumOf, AreSumsOf}
+use Rattle.spec_run_loop.{specs.Sums.{combined_words, IsSumFor, IsSumOf, AreSumsOf}, proofs.Combining.{after_run, run_is_combined}}
 
 module _ (l : SumLoopOf) (from to : ℕ) (sums : List PartialReduction) (are : AreSumsOf l from to sums) (old : MapList) where
   -- so many ranges were added up
@@ -23,13 +23,20 @@ module _ (l : SumLoopOf) (from to : ℕ) (sums : List PartialReduction) (are : A
   module _ (share : ℕ) (s : PartialReduction) (now new : MapList) (below : share < length sums)
       (here : s ≡ slice_index_or sums share s) (added : Added share now) (sizes : old.sizes ≡ l.program.sizes)
       (count : length now.words ≡ sum now.sizes) (fit : AreWords now.words)
-      (is : new ≡ record { sizes = now.sizes; words = combined_words l.op now.words s.maps.words }) where
+      (others : length s.maps.words ≡ sum s.maps.sizes) (op : Op) (by : op ≡ l.op) (operands : List ℕ)
+      (read : operands ≡ s.maps.words)
+      (is : new ≡ record { sizes = now.sizes; words = after_run op operands now.words (length operands) }) where
     one_ran : RanTo l.program l.call from (are.start (share + 1)) old new s.broke
     one_ran =
         let its : IsSumOf l (are.start share) (are.start (share + 1)) s =
         subst (IsSumOf l (are.start share) (are.start (share + 1))) (sym here) (are.each share s below) in
+        let sized = added.sizes ∙ sizes in
+        let long : length s.maps.words ≡ length now.words = others ∙ ap sum (its.fits ∙ sym sized) ∙ sym count in
+        let combines : new ≡ record { sizes = now.sizes; words = combined_words l.op now.words s.maps.words } = is
+        ∙ ap (λ (words : List ℕ). (let maps : MapList = record { sizes = now.sizes; words = words } in maps))
+        (rw (by, read) (run_is_combined l.op s.maps.words now.words long)) in
         ran_both l.program l.call from (are.start share) (are.start (share + 1)) old now new s.broke added
-        (rw is (its.adds now (record { count = count ∙ ap sum (added.sizes ∙ sizes); fit = fit })))
+        (rw combines (its.adds now (record { count = count ∙ ap sum sized; fit = fit })))
 
     pub one_added : s.broke ≡ None → Added (share + 1) new
     one_added none = subst (RanTo l.program l.call from (are.start (share + 1)) old new) none one_ran

@@ -8,7 +8,7 @@ use Rattle.loop_core_model.{specs.Actions.{reduces_by}, proofs.OneElement.{and_t
 use Rattle.bpf_step_model.specs.{AtomicRegisters.{told_register}, LoopCalls.{Validity, RefusedAs, Valid, call_validity}}
 use Rattle.bpf_step_model.specs.{Run.{action_of}}
 use Rattle.bpf_step_ir.specs.declared.ir_op.IrOp.{IrOp, TheVariants.{LoadElement, StoreElement, ChangeElement, Lookup}}
-use Rattle.bpf_step_ir.specs.declared.ir_op.IrOp.TheVariants.{CallLoop, Stop, Alu, Neg, Movsx, Endian, SetWide, Jump}
+use Rattle.bpf_step_ir.specs.declared.ir_op.IrOp.TheVariants.{CallLoop, Stop, SetWide, Jump}
 use Rattle.bpf_step_ir.specs.declared.ir_op.IrOp.TheVariants.{JumpIf, Exit, LoadFrame, StoreFrame, ChangeFrame}
 use Rattle.bpf_step_ir.specs.Plain.{Plain, word, plain_operand, further, landed}
 use Rattle.bpf_step_ir.specs.Plain.{PlainStepOutcome, Halts, Goes, Wants, CallsLoop, RefusesLoop, Ends}
@@ -72,10 +72,6 @@ module _ (op : Op) (from past : ℕ) where
       → stays_within from past p.slot at ≡ true → LeadsReducing (plain_step at p)
   unfolding plain_step
   op_leads Stop p low keeps stays = tt
-  op_leads (Alu width alu_op dst operand) p low keeps stays = behind p.slot 1 _ low refl stays
-  op_leads (Neg width dst) p low keeps stays = behind p.slot 1 _ low refl stays
-  op_leads (Movsx width bits dst src) p low keeps stays = behind p.slot 1 _ low refl stays
-  op_leads (Endian order bits dst) p low keeps stays = behind p.slot 1 _ low refl stays
   op_leads (SetWide dst number) p low keeps stays = behind p.slot 2 _ low refl stays
   op_leads (Jump target) p low keeps stays = at_target target _ refl stays
   op_leads (JumpIf width compare dst operand target) p low keeps stays =
@@ -103,3 +99,4 @@ module _ (op : Op) (from past : ℕ) where
   op_leads (Lookup first count frame position) p low keeps stays =
       if_goes (nat_le (position + 4) 512) _ (behind p.slot 1 _ low refl stays)
   op_leads (CallLoop callback ctx) p low keeps stays = calls p callback ctx (call_validity (word p 1) (word p 4))
+  op_leads at p low keeps stays = behind p.slot 1 _ low refl stays

@@ -1,26 +1,17 @@
 -- By which operators operations add up.
 use Rattle.std.proofs.Common.{◌≡◌, ℕ, true, List, refl, subst}
 use Rattle.array_maps.specs.declared.access.Op.{Op, TheVariants.{Add, Or, And, Xor, AddH}}
-use Rattle.bpf_insn_types.specs.declared.insn.{Width.{Width, TheVariants.{W32, W64}}, SimpleOp.{SimpleOp}}
-use Rattle.bpf_insn_types.specs.{declared.insn.AtomicOp.{AtomicOp, TheVariants.{Simple}}, Program.{Program}}
+use Rattle.bpf_insn_types.specs.declared.insn.{Width.TheVariants.{W64}, SimpleOp.{SimpleOp}}
+use Rattle.bpf_insn_types.specs.{declared.insn.AtomicOp.TheVariants.{Simple}, Program.{Program}}
 use Rattle.bpf_insn_types.specs.declared.insn.SimpleOp.TheVariants as simple
 use Rattle.bpf_step_model.specs.{State.{LoopCall}, Step.{map_operator}}
 use Rattle.bpf_step_ir.specs.{declared.ir_op.IrOp.{IrOp, TheVariants.{ChangeElement}}, PlainRun.{op_of}}
 use Rattle.bpf_step_ir.specs.Translation.{AreOps}
-use Rattle.spec_run_loop.specs.{SumOps.{AddUp, is_whole_by, keeps_to}, SumLoops.{AddsUp, function_end}}
+use Rattle.spec_run_loop.specs.{SumOps.{AddUp, keeps_to}, SumLoops.{AddsUp, function_end}}
 
 -- no whole element is added to by halves
-whole_half : (width : Width) (atomic : AtomicOp) → is_whole_by AddH width atomic ≡ true
-    → is_whole_by Add width atomic ≡ true
-whole_half W32 atomic e = e
-whole_half W64 (Simple simple.Add) e = refl
-whole_half W64 (Simple simple.Or) e = e
-whole_half W64 (Simple simple.And) e = e
-whole_half W64 (Simple simple.Xor) e = e
-whole_half W64 atomic e = e
-
 keeps_half : (at : IrOp) → keeps_to AddH at ≡ true → keeps_to Add at ≡ true
-keeps_half (ChangeElement width atomic base offset src) e = whole_half width atomic e
+keeps_half (ChangeElement W64 (Simple simple.Add) base offset src) e = refl
 keeps_half at e = e
 
 -- what adds up by an operator does so by one of instructions

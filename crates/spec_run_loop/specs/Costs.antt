@@ -1,7 +1,6 @@
 -- What pays: by how many workers a loop is run, and over how many blocks. Work and costs are counted in instructions of
 -- iterations that go together.
-use Rattle.std.specs.Prelude.{ℕ, ◌+◌, ◌*◌, ◌/◌, Bool, false, nat_lt, min, max, if◌then◌else◌}
-use Rattle.loop_core_model.specs.declared.loop_test.Test.{Test, TheVariants.{Flow, Lrpd}}
+use Rattle.std.specs.Prelude.{ℕ, ◌+◌, ◌*◌, ◌/◌, Bool, nat_lt, min, max, if◌then◌else◌}
 use Rattle.bpf_verify_sound.specs.Soundness.{most_from}
 use Rattle.loop_core_split.specs.declared.plan.Plan.{Plan}
 use Rattle.spec_run_loop.specs.Jobs.{JobOf}
@@ -62,10 +61,6 @@ abbrev pub sum_workers : JobOf → (elements : ℕ) → ℕ
 sum_workers job elements =
     max (min (job.call.n / visits / max elements 1) (useful_workers (work_in_order job) 0 job.plan)) 1
 
--- the workers of a loop that runs by blocks
-abbrev pub block_workers : JobOf → (elements : ℕ) → ℕ
-block_workers job elements = useful_workers (work_by_blocks job) elements job.plan
-
 -- the blocks of so much work for several workers: those that pay what their elements cost, and of as many elements as
 -- may be kept; one for each worker at least, and at most as many as the plan has
 abbrev pub useful_blocks : (work elements most workers : ℕ) → ℕ
@@ -75,11 +70,3 @@ useful_blocks work elements most workers =
 -- an iteration in order is cheaper than its share on the private copies of so many workers
 abbrev pub copies_cost_more : JobOf → (workers : ℕ) → Bool
 copies_cost_more job workers = nat_lt (instructions job * workers) (alone * (instructions job + bookkeeping))
-
--- whether a loop is run in order first, and watched: by the flow test alone, where copies are dear
-abbrev pub watches : Test → (dear : Bool) → Bool
-watches Lrpd dear = false
-watches Flow dear = dear
-
-abbrev pub pays_in_order : JobOf → (workers : ℕ) → Bool
-pays_in_order job workers = watches job.plan.test (copies_cost_more job workers)

@@ -3,9 +3,7 @@ pub mod SumLaw
 pub mod SumLoops
 pub mod Rounds
 pub mod Sums
-pub mod Plans
 pub mod Jobs
 pub mod Costs
 pub mod StrategyPlans
 pub mod Strategies
-pub mod Decisions

@@ -2,7 +2,7 @@
 use Rattle.std.specs.{Prelude.{◌≡◌, ℕ, ◌≤◌, ◌<◌, true, List}, List.{AllByRecursion}}
 use Rattle.array_maps.specs.{declared.access.Op.{Op}, Accesses.{Access}}
 use Rattle.loop_core_model.specs.Actions.{reduces_by}
-use Rattle.bpf_step_model.specs.Run.{BoundedResult, Ended, Stuck, Unfinished}
+use Rattle.bpf_step_model.specs.Run.{BoundedResult, Ended}
 use Rattle.bpf_step_ir.specs.{declared.ir_op.IrOp.{IrOp}, Plain.{Plain}, PlainRun.{PlainRunSegment, plain_run}}
 use Rattle.spec_run_loop.specs.SumOps.{AddUp}
 
@@ -13,8 +13,7 @@ AllReduce op accesses = AllByRecursion (λ (access : Access). reduces_by op acce
 -- a run that ended made such accesses alone
 abbrev pub EndsReducing : Op → BoundedResult PlainRunSegment → Type 0
 EndsReducing op (Ended s) = AllReduce op s.accesses
-EndsReducing op Stuck = Unit {0}
-EndsReducing op Unfinished = Unit {0}
+EndsReducing op _ = Unit {0}
 
 -- so does each run, at any bound and on any words, that begins at one of the slots of operations that add up
 abbrev pub SumsReduceAlone : Type 0

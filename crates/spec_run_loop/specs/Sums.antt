@@ -1,7 +1,7 @@
 -- What iterations add up to.
 use Rattle.std.specs.Prelude.{◌≡◌, ℕ, ◌+◌, ◌<◌, ◌≤◌, List, map, length, replicate, slice_index, slice_index_or}
 use Rattle.std.specs.List.{range_with_len, sum}
-use Rattle.array_maps.specs.{declared.access.Op.{Op, TheVariants.{Add, Or, And, Xor, AddH}}, Accesses.{combined}}
+use Rattle.array_maps.specs.{declared.access.Op.{Op, TheVariants.{And}}, Accesses.{combined}}
 use Rattle.array_maps.specs.MapList.{MapList}
 use Rattle.bpf_verify_sound.specs.Soundness.{AreMapWords}
 use Rattle.loop_core_sequential.specs.Rests.{RanTo}
@@ -9,11 +9,8 @@ use Rattle.spec_run_loop.specs.{declared.partial_reduction.PartialReduction.{Par
 
 -- the operand with which an operator leaves each word below 2 ^ 64 as it was
 unfoldable pub identity_of : Op → ℕ
-identity_of Add = 0
-identity_of Or = 0
 identity_of And = 18446744073709551615
-identity_of Xor = 0
-identity_of AddH = 0
+identity_of _ = 0
 
 -- maps of these sizes, all of whose words are such operands
 abbrev pub identity_maps : Op → List ℕ → MapList

@@ -1,23 +1,12 @@
 //! Sums, combined with the maps.
 
-ghost use Rattle.std.specs.Prelude.{◌≡◌, ℕ, length, All};
+ghost use Rattle.std.specs.Prelude.{◌≡◌, ℕ, All};
 ghost use Rattle.loop_core_sequential.specs.Rests.{RanTo};
-ghost use Rattle.spec_run_loop.specs.Sums.{AreSumsOf, IsSumFor, combined_words};
+ghost use Rattle.spec_run_loop.specs.Sums.{AreSumsOf, IsSumFor};
 
 use crate::partial_reduction::PartialReduction;
 use crate::reduction_loop::ReductionLoop;
-use array_maps::{Maps, Op};
-
-/// Combines the words of maps with those of others, element by element. There are as many of them.
-fn combine_with(maps: &mut Maps, op: Op, others: &Maps)
-    requires { length others.now.words ≡ length maps.old.words }
-    ensures { maps.new ≡ record {
-      sizes = maps.old.sizes;
-      words = combined_words op maps.old.words others.now.words;
-    } }
-{
-    maps.update_run(0, op, others.words());
-}
+use array_maps::Maps;
 
 impl<'l> ReductionLoop<'l> {
     /// Combines the maps with sums of ranges of iterations that follow one another, range after range, up to the first
@@ -34,7 +23,7 @@ impl<'l> ReductionLoop<'l> {
             let _words = maps.words();
             let _sizes = maps.sizes();
             let _others = sum.maps.sizes();
-            combine_with(maps, self.op, &sum.maps);
+            maps.update_run(0, self.op, sum.maps.words());
             if let Some(answer) = sum.broke {
                 return Some(answer);
             }

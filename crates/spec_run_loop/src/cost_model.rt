@@ -1,13 +1,12 @@
 //! What pays: by how many workers a loop is run, and over how many blocks.
 
-ghost use Rattle.std.specs.Prelude.{◌≡◌, ◌*◌, ◌/◌, ◌<◌, ◌≤◌, length, max, min};
+ghost use Rattle.std.specs.Prelude.{◌≡◌, ◌<◌, ◌≤◌, length};
 ghost use Rattle.loop_core_split.specs.Plans.{IsPlan};
 ghost use Rattle.spec_run_loop.specs.Costs.{instructions, work_in_order, work_by_blocks, cost_of_elements};
-ghost use Rattle.spec_run_loop.specs.Costs.{useful_workers, copies_cost_more, useful_blocks, visits};
+ghost use Rattle.spec_run_loop.specs.Costs.{useful_workers, copies_cost_more, sum_workers, useful_blocks};
 
 use crate::job::LoopJob;
 use array_maps::Maps;
-use bpf_step::LoopCall;
 use loop_core_block::most_instructions;
 use loop_core_model::MAX_WORKERS;
 use loop_core_split::Plan;
@@ -47,7 +46,7 @@ fn instructions(job: &LoopJob) -> u64
 /// How many instructions a loop that runs in order is to do at most, by its iterations and the most instructions of
 /// one.
 #[tactic(auto, using(crate::proofs::CostLaws::most_work))]
-pub(crate) fn work_in_order(job: &LoopJob) -> u64
+fn work_in_order(job: &LoopJob) -> u64
     ensures is { result ≡ work_in_order job.now }
     ensures few { result ≤ 17592186040320 }
 {
@@ -103,16 +102,15 @@ pub(crate) fn copies_cost_more(job: &LoopJob, workers: u32) -> bool
     instructions * u64::from(workers) < ALONE * (instructions + BOOKKEEPING)
 }
 
-/// How many of the workers that a loop of n iterations keeps busy, 1 to 16, are worth a share of it where it adds up
-/// over this many elements: each of them makes a word for each element, which is combined with the maps.
-pub(crate) fn useful_chunks(call: &LoopCall, elements: u32, busy: u32) -> u32
-    requires some { 0 < busy }
-    requires few { busy ≤ 16 }
-    ensures is { result ≡ max (min (call.now.n / visits / max elements 1) busy) 1 }
+/// How many workers a loop keeps busy that adds up over this many elements, 1 to 16: each of them makes a word for each
+/// element, which is combined with the maps, and has as many iterations as are worth it.
+pub(crate) fn sum_workers(job: &LoopJob, elements: u32) -> u32
+    ensures is { result ≡ sum_workers job.now elements }
     ensures some { 0 < result }
     ensures few { result ≤ 16 }
 {
-    (call.n() / VISITS / elements.max(1)).min(busy).max(1)
+    let busy = useful_workers(work_in_order(job), 0, job.plan);
+    (job.call.n() / VISITS / elements.max(1)).min(busy).max(1)
 }
 
 /// How many even blocks, of at most this many, a loop of so much work over this many elements is worth, that keeps so

@@ -3,11 +3,10 @@
 ghost use Rattle.std.specs.Prelude.{◌≡◌, ◌≢◌, ◌↔◌, Err, IsTrue, IfOk, OnErr};
 ghost use Rattle.bpf_verify_sound.specs.Soundness.{OverApproximatesCall};
 ghost use Rattle.loop_core_gather.specs.Gathered.{IsOutcome};
-ghost use Rattle.spec_run_loop.specs.{Strategies.{IsStrategyUsed, strategy_by}, Plans.{IsLoopPlan}};
-ghost use Rattle.spec_run_loop.specs.StrategyPlans.{all_blocks_of};
+ghost use Rattle.spec_run_loop.specs.{Strategies.{IsStrategyUsed, strategy_by}, StrategyPlans.{IsLoopPlan, all_blocks_of}};
 ghost use Rattle.loop_core_split.specs.declared.plan.Policy.TheVariants.{Blocks};
 
-use crate::by_blocks::{decided, run_by_blocks};
+use crate::by_blocks::{decided, decision_on};
 use crate::cost_model::elements_of;
 use crate::decision::LoopAnswer;
 use crate::error::RunError;
@@ -19,7 +18,7 @@ use array_maps::Maps;
 use bpf_step::LoopCall;
 use bpf_verify::Verified;
 use loop_core_block::SpeculativeLoop;
-use loop_core_gather::LoopOutcome;
+use loop_core_gather::{LoopOutcome, LoopResult};
 use loop_core_model::{MAX_WORKERS, Test};
 use loop_core_split::{Gate, Split};
 use spec_run_workers::Workspace;
@@ -48,7 +47,20 @@ pub fn run_by_plan<R: Threads + Sync, G: Gate>(
         StrategyPlan::Watched { otherwise } => run_watched(
             rt, job, &otherwise, maps, workspace, gate,
         ),
-        StrategyPlan::ByBlocks { blocks } => run_by_blocks(rt, job, &blocks, maps, workspace, gate),
+        StrategyPlan::ByBlocks { blocks } => {
+            let decision = decision_on(rt, job, &blocks, maps, workspace, gate)?;
+            let LoopResult { verdict, answer } = decision.apply(
+                job.program,
+                job.call,
+                maps,
+                job.plan.test,
+            );
+            Ok(LoopAnswer {
+                verdict,
+                answer,
+                strategy: blocks.strategy(),
+            })
+        }
     }
 }
 

@@ -11,11 +11,8 @@ fn identity_of(op: Op) -> u64
     ensures { result ≡ identity_of op }
 {
     match op {
-        Op::Add => 0,
-        Op::Or => 0,
         Op::And => u64::MAX,
-        Op::Xor => 0,
-        Op::AddH => 0,
+        Op::Add | Op::Or | Op::Xor | Op::AddH => 0,
     }
 }
 

@@ -24,7 +24,6 @@ mod error;
 mod function_end;
 mod identity;
 mod job;
-mod operators;
 mod partial_reduction;
 mod prediction;
 mod range_sums;
@@ -32,10 +31,11 @@ mod reducing;
 mod reduction_loop;
 mod round;
 mod strategy;
-mod sum_laws;
 mod summable;
 mod summing;
 mod watching;
+
+ghost use Rattle.spec_run_loop.specs.SumLaw.{SumsReduceAlone};
 
 pub use decision::LoopAnswer;
 pub use dispatch::{LoopRun, run_by_plan, run_loop};
@@ -49,4 +49,9 @@ pub use prediction::predict_strategy;
 pub use reduction_loop::ReductionLoop;
 pub use round::Round;
 pub use spec_run_workers::{Workspace, work};
-pub use sum_laws::law_of_sum_operations;
+
+/// The law of sums: whatever runs through operations that add up by an operator makes reduces by it alone, on
+/// whatever words. Nothing runs here: the contract is the law.
+pub fn law_of_sum_operations()
+    ensures { SumsReduceAlone }
+{}

@@ -25,28 +25,21 @@ impl<'l> ReductionLoop<'l> {
     {
         let mut sums = Vec::new(alloc);
         for _ in 0..count {
-            sums.push(self.try_new_sum(alloc)?)?;
+            let Ok(maps) = Maps::new(alloc, self.program.sizes()) else {
+                return Err(AllocError);
+            };
+            sums.push(PartialReduction { maps, broke: None })?;
         }
         Ok(sums)
     }
 
-    /// A sum, for any range of iterations.
-    fn try_new_sum(&self, alloc: Global) -> Result<PartialReduction, AllocError>
-        ensures { IfOk result (IsSumFor self.now) }
-    {
-        let Ok(maps) = Maps::new(alloc, self.program.sizes()) else {
-            return Err(AllocError);
-        };
-        Ok(PartialReduction { maps, broke: None })
-    }
-
-    /// Adds up the iterations from an index up to, and not with, another, or up to the first that returns 1, in place
-    /// of what was added up before.
-    pub fn run(&self, sum: &mut PartialReduction, from: u32, to: u32)
+    /// Adds up the iterations of a share of a round, or those of it up to the first that returns 1, in place of what
+    /// was added up before.
+    pub fn run_share(&self, sum: &mut PartialReduction, round: &Round, share: u32)
         requires fit { IsSumFor self.now sum.old }
-        requires in_order { from ≤ to }
-        requires within { to ≤ self.now.call.n }
-        ensures { IsSumOf self.now from to sum.new }
+        requires within { round.now.to ≤ self.now.call.n }
+        requires share { share < round.now.shares }
+        ensures { IsSumOf self.now (share_start round.now share) (share_start round.now (share + 1)) sum.new }
     {
         law_of_operators();
         law_of_accepted_runs();
@@ -55,16 +48,8 @@ impl<'l> ReductionLoop<'l> {
         let _unit = self.program.unit();
         clear(&mut sum.maps, self.op);
         let _words = sum.maps.words();
+        let from = round.start(share);
+        let to = round.start(share + 1);
         sum.broke = range_in_order(self.program, self.call, from, to, &mut sum.maps);
-    }
-
-    /// Adds up the iterations of a share of a round, as `run` does those of a range.
-    pub fn run_share(&self, sum: &mut PartialReduction, round: &Round, share: u32)
-        requires fit { IsSumFor self.now sum.old }
-        requires within { round.now.to ≤ self.now.call.n }
-        requires share { share < round.now.shares }
-        ensures { IsSumOf self.now (share_start round.now share) (share_start round.now (share + 1)) sum.new }
-    {
-        self.run(sum, round.start(share), round.start(share + 1));
     }
 }

@@ -53,8 +53,5 @@ fn is_sum(op: Op, at: &IrOp, slot: u32, from: u32, past: u32) -> bool
     requires low { slot < 4096 }
     ensures { IsTrue result ↔ IsSumOp op from past slot at.now }
 {
-    if !keeps_to(op, at) {
-        return false;
-    }
-    stays_within(at, slot, from, past)
+    keeps_to(op, at) && stays_within(at, slot, from, past)
 }

@@ -5,8 +5,8 @@ ghost use Rattle.bpf_verify_sound.specs.Soundness.{OverApproximatesCall};
 ghost use Rattle.spec_run_loop.specs.SumLoops.{AddsUp, AddsUpByNone, AlwaysPasses};
 
 use crate::function_end::function_end;
+use crate::law_of_sum_operations;
 use crate::reducing::sum_operator;
-use crate::sum_laws::law_of_sum_operations;
 use array_maps::Op;
 use bpf_step::{LoopCall, law_of_plain_iterations};
 use bpf_verify::Verified;

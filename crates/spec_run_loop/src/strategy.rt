@@ -1,19 +1,17 @@
 //! The choice of a strategy.
 
-ghost use Rattle.std.specs.Prelude.{◌≡◌, ◌<◌, ◌≤◌, None, true};
-ghost use Rattle.spec_run_loop.specs.{Costs.{pays_in_order}, Strategies.{strategy_by, workers_of}};
-ghost use Rattle.spec_run_loop.specs.StrategyPlans.{IsBlockPlan, IsByPlan, IsStrategyOf, IsCheapestStrategy, MayGo};
-ghost use Rattle.spec_run_loop.specs.StrategyPlans.{all_blocks_of, profitable_blocks, reason_by};
-ghost use Rattle.loop_core_model.specs.Split.{even_bounds, split_fault};
-ghost use Rattle.loop_core_model.specs.declared.loop_test.Test.TheVariants as tests;
+ghost use Rattle.std.specs.Prelude.{◌≡◌, ◌<◌, ◌≤◌};
+ghost use Rattle.spec_run_loop.specs.Strategies.{strategy_by};
+ghost use Rattle.spec_run_loop.specs.StrategyPlans.{IsBlockPlan, IsCrewFor, IsStrategyOf, IsCheapestStrategy, MayGo};
+ghost use Rattle.spec_run_loop.specs.StrategyPlans.{all_blocks_of, profitable_blocks};
+ghost use Rattle.loop_core_model.specs.Split.{even_bounds};
 ghost use Rattle.loop_core_split.specs.declared.plan.Policy.TheVariants as policies;
 
 use crate::cost_model::{
-    copies_cost_more, useful_blocks, useful_chunks, useful_workers, work_by_blocks, work_in_order,
+    copies_cost_more, sum_workers, useful_blocks, useful_workers, work_by_blocks,
 };
 use crate::job::LoopJob;
 use crate::reduction_loop::ReductionLoop;
-use bpf_step::LoopCall;
 use loop_core_model::Test;
 use loop_core_split::{BlocksReason, Policy, Split, Strategy};
 
@@ -24,18 +22,6 @@ pub(crate) enum Executor {
     Caller,
     /// This many workers, 1 to 16, each in a thread of its own where one can be started.
     Workers(u32),
-}
-
-impl Executor {
-    /// How many workers they are.
-    fn workers(self) -> u32
-        ensures { result ≡ workers_of self }
-    {
-        match self {
-            Executor::Caller => 1,
-            Executor::Workers(workers) => workers,
-        }
-    }
 }
 
 /// How a loop is run by blocks.
@@ -54,9 +40,13 @@ impl BlockPlan {
     pub(crate) fn strategy(&self) -> Strategy
         ensures { result ≡ strategy_by self.now }
     {
+        let workers = match self.executor {
+            Executor::Caller => 1,
+            Executor::Workers(workers) => workers,
+        };
         Strategy::Blocks {
             blocks: self.split.blocks(),
-            workers: self.executor.workers(),
+            workers,
             why: self.why,
         }
     }
@@ -74,29 +64,22 @@ pub(crate) enum StrategyPlan<'l> {
     ByBlocks { blocks: BlockPlan },
 }
 
-/// The even split of a loop call into this many blocks, 1 to 64.
+/// This many even blocks of a loop, 1 to 64, and who runs them: the calling thread only one.
 #[tactic(auto, using(crate::proofs::EvenLaws::even_is))]
-fn even_split(call: &LoopCall, blocks: u32) -> Split
+fn even_blocks(job: &LoopJob, blocks: u32, executor: Executor, why: BlocksReason) -> BlockPlan
     requires some { 0 < blocks }
     requires few { blocks ≤ 64 }
-    ensures even { result ≡ even_bounds call.now.n blocks }
-    ensures split { split_fault result call.now.n ≡ None }
-{
-    match Split::even(call.n(), blocks) {
-        Ok(split) => split,
-        Err(_) => unreachable!(),
-    }
-}
-
-/// All blocks of the plan, by all its workers.
-fn all_blocks(job: &LoopJob) -> BlockPlan
+    requires executor { IsCrewFor (even_bounds job.now.call.n blocks) executor }
+    ensures is { result ≡ record { split = even_bounds job.now.call.n blocks; executor = executor; why = why } }
     ensures plan { IsBlockPlan job.now.call.n result }
-    ensures all { result ≡ all_blocks_of job.now }
 {
-    BlockPlan {
-        split: even_split(job.call, job.plan.blocks),
-        executor: Executor::Workers(job.plan.workers),
-        why: BlocksReason::Asked,
+    match Split::even(job.call.n(), blocks) {
+        Ok(split) => BlockPlan {
+            split,
+            executor,
+            why,
+        },
+        Err(_) => unreachable!(),
     }
 }
 
@@ -108,44 +91,12 @@ fn profitable_blocks(job: &LoopJob, elements: u32, workers: u32, why: BlocksReas
     requires few { workers ≤ 16 }
     ensures is { result ≡ profitable_blocks job.now elements workers why }
     ensures plan { IsBlockPlan job.now.call.n result }
-    ensures why { result.why ≡ why }
 {
     if workers == 1 {
-        return BlockPlan {
-            split: even_split(job.call, 1),
-            executor: Executor::Caller,
-            why,
-        };
+        return even_blocks(job, 1, Executor::Caller, why);
     }
     let blocks = useful_blocks(work_by_blocks(job), elements, job.plan.blocks, workers);
-    BlockPlan {
-        split: even_split(job.call, blocks),
-        executor: Executor::Workers(workers),
-        why,
-    }
-}
-
-/// Whether a loop that keeps this many workers busy, 1 to 16, is run in order first, and watched: by the flow test
-/// alone, where several workers would save less than their private copies cost.
-fn pays_in_order(job: &LoopJob, workers: u32) -> bool
-    requires few { workers ≤ 16 }
-    ensures is { result ≡ pays_in_order job.now workers }
-    ensures flow { result ≡ true → job.now.plan.test ≡ tests.Flow }
-{
-    match job.plan.test {
-        Test::Lrpd => false,
-        Test::Flow => copies_cost_more(job, workers),
-    }
-}
-
-/// Why a loop that isn't watched goes by blocks, where the plan doesn't ask for them.
-fn reason_by(test: Test) -> BlocksReason
-    ensures { result ≡ reason_by test }
-{
-    match test {
-        Test::Lrpd => BlocksReason::Lrpd,
-        Test::Flow => BlocksReason::Work,
-    }
+    even_blocks(job, blocks, Executor::Workers(workers), why)
 }
 
 /// The way of a loop that pays, over this many elements.
@@ -154,19 +105,20 @@ fn cheapest_strategy<'l>(job: &LoopJob<'l>, elements: u32) -> StrategyPlan<'l>
     ensures way { IsCheapestStrategy job.now elements result }
 {
     if let Some(of) = ReductionLoop::of(job.program, job.call) {
-        let busy = useful_workers(work_in_order(job), 0, job.plan);
-        let workers = useful_chunks(job.call, elements, busy);
+        let workers = sum_workers(job, elements);
         return StrategyPlan::Sums { of, workers };
     }
     let workers = useful_workers(work_by_blocks(job), elements, job.plan);
-    if pays_in_order(job, workers) {
-        StrategyPlan::Watched {
+    match job.plan.test {
+        Test::Flow if copies_cost_more(job, workers) => StrategyPlan::Watched {
             otherwise: profitable_blocks(job, elements, workers, BlocksReason::ReadsWritten),
-        }
-    } else {
-        StrategyPlan::ByBlocks {
-            blocks: profitable_blocks(job, elements, workers, reason_by(job.plan.test)),
-        }
+        },
+        Test::Flow => StrategyPlan::ByBlocks {
+            blocks: profitable_blocks(job, elements, workers, BlocksReason::Work),
+        },
+        Test::Lrpd => StrategyPlan::ByBlocks {
+            blocks: profitable_blocks(job, elements, workers, BlocksReason::Lrpd),
+        },
     }
 }
 
@@ -174,12 +126,17 @@ fn cheapest_strategy<'l>(job: &LoopJob<'l>, elements: u32) -> StrategyPlan<'l>
 pub(crate) fn choose_strategy<'l>(job: &LoopJob<'l>, elements: u32) -> StrategyPlan<'l>
     ensures may { MayGo job.now result }
     ensures way { IsStrategyOf job.now elements result }
-    ensures asked { job.now.plan.policy ≡ policies.Blocks → IsByPlan job.now result }
+    ensures asked { job.now.plan.policy ≡ policies.Blocks → result ≡ StrategyPlan.ByBlocks (all_blocks_of job.now) }
 {
     match job.plan.policy {
         Policy::Pays => cheapest_strategy(job, elements),
         Policy::Blocks => StrategyPlan::ByBlocks {
-            blocks: all_blocks(job),
+            blocks: even_blocks(
+                job,
+                job.plan.blocks,
+                Executor::Workers(job.plan.workers),
+                BlocksReason::Asked,
+            ),
         },
     }
 }

@@ -105,7 +105,7 @@ fn in_rounds<R: Threads + Sync>(
 {
     let n = of.call.n();
     let mut from = alone.min(n);
-    if let Some(broke) = run_alone(of, from, maps) {
+    if let Some(broke) = range_in_order(of.program, of.call, 0, from, maps) {
         return broke;
     }
     while from < n {
@@ -116,16 +116,6 @@ fn in_rounds<R: Threads + Sync>(
         from = round.to;
     }
     n
-}
-
-/// Runs the iterations up to, and not with, an index in order on the maps, which are of the program's sizes, up to the
-/// first that breaks off. Gives the loop's answer where one did.
-fn run_alone(of: &ReductionLoop, to: u32, maps: &mut Maps) -> Option<u32>
-    requires within { to ≤ of.now.call.n }
-    requires sizes { maps.old.sizes ≡ of.now.program.sizes }
-    ensures { RanTo of.now.program of.now.call 0 to maps.old maps.new result }
-{
-    range_in_order(of.program, of.call, 0, to, maps)
 }
 
 /// The round after the first `done` of n iterations, by this many workers, 1 to 16: half as many iterations as precede it,

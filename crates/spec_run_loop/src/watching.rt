@@ -24,18 +24,15 @@ use spec_run_workers::Workspace;
 use std::alloc::AllocError;
 use std::thread::Threads;
 
-/// The fewest iterations of a loop of which it is asked whether they never conflict: to ask takes as long as some hundred
-/// of them.
-const FEWEST_ASKED: u32 = 2048;
-
-/// The fewest iterations of a loop that is inspected: room for marks takes as long to clear as blocks take for fewer.
-const FEWEST_INSPECTED: u32 = 2048;
+/// The fewest iterations of a loop that is examined: to ask whether they never conflict takes as long as some hundred of
+/// them, and room for the marks of inspected ones takes as long to clear as blocks take for fewer.
+const FEWEST_EXAMINED: u32 = 2048;
 
 /// Whether it is known that the iterations of a loop call never conflict, so that it passes by the flow test.
 pub(crate) fn never_conflicts(job: &LoopJob) -> Result<bool, AllocError>
     ensures { IfOk result (λ found. found ≡ true → AlwaysPasses job.now.program job.now.call) }
 {
-    if job.call.n() < FEWEST_ASKED {
+    if job.call.n() < FEWEST_EXAMINED {
         return Ok(false);
     }
     is_independent(job.alloc, job.program, job.call)
@@ -47,14 +44,32 @@ fn inspected(job: &LoopJob, maps: &Maps) -> Result<Option<Verdict>, AllocError>
     ensures { IfOk result (λ found. IfSome found (λ v. verdict tests.Flow job.now.program 4096 job.now.call
         maps.now.words ≡ Ended v)) }
 {
-    if job.call.n() < FEWEST_INSPECTED {
+    if job.call.n() < FEWEST_EXAMINED {
         return Ok(None);
     }
     inspect(job.alloc, job.program, job.call, maps)
 }
 
-/// Runs a loop call in order on these maps, which are of the program's sizes. It is watched, unless its iterations never
-/// conflict.
+/// Runs a loop call in order on these maps, which are of the program's sizes: its iterations never conflict, and it
+/// passes by the flow test.
+pub(crate) fn run_independent(job: &LoopJob, maps: &mut Maps) -> LoopAnswer
+    requires sizes { maps.old.sizes ≡ job.now.program.sizes }
+    requires passes { AlwaysPasses job.now.program job.now.call }
+    ensures outcome { IsOutcome tests.Flow job.now.program job.now.call maps.old result.verdict result.answer
+        maps.new }
+    ensures strategy { (otherwise : BlockPlan) → IsWatchedStrategy job.now maps.old.words otherwise result.strategy }
+{
+    // For the proof: the maps have as many words as their sizes add up to, each below 2^64.
+    let _sizes = maps.sizes();
+    let _words = maps.words();
+    let answer = in_order(job.program, job.call, maps);
+    LoopAnswer::passed(answer, Strategy::Watched)
+}
+
+/// Runs a loop call in order on these maps, which are of the program's sizes, and watches it, unless its iterations
+/// never conflict: where none reads what an earlier one wrote, it passes by the flow test, and is done. Else its verdict
+/// is that of its inspected iterations, or of blocks, on the maps as they were, and it continues in order from the
+/// iteration that did.
 pub(crate) fn run_watched<R: Threads + Sync, G: Gate>(
     rt: &R,
     job: &LoopJob,
@@ -74,44 +89,6 @@ pub(crate) fn run_watched<R: Threads + Sync, G: Gate>(
     if never_conflicts(job)? {
         return Ok(run_independent(job, maps));
     }
-    watch(rt, job, otherwise, maps, workspace, gate)
-}
-
-/// Runs a loop call in order on these maps, which are of the program's sizes: its iterations never conflict, and it
-/// passes by the flow test.
-pub(crate) fn run_independent(job: &LoopJob, maps: &mut Maps) -> LoopAnswer
-    requires sizes { maps.old.sizes ≡ job.now.program.sizes }
-    requires passes { AlwaysPasses job.now.program job.now.call }
-    ensures outcome { IsOutcome tests.Flow job.now.program job.now.call maps.old result.verdict result.answer
-        maps.new }
-    ensures strategy { (otherwise : BlockPlan) → IsWatchedStrategy job.now maps.old.words otherwise result.strategy }
-{
-    // For the proof: the maps have as many words as their sizes add up to, each below 2^64.
-    let _sizes = maps.sizes();
-    let _words = maps.words();
-    let answer = in_order(job.program, job.call, maps);
-    LoopAnswer::passed(answer, Strategy::Watched)
-}
-
-/// Runs a loop call in order on these maps, which are of the program's sizes, and watches it: where no iteration reads
-/// what an earlier one wrote, it passes by the flow test, and is done. Else its verdict is that of its inspected
-/// iterations, or of blocks, on the maps as they were, and it continues in order from the iteration that did.
-fn watch<R: Threads + Sync, G: Gate>(
-    rt: &R,
-    job: &LoopJob,
-    otherwise: &BlockPlan,
-    maps: &mut Maps,
-    workspace: &mut Workspace,
-    gate: &G,
-) -> Result<LoopAnswer, AllocError>
-    requires sizes { maps.old.sizes ≡ job.now.program.sizes }
-    requires flow { job.now.plan.test ≡ tests.Flow }
-    requires plan { IsBlockPlan job.now.call.n otherwise.now }
-    ensures outcome { IfOk result (λ a. IsOutcome job.now.plan.test job.now.program job.now.call maps.old a.verdict
-        a.answer maps.new) }
-    ensures strategy { IfOk result (λ a. IsWatchedStrategy job.now maps.old.words otherwise.now a.strategy) }
-    ensures kept { OnErr result (maps.new ≡ maps.old) }
-{
     // For the proof: the maps have as many words as their sizes add up to, each below 2^64.
     let _sizes = maps.sizes();
     let _words = maps.words();

@@ -1,5 +1,8 @@
-use Rattle.spec_run_loop.{specs.declared.decision.LoopAnswer.{LoopAnswer}, proofs.StrategyLaws.{course_so}}
-use Rattle.spec_run_loop.specs.declared.strategy.StrategyPlan.TheVariants.{Sums, Watched, ByBlocks}
+use Rattle.std.proofs.Common.{subst}
+use Rattle.loop_core_gather.specs.Gathered.{IsOutcome}
+use Rattle.spec_run_loop.specs.{declared.decision.LoopAnswer.{LoopAnswer}, Jobs.{JobOf}}
+use Rattle.spec_run_loop.proofs.StrategyLaws.{course_so}
+use Rattle.spec_run_loop.specs.declared.strategy.StrategyPlan.TheVariants.{Sums, Watched}
 use Rattle.spec_run_loop.proofs.SumLaws.{if_told}
 use Rattle.spec_run_loop.proofs.dispatch.run_by_plan.Goals as goal
 
@@ -21,8 +24,8 @@ returns-in-Watched-clause-strategy g c =
     (Watched c.in-Watched.otherwise) c.run_watched.result c.elements_of.ensures.count c.in-Watched.ensures.way
     c.run_watched.ensures.strategy
 
-pub returns-in-ByBlocks-clause-strategy : goal.returns-in-ByBlocks-clause-strategy
-returns-in-ByBlocks-clause-strategy g c =
-    course_so (λ (a : LoopAnswer). a.strategy) c.args.job.now c.elements_of.result c.args.maps.now.words
-    (ByBlocks c.in-ByBlocks.blocks) c.run_by_blocks.result c.elements_of.ensures.count c.in-ByBlocks.ensures.way
-    c.run_by_blocks.ensures.strategy
+pub returns-in_ok-decision-in-ByBlocks-clause-outcome : goal.returns-in_ok-decision-in-ByBlocks-clause-outcome
+returns-in_ok-decision-in-ByBlocks-clause-outcome g c =
+    subst (λ (job : JobOf). IsOutcome job.plan.test job.program job.call c.args.maps.now
+    c.apply-verdict.result.verdict c.apply-verdict.result.answer c.apply-verdict.new.maps) c.job.view_is
+    c.apply-verdict.ensures
