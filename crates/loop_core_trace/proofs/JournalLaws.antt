@@ -43,13 +43,23 @@ undoes_next journal maps before after note left undoes inside word sizes words =
     }
 
 -- the last note is undone
-pub one_undone : (journal rest : List Note) (note : Note) (words after start : List ℕ) → journal ≡ rest ++ note ∷ []
-    → after ≡ set words note.element note.word →
-    AllByRecursion (λ n. n.element < length words) journal → unwound journal words ≡ start
-    → AllByRecursion (λ n. n.element < length after) rest × (unwound rest after ≡ start)
-one_undone journal rest note words after start is put within undoes =
-    let long : length after ≡ length words = ap length put ∙ length-set words note.element note.word in (
-      rw long (all_but_last (λ (n : Note). n.element < length words) rest note (rw is at within)),
-      ap (unwound rest) put ∙ sym (unwound_last rest note words) ∙ ap (λ (ns : List Note). unwound ns words) (sym is)
-          ∙ undoes,
-    )
+pub one_undone : (journal rest : List Note) (note : Note) (maps after before : MapList) → journal ≡ rest ++ note ∷ []
+    → after ≡ record { sizes = maps.sizes; words = set maps.words note.element note.word } → Undoes journal maps before
+    → Undoes rest after before
+one_undone journal rest note maps after before is put undoes =
+    let words : after.words ≡ set maps.words note.element note.word = ap (λ (m : MapList). m.words) put in
+    let long : length after.words ≡ length maps.words =
+    ap length words ∙ length-set maps.words note.element note.word in
+    record {
+      within = rw long (all_but_last (λ (n : Note). n.element < length maps.words) rest note (rw is at undoes.within));
+      words = ap (unwound rest) words ∙ sym (unwound_last rest note maps.words)
+          ∙ ap (λ (ns : List Note). unwound ns maps.words) (sym is) ∙ undoes.words;
+      sizes = ap (λ (m : MapList). m.sizes) put ∙ undoes.sizes;
+    }
+
+-- all of them are
+pub all_undone : (journal : List Note) (maps before : MapList) → journal ≡ [] → Undoes journal maps before
+    → maps ≡ before
+all_undone journal maps before none undoes =
+    let words : maps.words ≡ before.words = rw none at undoes.words in
+    λ i. record { sizes = undoes.sizes i; words = words i }

@@ -9,7 +9,7 @@ use Rattle.bpf_step_model.specs.State.{LoopCall}
 use Rattle.loop_core_model.{specs.Actions.{reduces_by, only_operator}, proofs.OneElement.{same_op, only_reduces}}
 use Rattle.loop_core_trace.specs.{declared.slots.FirstReduce.{FirstReduce}, Places.{AccessesAt, OtherAccessAt}}
 use Rattle.loop_core_trace.specs.{Operators.{operator_of, reduces_alike, AreAlike}, Traced.{ReduceIs, OtherIs}}
-use Rattle.loop_core_trace.specs.Touches.{reduce_at, first_reduce_after, other_after}
+use Rattle.loop_core_trace.specs.Touches.{first_reduce_after, other_after}
 
 -- one action
 pub of_one : (a : Action) → only_operator (a ∷ []) ≡ operator_of a
@@ -43,7 +43,7 @@ module _ (program : Program) (call : LoopCall) (index : ℕ) (words : List ℕ) 
       access) (here : access.element ≡ element)
       (now : actions_at element (before ++ access ∷ []) ≡ actions_at element before ++ access.action ∷ []) where
     first_at : (reduces : Option Op) → operator_of access.action ≡ reduces → actions_at element before ≡ []
-        → ReduceIs program call index words element (reduce_at reduces slot)
+        → ReduceIs program call index words element (first_reduce_after None None reduces slot)
     first_at None is nothing = tt
     first_at (Some op) is nothing =
         record { before = before; access = access; made = made; here = here; reducing = is; alone = nothing }
@@ -52,8 +52,8 @@ module _ (program : Program) (call : LoopCall) (index : ℕ) (words : List ℕ) 
         → operator_of access.action ≡ reduces → ReduceIs program call index words element first
         → OtherIs program call index words element before first other →
         ReduceIs program call index words element (first_reduce_after first other reduces slot)
-    reduce_next first (Some at) reduces is was was_other = was
-    reduce_next (Some first) None reduces is was was_other = was
+    reduce_next (Some first) other reduces is was was_other = was
+    reduce_next None (Some at) reduces is was was_other = was
     reduce_next None None reduces is was was_other = first_at reduces is was_other
 
     -- one more by the same operator
@@ -92,7 +92,8 @@ module _ (program : Program) (call : LoopCall) (index : ℕ) (words : List ℕ) 
         → operator_of access.action ≡ reduces → OtherIs program call index words element before first other →
         OtherIs program call index words element (before ++ access ∷ []) (first_reduce_after first other reduces slot)
         (other_after first other reduces slot)
-    other_next first (Some at) reduces is was = was
+    other_next (Some first) (Some at) reduces is was = was
+    other_next None (Some at) reduces is was = was
     other_next first None reduces is was = go (reduces_alike first reduces) refl
       where
         go : (b : Bool) → reduces_alike first reduces ≡ b → OtherIs program call index words element (before

@@ -50,33 +50,25 @@ touched_by _ registers = None
 abbrev pub no_slots : Slots
 no_slots = record { write = None; read = None; reduce = None; other = None }
 
--- the first write stays; else this may be it
-abbrev pub first_write_after : Option ℕ → Touch → ℕ → Option ℕ
-first_write_after first touch slot = option_or first (then_some touch.writes slot)
-
 -- the exposed read is the first access of all, if it looks
 abbrev pub exposed_read_after : (write read : Option ℕ) → Touch → ℕ → Option ℕ
 exposed_read_after (Some first) read touch slot = read
 exposed_read_after None read touch slot = option_or read (then_some touch.looks slot)
 
--- a reduce at a slot, if there is one
-abbrev pub reduce_at : Option Op → ℕ → Option FirstReduce
-reduce_at None slot = None
-reduce_at (Some op) slot = Some (record { op = op; slot = slot })
-
 -- the first access of all, if it is a reduce
 abbrev pub first_reduce_after : Option FirstReduce → (other : Option ℕ) → Option Op → ℕ → Option FirstReduce
-first_reduce_after first (Some other) reduces slot = first
-first_reduce_after first None reduces slot = option_or first (reduce_at reduces slot)
+first_reduce_after None None (Some op) slot = Some (record { op = op; slot = slot })
+first_reduce_after first other reduces slot = first
 
 -- the first access that is no reduce by the operator of the first one stays; else this may be it
 abbrev pub other_after : Option FirstReduce → (other : Option ℕ) → Option Op → ℕ → Option ℕ
 other_after first other reduces slot = option_or other (then_some (not (reduces_alike first reduces)) slot)
 
+-- the slots after one access more of the element: the first write stays; else this may be it
 abbrev pub slots_after : Slots → Touch → ℕ → Slots
 slots_after slots touch slot =
     record {
-      write = first_write_after slots.write touch slot;
+      write = option_or slots.write (then_some touch.writes slot);
       read = exposed_read_after slots.write slots.read touch slot;
       reduce = first_reduce_after slots.reduce slots.other touch.reduces slot;
       other = other_after slots.reduce slots.other touch.reduces slot;

@@ -2,9 +2,9 @@
 
 ghost use Rattle.std.specs.Prelude.{◌≡◌, ◌<◌, List, [], OnOk, IfOk};
 ghost use Rattle.bpf_verify_sound.specs.Soundness.{OverApproximatesCall};
-ghost use Rattle.loop_core_trace.specs.{Traced.{IsTraceOf}, Journals.{unwound, Undoes}};
+ghost use Rattle.loop_core_trace.specs.{Traced.{IsTraceOf}, Journals.{Undoes}};
 
-use crate::journal::{Note, note_access, undo};
+use crate::journal::{Note, note_access};
 use crate::slots::Slots;
 use crate::touch::touch_of;
 use array_maps::{Maps, Store};
@@ -96,6 +96,8 @@ pub fn trace_iteration(
 {
     let mut journal = Vec::new(alloc);
     let trace = follow(program, call, maps, &mut journal, index, element)?;
-    undo(maps, journal);
+    while let Some(note) = journal.pop() {
+        maps.store(note.element, note.word);
+    }
     Ok(trace)
 }

@@ -1,11 +1,10 @@
 //! A journal of words, by which an iteration is undone.
 
-ghost use Rattle.std.specs.{Prelude.{◌≡◌, ◌<◌, ℕ, length, Some, OnOk, IfOk}, List.{AllByRecursion}};
-ghost use Rattle.loop_core_trace.specs.{Touches.{noted, slots_here}, Journals.{unwound}};
+ghost use Rattle.std.specs.Prelude.{◌≡◌, ◌<◌, length, Some, OnOk, IfOk};
+ghost use Rattle.loop_core_trace.specs.Touches.{noted, slots_here};
 
 use crate::slots::Slots;
 use crate::touch::Touch;
-use array_maps::{Maps, Store};
 use std::alloc::{AllocError, Global};
 
 /// The word that an element had before an access.
@@ -42,15 +41,4 @@ pub(crate) fn note_access(
         return Ok(slots.after(touch, slot));
     }
     Ok(slots)
-}
-
-/// Undoes the accesses that were noted, the last first.
-pub(crate) fn undo(maps: &mut Maps, mut journal: Vec<Note>)
-    requires within { AllByRecursion (λ note. note.element < length maps.old.words) journal.items }
-    ensures sizes { maps.new.sizes ≡ maps.old.sizes }
-    ensures words { maps.new.words ≡ unwound journal.items maps.old.words }
-{
-    while let Some(note) = journal.pop() {
-        maps.store(note.element, note.word);
-    }
 }

@@ -1,8 +1,7 @@
 //! The slots at which an iteration accesses one element.
 
 ghost use Rattle.std.specs.Prelude.{◌≡◌};
-ghost use Rattle.loop_core_trace.specs.{Operators.{reduces_alike}};
-ghost use Rattle.loop_core_trace.specs.Touches.{exposed_read_after, reduce_at, first_reduce_after};
+ghost use Rattle.loop_core_trace.specs.{Operators.{reduces_alike}, Touches.{first_reduce_after}};
 
 use crate::touch::Touch;
 use array_maps::Op;
@@ -52,30 +51,13 @@ impl Slots {
         let alike = reduces_alike(self.reduce, touch.reduces);
         Slots {
             write: self.write.or(touch.writes.then_some(slot)),
-            read: read_after(self, touch, slot),
+            read: match self.write {
+                Some(_) => self.read,
+                None => self.read.or(touch.looks.then_some(slot)),
+            },
             reduce: first_reduce_after(self, touch.reduces, slot),
             other: self.other.or((!alike).then_some(slot)),
         }
-    }
-}
-
-/// The slot of the exposed read after one access more.
-fn read_after(slots: Slots, touch: Touch, slot: u32) -> Option<u32>
-    ensures { result ≡ exposed_read_after slots.write slots.read touch slot }
-{
-    match slots.write {
-        Some(_) => slots.read,
-        None => slots.read.or(touch.looks.then_some(slot)),
-    }
-}
-
-/// A reduce at a slot, if there is one.
-fn reduce_at(reduces: Option<Op>, slot: u32) -> Option<FirstReduce>
-    ensures { result ≡ reduce_at reduces slot }
-{
-    match reduces {
-        Some(op) => Some(FirstReduce { op, slot }),
-        None => None,
     }
 }
 
@@ -83,9 +65,9 @@ fn reduce_at(reduces: Option<Op>, slot: u32) -> Option<FirstReduce>
 fn first_reduce_after(slots: Slots, reduces: Option<Op>, slot: u32) -> Option<FirstReduce>
     ensures { result ≡ first_reduce_after slots.reduce slots.other reduces slot }
 {
-    match slots.other {
-        Some(_) => slots.reduce,
-        None => slots.reduce.or(reduce_at(reduces, slot)),
+    match (slots.reduce, slots.other, reduces) {
+        (None, None, Some(op)) => Some(FirstReduce { op, slot }),
+        _ => slots.reduce,
     }
 }
 
@@ -93,11 +75,9 @@ fn first_reduce_after(slots: Slots, reduces: Option<Op>, slot: u32) -> Option<Fi
 fn reduces_alike(first: Option<FirstReduce>, reduces: Option<Op>) -> bool
     ensures { result ≡ reduces_alike first reduces }
 {
-    match reduces {
-        None => false,
-        Some(op) => match first {
-            None => true,
-            Some(reduce) => reduce.op == op,
-        },
+    match (first, reduces) {
+        (_, None) => false,
+        (None, Some(_)) => true,
+        (Some(reduce), Some(op)) => reduce.op == op,
     }
 }
