@@ -1,2 +1,1 @@
 pub mod StreamLaws
-pub mod PrintLaws

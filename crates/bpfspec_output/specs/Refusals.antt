@@ -3,7 +3,6 @@ use Rattle.std.specs.{Prelude.{ℕ, List, ◌++◌, codes}, Fmt.{decimal}}
 use Rattle.bpf_insn.specs.FaultNumbers.{codec_fault_number as codec_fault_number}
 use Rattle.bpf_text_lex.specs.FaultNumbers.{text_fault_number as text_fault_number}
 use Rattle.bpf_verify_model.specs.RuleNumbers.{rule_number}
-use Rattle.loop_core_model.specs.declared.{faults.SplitFault.{SplitFault}, replay_fault.ReplayFault.{ReplayFault}}
 use Rattle.loop_core_model.specs.declared.faults.SplitFault.TheVariants as splits
 use Rattle.loop_core_model.specs.declared.replay_fault.ReplayFault.TheVariants as schedules
 use Rattle.bpfspec_output.specs.declared.refusal.{Section.{Section}, Refusal.{Refusal}}
@@ -16,18 +15,6 @@ section_name sections.Unit = codes "unit"
 section_name sections.Maps = codes "maps"
 section_name sections.Events = codes "events"
 
--- the number of a split's fault
-abbrev pub split_fault_number : SplitFault → ℕ
-split_fault_number splits.Falling = 1
-split_fault_number splits.Number = 2
-split_fault_number splits.Ends = 3
-
--- the fault of a list of events: its number, and the event at which it is, or how many events there are
-abbrev pub schedule_fault_text : ReplayFault → List ℕ
-schedule_fault_text (schedules.NoSuchWorker event) = codes "E1 at event " ++ decimal event
-schedule_fault_text (schedules.NotEnabled event) = codes "E2 at event " ++ decimal event
-schedule_fault_text (schedules.NotEnded events) = codes "E3 at event " ++ decimal events
-
 -- a refusal without what all have in common
 abbrev pub what_is_refused : Refusal → List ℕ
 what_is_refused (refusals.Text fault section line) = codes "A" ++ decimal (text_fault_number fault) ++ codes " at "
@@ -38,8 +25,12 @@ what_is_refused (refusals.Rule rule slot) = codes "V" ++ decimal (rule_number ru
 what_is_refused refusals.Sizes = codes "P1"
 what_is_refused refusals.Plan = codes "P2"
 what_is_refused refusals.NoLoop = codes "no loop"
-what_is_refused (refusals.Split fault) = codes "S" ++ decimal (split_fault_number fault)
-what_is_refused (refusals.Schedule fault) = schedule_fault_text fault
+what_is_refused (refusals.Split splits.Falling) = codes "S1"
+what_is_refused (refusals.Split splits.Number) = codes "S2"
+what_is_refused (refusals.Split splits.Ends) = codes "S3"
+what_is_refused (refusals.Schedule (schedules.NoSuchWorker event)) = codes "E1 at event " ++ decimal event
+what_is_refused (refusals.Schedule (schedules.NotEnabled event)) = codes "E2 at event " ++ decimal event
+what_is_refused (refusals.Schedule (schedules.NotEnded events)) = codes "E3 at event " ++ decimal events
 
 -- the line of a refusal
 abbrev pub refusal_line : Refusal → List ℕ

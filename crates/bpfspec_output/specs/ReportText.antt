@@ -39,14 +39,10 @@ loop_line number line =
     ++ signed_decimal line.answer ++ codes ", "
     ++ verdict_text line.verdict ++ codes "\n"
 
--- the line of a return value
-abbrev pub return_line : ℕ → List ℕ
-return_line ret = codes "return " ++ decimal ret ++ codes "\n"
-
 -- the return value, the loop calls, and the maps of these sizes
 abbrev pub report_text : List ℕ → Reported → List ℕ
-report_text sizes report = return_line report.ret ++ numbered_lines loop_line 0 report.loops
-    ++ maps_spelling (values_of sizes report.words)
+report_text sizes report = codes "return " ++ decimal report.ret ++ codes "\n"
+    ++ numbered_lines loop_line 0 report.loops ++ maps_spelling (values_of sizes report.words)
 
 -- the line of a loop call, which has this number, and the maps of these sizes after it
 abbrev pub replay_text : List ℕ → ℕ → LoopReport → List ℕ → List ℕ

@@ -1,7 +1,7 @@
 //! What is printed of an accepted program.
 
-ghost use Rattle.std.specs.{Prelude.{◌≡◌, ◌++◌, IfOk, OnOk}, String.{string_bytes}};
-ghost use Rattle.bpfspec_output.specs.ReportText.{function_line, accepted_text, numbered_lines};
+ghost use Rattle.std.specs.{Prelude.{◌≡◌, IfOk}, String.{string_bytes}};
+ghost use Rattle.bpfspec_output.specs.ReportText.{accepted_text};
 
 use std::alloc::{AllocError, Global};
 
@@ -14,31 +14,14 @@ pub struct Function {
     pub count: u32,
 }
 
-/// Adds the line of a function, which has this number.
-fn print_function(out: &mut String, number: usize, function: &Function) -> Result<(), AllocError>
-    ensures { OnOk result (string_bytes out.new ≡ string_bytes out.old ++ function_line number function.now) }
-{
-    let start = function.start;
-    let count = function.count;
-    writeln!(out, "function {number} at {start} count {count}")
-}
-
-/// Adds the lines of all functions.
-fn print_functions(out: &mut String, functions: &[Function]) -> Result<(), AllocError>
-    ensures { OnOk result (string_bytes out.new
-        ≡ string_bytes out.old ++ numbered_lines function_line 0 functions.now) }
-{
-    for (number, function) in functions.iter().enumerate() {
-        print_function(out, number, function)?;
-    }
-    Ok(())
-}
-
 /// What is printed of an accepted program: that it is, and a line for each function, main first.
 pub fn print_accepted(alloc: Global, functions: &[Function]) -> Result<String, AllocError>
     ensures { IfOk result (λ text. string_bytes text ≡ accepted_text functions.now) }
 {
     let mut out = String::from_str(alloc, "accepted\n")?;
-    print_functions(&mut out, functions)?;
+    for (number, function) in functions.iter().enumerate() {
+        let Function { start, count } = *function;
+        writeln!(out, "function {number} at {start} count {count}")?;
+    }
     Ok(out)
 }

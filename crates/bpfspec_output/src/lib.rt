@@ -20,7 +20,7 @@ mod writing;
 pub use accepted::{Function, print_accepted};
 pub use counting::{Counted, read_outcome, write_outcome};
 pub use reading::{ReadAllError, read_all};
-pub use refusal::{MEMORY_LINE, Refusal, Section, print_refusal};
+pub use refusal::{MEMORY_LINE, Refusal, Section, print_refusal, section_name};
 pub use report::{print_replay, print_report};
 pub use streams::{DeviceFault, Sink, Source};
 pub use writing::write_all;

@@ -4,7 +4,7 @@ ghost use Rattle.std.specs.Prelude.{◌≡◌, ◌+◌, ◌-◌, ◌^◌, ◌<�
 ghost use Rattle.std.specs.{Prelude.{vec_len}, Io.KnownBytes.{Keeps, IsAtEnd, prepend_known}};
 ghost use Rattle.bpfspec_output.specs.Streams.{ConsumesAtMost, ReadsToEnd};
 
-use crate::streams::{DeviceFault, Source};
+use crate::streams::Source;
 use std::alloc::Global;
 use thiserror::Error;
 
@@ -46,13 +46,13 @@ fn read_piece<R: Source>(
 {
     let mut piece = [0; PIECE];
     let room = (limit - bytes.len()).min(PIECE);
-    match source.read(&mut piece[..room]) {
-        Ok(n) => match bytes.extend_from_slice(&piece[..n]) {
-            Ok(()) => Ok(n),
-            Err(_) => Err(ReadAllError::Memory),
-        },
-        Err(DeviceFault) => Err(ReadAllError::Device),
-    }
+    let n = source
+        .read(&mut piece[..room])
+        .map_err(|_| ReadAllError::Device)?;
+    bytes
+        .extend_from_slice(&piece[..n])
+        .map_err(|_| ReadAllError::Memory)?;
+    Ok(n)
 }
 
 /// Reads to the end of the input, at most `limit` bytes. The source's `failures` has to be below
@@ -77,10 +77,8 @@ pub fn read_all<R: Source>(
 {
     let mut bytes = Vec::new(alloc);
     'pieces: while bytes.len() < limit {
-        match read_piece(source, &mut bytes, limit) {
-            Ok(0) => return Ok(bytes),
-            Ok(_) => {}
-            Err(error) => return Err(error),
+        if read_piece(source, &mut bytes, limit)? == 0 {
+            return Ok(bytes);
         }
     }
     Ok(bytes)

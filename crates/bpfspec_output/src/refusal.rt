@@ -2,7 +2,7 @@
 
 ghost use Rattle.std.specs.{Prelude.{◌≡◌, ◌++◌, IfOk, OnOk}, String.{string_bytes}};
 ghost use Rattle.bpfspec_output.specs.{declared.refusal.Refusal.TheVariants.{Text, Codec}, Refusals.{refusal_line}};
-ghost use Rattle.bpfspec_output.specs.Refusals.{section_name, split_fault_number, schedule_fault_text, what_is_refused};
+ghost use Rattle.bpfspec_output.specs.Refusals.{section_name, what_is_refused};
 
 use bpf_insn::CodecFault;
 use bpf_text_lex::TextFault;
@@ -56,35 +56,13 @@ pub enum Refusal {
 }
 
 /// A section's name.
-fn section_name(section: Section) -> &'static str
+pub fn section_name(section: Section) -> &'static str
     ensures { result.now ≡ section_name section }
 {
     match section {
         Section::Unit => "unit",
         Section::Maps => "maps",
         Section::Events => "events",
-    }
-}
-
-/// The number of a split's fault.
-fn split_fault_number(fault: SplitFault) -> u8
-    ensures { result ≡ split_fault_number fault }
-{
-    match fault {
-        SplitFault::Falling => 1,
-        SplitFault::Number => 2,
-        SplitFault::Ends => 3,
-    }
-}
-
-/// Adds the fault of a list of events, and where it is.
-fn print_schedule_fault(out: &mut String, fault: ReplayFault) -> Result<(), AllocError>
-    ensures { OnOk result (string_bytes out.new ≡ string_bytes out.old ++ schedule_fault_text fault) }
-{
-    match fault {
-        ReplayFault::NoSuchWorker { event } => write!(out, "E1 at event {event}"),
-        ReplayFault::NotEnabled { event } => write!(out, "E2 at event {event}"),
-        ReplayFault::NotEnded { events } => write!(out, "E3 at event {events}"),
     }
 }
 
@@ -107,8 +85,15 @@ fn print_what(out: &mut String, refusal: Refusal) -> Result<(), AllocError>
         Refusal::Sizes => out.push_str("P1"),
         Refusal::Plan => out.push_str("P2"),
         Refusal::NoLoop => out.push_str("no loop"),
-        Refusal::Split(fault) => write!(out, "S{}", split_fault_number(fault)),
-        Refusal::Schedule(fault) => print_schedule_fault(out, fault),
+        Refusal::Split(SplitFault::Falling) => out.push_str("S1"),
+        Refusal::Split(SplitFault::Number) => out.push_str("S2"),
+        Refusal::Split(SplitFault::Ends) => out.push_str("S3"),
+        Refusal::Schedule(ReplayFault::NoSuchWorker { event }) => write!(
+            out,
+            "E1 at event {event}"
+        ),
+        Refusal::Schedule(ReplayFault::NotEnabled { event }) => write!(out, "E2 at event {event}"),
+        Refusal::Schedule(ReplayFault::NotEnded { events }) => write!(out, "E3 at event {events}"),
     }
 }
 

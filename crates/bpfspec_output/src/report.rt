@@ -2,9 +2,8 @@
 
 ghost use Rattle.std.specs.{Prelude.{◌≡◌, ◌++◌, IfOk, OnOk, length}, List.{sum}, String.{string_bytes}};
 ghost use Rattle.loop_core_model.specs.declared.verdict.Verdict.TheVariants.{Conflict};
-ghost use Rattle.bpf_text.specs.MapsText.{lists, maps_spelling};
-ghost use Rattle.bpfspec_output.specs.ReportText.{values_of, verdict_text, loop_line, return_line, report_text};
-ghost use Rattle.bpfspec_output.specs.ReportText.{replay_text, numbered_lines};
+ghost use Rattle.bpf_text.specs.MapsText.{maps_spelling};
+ghost use Rattle.bpfspec_output.specs.ReportText.{loop_line, replay_text, report_text, values_of, verdict_text};
 
 use array_maps::Maps;
 use bpf_text::print_maps;
@@ -34,33 +33,15 @@ fn print_loop(out: &mut String, number: usize, line: &LoopReport) -> Result<(), 
     out.push_str("\n")
 }
 
-/// Adds the lines of loop calls.
-fn print_loops(out: &mut String, loops: &[LoopReport]) -> Result<(), AllocError>
-    ensures { OnOk result (string_bytes out.new ≡ string_bytes out.old ++ numbered_lines loop_line 0 loops.now) }
-{
-    for (number, line) in loops.iter().enumerate() {
-        print_loop(out, number, line)?;
-    }
-    Ok(())
-}
-
-/// The values of each map.
-fn values_of(alloc: Global, maps: &Maps) -> Result<Vec<Vec<u64>>, AllocError>
-    ensures { IfOk result (λ values. lists values.items ≡ values_of maps.now.sizes maps.now.words) }
-{
-    let mut values = Vec::new(alloc);
-    for map in 0..maps.sizes().len() {
-        values.push(maps.values(map).to_vec(alloc)?)?;
-    }
-    Ok(values)
-}
-
 /// Adds the maps.
 fn print_values(alloc: Global, out: &mut String, maps: &Maps) -> Result<(), AllocError>
     ensures { OnOk result (string_bytes out.new ≡ string_bytes out.old
         ++ maps_spelling (values_of maps.now.sizes maps.now.words)) }
 {
-    let values = values_of(alloc, maps)?;
+    let mut values = Vec::new(alloc);
+    for map in 0..maps.sizes().len() {
+        values.push(maps.values(map).to_vec(alloc)?)?;
+    }
     out.push_str(&print_maps(alloc, &values)?)
 }
 
@@ -95,7 +76,9 @@ pub fn print_report(
 {
     let mut out = String::new(alloc);
     writeln!(out, "return {ret}")?;
-    print_loops(&mut out, loops)?;
+    for (number, line) in loops.iter().enumerate() {
+        print_loop(&mut out, number, line)?;
+    }
     print_values(alloc, &mut out, maps)?;
     Ok(out)
 }

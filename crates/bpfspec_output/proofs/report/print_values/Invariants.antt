@@ -2,7 +2,7 @@ use Rattle.std.proofs.Common.{◌≡◌, ◌++◌, drop}
 use Rattle.bpf_text.specs.MapsText.{lists}
 use Rattle.array_maps.specs.MapList.{base_of}
 use Rattle.bpfspec_output.specs.ReportText.{values_of}
-use Rattle.bpfspec_output.proofs.report.values_of.Given as goal
+use Rattle.bpfspec_output.proofs.report.print_values.Given as goal
 
 abbrev pub invariant-loop-map : goal.invariant-loop-map
 invariant-loop-map l =
