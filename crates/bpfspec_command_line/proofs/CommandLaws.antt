@@ -1,12 +1,12 @@
 -- What clap's builders make of a command, its getters read of an argument, and the subcommands ask for.
-use Rattle.std.proofs.Common.{◌≡◌, ℕ, Bool, ◌||◌, T, ◌==◌, true, false, Option, Some, refl, sym, subst, None, Result}
+use Rattle.std.proofs.Common.{◌≡◌, ◌≢◌, ℕ, Bool, ◌||◌, T, ◌==◌, false, Option, Some, refl, sym, subst, None, Result}
 use Rattle.std.{proofs.Common.{Ok, Err, List, [], ◌∷◌, length, codes, ap, ap₂, ◌∙◌}, specs.Prelude.{Box, option_map}}
-use Rattle.std.specs.{Box.{box_value}, List.{AllZip, fold}, Str.{bytes_eq, Parse.{ParsesUnsigned}}}
+use Rattle.std.specs.{Box.{box_value}, List.{AllZip, fold}, Borrow.{Bor}, Str.Parse.{ParsesUnsigned}}
 use Rattle.clap.specs.Words.{AddsArg, AddsInTurn, AddsSubcommand, App, ReadsOne, Row, Rule, Text, first_of, one_of}
-use Rattle.clap.specs.Words.{one_text, rows_of, subcommand_rows, with_rule, with_subcommand}
+use Rattle.clap.specs.Words.{first_value, one_text, rows_of, subcommand_rows, with_rule, with_subcommand}
 use Rattle.clap.specs.declared.{builder.{arg.Arg.{Arg}, command.Command.{Command}}, parser.matches.Found.{Found}}
 use Rattle.clap.specs.declared.parser.matches.{ArgMatches.TheViews.{out-SubCommand}, SubCommand.{SubCommand}}
-use Rattle.clap.proofs.WalkLemmas.{one_text-rows}
+use Rattle.clap.proofs.WalkLemmas.{first_value-rows, one_text-rows}
 use Rattle.loop_core_model.specs.declared.loop_test.Test.{Test, TheVariants.{Flow, Lrpd}}
 use Rattle.loop_core_split.specs.declared.plan.{Plan.{Plan}, Policy.{Policy, TheVariants.{Pays, Blocks}}}
 use Rattle.bpfspec_command_line.specs.CommandLine.{AsksForJob, AsksForStats, Finds, HasFlag, IsArg, IsAskOf, IsCommand}
@@ -60,34 +60,36 @@ pub no_test : (rows : List Row) (result : Option Test) → first_of (codes "test
     → Finds (IsTest rows) result
 no_test rows result absent is = finds_none (IsTest rows) result is (λ test named. absurd cc)
 
+-- the word that an option gives
+pub first_given : (found : Found) (name : Text) (given : Option (Bor Text))
+    → option_map (λ s. s.now) given ≡ first_value found name
+    → first_of name (rows_of found) ≡ option_map (λ s. s.now) given
+first_given found name given is = sym (first_value-rows found name) ∙ sym is
+
 -- a word that is neither names none
 same_word : (given : Option Text) (a b : Text) → given ≡ Some a → given ≡ Some b → a ≡ b
 same_word given a b is_a is_b = cc
 
-differs : (word other : Text) → word ≡ other → bytes_eq word other ≡ false → bytes_eq other other ≡ true → ⊥
-differs word other same unequal equal =
-    let clash = sym (ap (λ (w : Text). bytes_eq w other) same) ∙ unequal in
-    absurd cc
-
-pub other_test : (rows : List Row) (word : Text) → first_of (codes "test") rows ≡ Some word
-    → bytes_eq word (codes "flow") ≡ false → bytes_eq word (codes "lrpd") ≡ false → (test : Test) → ¬ (IsTest rows test)
+pub other_test : (rows : List Row) (word : Text) → first_of (codes "test") rows ≡ Some word → word ≢ codes "flow"
+    → word ≢ codes "lrpd" → (test : Test) → ¬ (IsTest rows test)
 other_test rows word is flow lrpd Flow named =
-    differs word (codes "flow") (same_word (first_of (codes "test") rows) word (codes "flow") is named) flow refl
+    flow (same_word (first_of (codes "test") rows) word (codes "flow") is named)
 other_test rows word is flow lrpd Lrpd named =
-    differs word (codes "lrpd") (same_word (first_of (codes "test") rows) word (codes "lrpd") is named) lrpd refl
+    lrpd (same_word (first_of (codes "test") rows) word (codes "lrpd") is named)
 
 -- an option that isn't there names no policy, and a word that is neither names none
 pub no_policy : (rows : List Row) (result : Option Policy) → first_of (codes "way") rows ≡ None → result ≡ None
     → Finds (IsPolicy rows) result
 no_policy rows result absent is = finds_none (IsPolicy rows) result is (λ policy named. absurd cc)
 
-pub other_policy : (rows : List Row) (word : Text) → first_of (codes "way") rows ≡ Some word
-    → bytes_eq word (codes "pays") ≡ false → bytes_eq word (codes "blocks") ≡ false → (policy : Policy)
-    → ¬ (IsPolicy rows policy)
+pub other_policy : (rows : List Row) (word : Text) → first_of (codes "way") rows ≡ Some word → word ≢ codes "pays"
+    → word ≢ codes "blocks" → (policy : Policy) → ¬ (IsPolicy rows policy)
 other_policy rows word is pays blocks Pays named =
-    differs word (codes "pays") (same_word (first_of (codes "way") rows) word (codes "pays") is named) pays refl
+    pays (same_word (first_of (codes "way") rows) word (codes "pays") is named)
 other_policy rows word is pays blocks Blocks named =
-    differs word (codes "blocks") (same_word (first_of (codes "way") rows) word (codes "blocks") is named) blocks refl
+    blocks (same_word (first_of (codes "way") rows) word (codes "blocks") is named)
+
+pub ruleset word_laws = (first_given, no_test, other_test, no_policy, other_policy)
 
 -- no number where an option gives none, and no plan where one of its numbers is missing
 pub no_number : (most : ℕ) (name : Text) (rows : List Row) → ((n : ℕ) → ¬ (IsNumber name rows n)) → (n : ℕ)
@@ -162,29 +164,77 @@ facts_for rows none (Serve Disasm) asks = same_initial 102 asks tt
 facts_for rows none (Run form arg plan) asks = same_initial 102 asks.0 tt
 facts_for rows none (Facts ask) asks = none ask asks.1
 
--- the same where words name that subcommand
-asks_for_none : (named : Option (Text × List Row)) (name : Text) (rows : List Row) → named ≡ Some (name, rows)
-    → ((job : Job) → ¬ (Names name rows job)) → (job : Job) → ¬ (AsksForJob named job)
-asks_for_none named name rows is =
-    subst (λ (used : Option (Text × List Row)). (job : Job) → ¬ (AsksForJob used job)) (sym is)
+-- another name asks for none
+other_for : (name : Text) (rows : List Row) → name ≢ codes "verify" → name ≢ codes "order" → name ≢ codes "run"
+    → name ≢ codes "replay" → name ≢ codes "facts" → name ≢ codes "asm" → name ≢ codes "disasm" → (job : Job)
+    → ¬ (Names name rows job)
+other_for name rows verify order run replay facts asm disasm (Serve (Verify form)) asks = verify asks.0
+other_for name rows verify order run replay facts asm disasm (Serve (Order form arg)) asks = order asks.0
+other_for name rows verify order run replay facts asm disasm (Serve (Replay form arg test)) asks = replay asks.0
+other_for name rows verify order run replay facts asm disasm (Serve Asm) asks = asm asks
+other_for name rows verify order run replay facts asm disasm (Serve Disasm) asks = disasm asks
+other_for name rows verify order run replay facts asm disasm (Run form arg plan) asks = run asks.0
+other_for name rows verify order run replay facts asm disasm (Facts ask) asks = facts asks.0
 
-pub no_order : (named : Option (Text × List Row)) (rows : List Row) → named ≡ Some (codes "order", rows)
-    → ((n : ℕ) → ¬ (IsNumber (codes "arg") rows n)) → (job : Job) → ¬ (AsksForJob named job)
-no_order named rows is none = asks_for_none named (codes "order") rows is (order_for rows none)
+-- what words ask for that name a subcommand
+pub asks_as_named : {Z : Type 0} (used : Option (Box SubCommand Z)) (name : Text) (rows : List Row) (job : Job)
+    → Some name ≡ option_map (λ b. (out-SubCommand (box_value b)).name.now) used
+    → Some rows ≡ option_map (λ p. p.1) (subcommand_rows used) → Names name rows job
+    → AsksForJob (subcommand_rows used) job
+asks_as_named used name rows job named given is =
+    subst (λ (n : Option (Text × List Row)). AsksForJob n job)
+    (sym (subcommand_named used name rows (sym named) (sym given))) is
 
-pub no_replay : (named : Option (Text × List Row)) (rows : List Row) → named ≡ Some (codes "replay", rows)
+asks_for_none : {Z : Type 0} (used : Option (Box SubCommand Z)) (name other : Text) (rows : List Row)
+    → Some name ≡ option_map (λ b. (out-SubCommand (box_value b)).name.now) used
+    → Some rows ≡ option_map (λ p. p.1) (subcommand_rows used) → name ≡ other
+    → ((job : Job) → ¬ (Names other rows job)) → (job : Job) → ¬ (AsksForJob (subcommand_rows used) job)
+asks_for_none used name other rows named given is =
+    subst (λ (n : Option (Text × List Row)). ((job : Job) → ¬ (Names other rows job))
+    → (job : Job) → ¬ (AsksForJob n job))
+    (sym (subcommand_named used name rows (sym named) (sym given)))
+    (subst (λ (o : Text). ((job : Job) → ¬ (Names o rows job)) → (job : Job) → ¬ (Names name rows job)) is (λ none. none))
+
+pub no_order : {Z : Type 0} (used : Option (Box SubCommand Z)) (name : Text) (rows : List Row)
+    → Some name ≡ option_map (λ b. (out-SubCommand (box_value b)).name.now) used
+    → Some rows ≡ option_map (λ p. p.1) (subcommand_rows used) → name ≡ codes "order"
+    → ((n : ℕ) → ¬ (IsNumber (codes "arg") rows n)) → (job : Job) → ¬ (AsksForJob (subcommand_rows used) job)
+no_order used name rows named given is none =
+    asks_for_none used name (codes "order") rows named given is (order_for rows none)
+
+pub no_replay : {Z : Type 0} (used : Option (Box SubCommand Z)) (name : Text) (rows : List Row)
+    → Some name ≡ option_map (λ b. (out-SubCommand (box_value b)).name.now) used
+    → Some rows ≡ option_map (λ p. p.1) (subcommand_rows used) → name ≡ codes "replay"
     → ((n : ℕ) (test : Test) → IsNumber (codes "arg") rows n → ¬ (IsTest rows test)) → (job : Job)
-    → ¬ (AsksForJob named job)
-no_replay named rows is none = asks_for_none named (codes "replay") rows is (replay_for rows none)
+    → ¬ (AsksForJob (subcommand_rows used) job)
+no_replay used name rows named given is none =
+    asks_for_none used name (codes "replay") rows named given is (replay_for rows none)
 
-pub no_run : (named : Option (Text × List Row)) (rows : List Row) → named ≡ Some (codes "run", rows)
+pub no_run : {Z : Type 0} (used : Option (Box SubCommand Z)) (name : Text) (rows : List Row)
+    → Some name ≡ option_map (λ b. (out-SubCommand (box_value b)).name.now) used
+    → Some rows ≡ option_map (λ p. p.1) (subcommand_rows used) → name ≡ codes "run"
     → ((n : ℕ) (plan : Plan) → IsNumber (codes "arg") rows n → ¬ (IsPlanOf rows plan)) → (job : Job)
-    → ¬ (AsksForJob named job)
-no_run named rows is none = asks_for_none named (codes "run") rows is (run_for rows none)
+    → ¬ (AsksForJob (subcommand_rows used) job)
+no_run used name rows named given is none =
+    asks_for_none used name (codes "run") rows named given is (run_for rows none)
 
-pub no_facts : (named : Option (Text × List Row)) (rows : List Row) → named ≡ Some (codes "facts", rows)
-    → ((ask : Ask) → ¬ (IsAskOf rows ask)) → (job : Job) → ¬ (AsksForJob named job)
-no_facts named rows is none = asks_for_none named (codes "facts") rows is (facts_for rows none)
+pub no_facts : {Z : Type 0} (used : Option (Box SubCommand Z)) (name : Text) (rows : List Row)
+    → Some name ≡ option_map (λ b. (out-SubCommand (box_value b)).name.now) used
+    → Some rows ≡ option_map (λ p. p.1) (subcommand_rows used) → name ≡ codes "facts"
+    → ((ask : Ask) → ¬ (IsAskOf rows ask)) → (job : Job) → ¬ (AsksForJob (subcommand_rows used) job)
+no_facts used name rows named given is none =
+    asks_for_none used name (codes "facts") rows named given is (facts_for rows none)
+
+pub no_other : {Z : Type 0} (used : Option (Box SubCommand Z)) (name : Text) (rows : List Row)
+    → Some name ≡ option_map (λ b. (out-SubCommand (box_value b)).name.now) used
+    → Some rows ≡ option_map (λ p. p.1) (subcommand_rows used) → name ≢ codes "verify" → name ≢ codes "order"
+    → name ≢ codes "run" → name ≢ codes "replay" → name ≢ codes "facts" → name ≢ codes "asm" → name ≢ codes "disasm"
+    → (job : Job) → ¬ (AsksForJob (subcommand_rows used) job)
+no_other used name rows named given verify order run replay facts asm disasm =
+    asks_for_none used name name rows named given refl
+    (other_for name rows verify order run replay facts asm disasm)
+
+pub ruleset job_laws = (asks_as_named, no_order, no_replay, no_run, no_facts, no_other)
 
 -- the stats of run, and of any other subcommand
 pub stats_of_run : (named : Option (Text × List Row)) (rows : List Row) (stats : Bool)

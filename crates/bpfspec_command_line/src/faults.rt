@@ -1,47 +1,47 @@
 //! Why a command line asks for no job, as it is printed.
 
-ghost use Rattle.std.specs.{Prelude.{◌≡◌, ◌≢◌, IfOk, OnOk, true, false}, IoError.{error_kind}};
-ghost use Rattle.std.specs.declared.io.ErrorKind.TheVariants as io_errors;
+ghost use Rattle.std.specs.Prelude.{◌≡◌, ◌≢◌, IfOk, OnOk, true, false};
 ghost use Rattle.clap.specs.Words.{kind_of};
 ghost use Rattle.bpfspec_command_line.specs.Faults.{Shows, is_help, is_usage};
 
 use crate::commands::{bpfspec_command, facts_command, order_command, replay_command, run_command};
 use crate::job::LineFault;
-use crate::values::{blocks_of, number_of, policy_of, workers_of};
+use crate::values::{number_of, number_within, policy_of};
 use clap::error::ErrorKind;
 use clap::{ArgMatches, Command};
 use std::alloc::{AllocError, Global};
 use std::convert::AsStr;
-use std::io;
 
 /// The fault of words that are wrong in a way that clap doesn't check, printed as clap's own are: with this text and
 /// the command's usage.
-fn own_fault(alloc: Global, mut command: Command<'_>, wrong: &str) -> Result<LineFault, AllocError>
+pub(crate) fn own_fault(
+    alloc: Global,
+    mut command: Command<'_>,
+    wrong: &str,
+) -> Result<LineFault, AllocError>
     ensures { IfOk result (λ fault. is_help fault ≡ false) }
 {
     let error = command.error(ErrorKind::ValueValidation, wrong)?;
     Ok(LineFault::Usage(error.to_string(alloc)?))
 }
 
-/// The first option whose value clap takes and the program doesn't: its name, its value's name, and what is wanted.
-fn wrong_option(matches: &ArgMatches<'_>) -> (&'static str, &'static str, &'static str) {
-    if number_of(matches, "arg").is_none() {
+/// The first option of a subcommand whose value clap takes and the program doesn't: its name, its value's name, and what
+/// is wanted.
+fn wrong_option(
+    subcommand: &str,
+    values: &ArgMatches<'_>,
+) -> (&'static str, &'static str, &'static str) {
+    let runs = subcommand == "run";
+    if runs && number_within(values, "workers", 16).is_none() {
+        ("workers", "N", "a number from 1 to 16")
+    } else if runs && number_within(values, "blocks", 64).is_none() {
+        ("blocks", "N", "a number from 1 to 64")
+    } else if runs && policy_of(values).is_none() {
+        ("way", "WAY", "pays or blocks")
+    } else if number_of(values, "arg").is_none() {
         ("arg", "N", "a number from 0 to 18446744073709551615")
     } else {
         ("test", "TEST", "flow or lrpd")
-    }
-}
-
-/// The same of the options of `run`.
-fn wrong_option_of_run(run: &ArgMatches<'_>) -> (&'static str, &'static str, &'static str) {
-    if workers_of(run).is_none() {
-        ("workers", "N", "a number from 1 to 16")
-    } else if blocks_of(run).is_none() {
-        ("blocks", "N", "a number from 1 to 64")
-    } else if policy_of(run).is_none() {
-        ("way", "WAY", "pays or blocks")
-    } else {
-        wrong_option(run)
     }
 }
 
@@ -50,16 +50,14 @@ pub(crate) fn value_fault(alloc: Global, matches: &ArgMatches<'_>) -> Result<Lin
     ensures { IfOk result (λ fault. is_help fault ≡ false) }
 {
     let (name, values) = matches.subcommand().unwrap_or(("order", matches));
-    let (command, (option, value, wanted)) = if name == "run" {
-        (run_command(alloc)?, wrong_option_of_run(values))
-    } else if name == "replay" {
-        (replay_command(alloc)?, wrong_option(values))
-    } else if name == "facts" {
-        (facts_command(alloc)?, wrong_option(values))
-    } else {
-        (order_command(alloc)?, wrong_option(values))
+    let command = match name {
+        "run" => run_command(alloc)?,
+        "replay" => replay_command(alloc)?,
+        "facts" => facts_command(alloc)?,
+        _ => order_command(alloc)?,
     };
     let command = command.bin_name(&format!(in alloc; "bpfspec {name}")?)?;
+    let (option, value, wanted) = wrong_option(name, values);
     let given = values.get_str(option).unwrap_or("");
     let wrong = format!(in alloc;
         "invalid value '{given}' for '--{option} <{value}>': not {wanted}"
@@ -98,17 +96,5 @@ pub(crate) fn line_fault<S: AsStr>(
             own_fault(alloc, bpfspec_command(alloc)?, EXPLAIN)
         }
         _ => Ok(LineFault::Usage(error.to_string(alloc)?)),
-    }
-}
-
-/// The fault of words that the system doesn't give. It fails where the system ran out of memory, or there is none for
-/// the text.
-pub(crate) fn words_fault(alloc: Global, error: &io::Error) -> Result<LineFault, AllocError>
-    ensures memory { OnOk result (error_kind error.now ≢ io_errors.OutOfMemory) }
-    ensures words { IfOk result (λ fault. is_help fault ≡ false) }
-{
-    match error.kind() {
-        io::ErrorKind::OutOfMemory => Err(AllocError),
-        _ => own_fault(alloc, bpfspec_command(alloc)?, "a word isn't UTF-8"),
     }
 }

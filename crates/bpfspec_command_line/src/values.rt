@@ -1,6 +1,5 @@
 //! The values that the arguments of a command give.
 
-ghost use Rattle.std.specs.Prelude.{◌≡◌, codes};
 ghost use Rattle.clap.specs.Words.{found_of, rows_of};
 ghost use Rattle.bpfspec_command_line.specs.CommandLine.{Finds, HasFlag, IsAskOf, IsForm, IsNumber, IsNumberWithin};
 ghost use Rattle.bpfspec_command_line.specs.CommandLine.{IsPlanOf, IsPolicy, IsTest};
@@ -29,30 +28,26 @@ pub(crate) fn unit_form(matches: &ArgMatches<'_>) -> UnitForm
 }
 
 /// The test that the arguments name by --test, or None where they name another.
+#[tactic(auto, using(crate::proofs::CommandLaws::word_laws))]
 pub(crate) fn loop_test(matches: &ArgMatches<'_>) -> Option<Test>
     ensures { Finds (IsTest (rows_of (found_of matches.now))) result }
 {
-    let word = matches.get_str("test")?;
-    if word == "flow" {
-        Some(Test::Flow)
-    } else if word == "lrpd" {
-        Some(Test::Lrpd)
-    } else {
-        None
+    match matches.get_str("test")? {
+        "flow" => Some(Test::Flow),
+        "lrpd" => Some(Test::Lrpd),
+        _ => None,
     }
 }
 
 /// How the arguments choose each loop's way, by --way, or None where they name another.
+#[tactic(auto, using(crate::proofs::CommandLaws::word_laws))]
 pub(crate) fn policy_of(matches: &ArgMatches<'_>) -> Option<Policy>
     ensures { Finds (IsPolicy (rows_of (found_of matches.now))) result }
 {
-    let word = matches.get_str("way")?;
-    if word == "pays" {
-        Some(Policy::Pays)
-    } else if word == "blocks" {
-        Some(Policy::Blocks)
-    } else {
-        None
+    match matches.get_str("way")? {
+        "pays" => Some(Policy::Pays),
+        "blocks" => Some(Policy::Blocks),
+        _ => None,
     }
 }
 
@@ -64,7 +59,7 @@ pub(crate) fn number_of(matches: &ArgMatches<'_>, name: &str) -> Option<u64>
 }
 
 /// The same, or None where it isn't 1 to `most`.
-fn number_within(matches: &ArgMatches<'_>, name: &str, most: u32) -> Option<u32>
+pub(crate) fn number_within(matches: &ArgMatches<'_>, name: &str, most: u32) -> Option<u32>
     ensures { Finds (IsNumberWithin most name.now (rows_of (found_of matches.now))) result }
 {
     let number = number_of(matches, name)?;
@@ -74,27 +69,13 @@ fn number_within(matches: &ArgMatches<'_>, name: &str, most: u32) -> Option<u32>
     Some(number as u32)
 }
 
-/// How many workers the arguments give, or None where it is no number from 1 to 16.
-pub(crate) fn workers_of(matches: &ArgMatches<'_>) -> Option<u32>
-    ensures { Finds (IsNumberWithin 16 (codes "workers") (rows_of (found_of matches.now))) result }
-{
-    number_within(matches, "workers", 16)
-}
-
-/// How many blocks the arguments give, or None where it is no number from 1 to 64.
-pub(crate) fn blocks_of(matches: &ArgMatches<'_>) -> Option<u32>
-    ensures { Finds (IsNumberWithin 64 (codes "blocks") (rows_of (found_of matches.now))) result }
-{
-    number_within(matches, "blocks", 64)
-}
-
 /// The plan that the arguments give, or None where it isn't within its limits, or they name another test or way.
 pub(crate) fn plan_of(matches: &ArgMatches<'_>) -> Option<Plan>
     ensures { Finds (IsPlanOf (rows_of (found_of matches.now))) result }
 {
     Some(Plan {
-        workers: workers_of(matches)?,
-        blocks: blocks_of(matches)?,
+        workers: number_within(matches, "workers", 16)?,
+        blocks: number_within(matches, "blocks", 64)?,
         test: loop_test(matches)?,
         policy: policy_of(matches)?,
     })

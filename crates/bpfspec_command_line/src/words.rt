@@ -3,64 +3,47 @@
 ghost use Rattle.std.specs.Prelude.{◌≡◌, ℕ, List, map, true, IfOk, IfErr};
 ghost use Rattle.clap.specs.Words.{subcommand_rows_of};
 ghost use Rattle.bpfspec_command_line.specs.CommandLine.{AsksForJob, AsksForStats, Finds, WordsAskFor, bpfspec_app};
-ghost use Rattle.bpfspec_command_line.specs.declared.job.Job.TheVariants.{Serve};
 ghost use Rattle.bpfspec_command_line.specs.Faults.{AreNoCommand, AsksForHelp, is_help, is_usage};
 
 use crate::commands::bpfspec_command;
-use crate::faults::{line_fault, value_fault, words_fault};
+use crate::faults::{line_fault, own_fault, value_fault};
 use crate::job::{Job, LineFault, Mode, Request};
 use crate::values::{ask_of, has_flag, loop_test, number_of, plan_of, unit_form};
 use clap::ArgMatches;
 use std::alloc::Global;
 use std::convert::AsStr;
-use std::env;
 use std::env::Env;
+use std::{env, io};
 
-/// The mode that the words ask for in which clap found these matches, or None where they name none of
-/// the program's subcommands, give an argument that is no number below 2^64, or name another test.
-fn mode_of(matches: &ArgMatches<'_>) -> Option<Mode>
-    ensures { Finds (λ mode. AsksForJob (subcommand_rows_of matches.now) (Serve mode)) result }
-{
-    if let Some(verify) = matches.subcommand_matches("verify") {
-        return Some(Mode::Verify {
-            form: unit_form(verify),
-        });
-    }
-    if let Some(order) = matches.subcommand_matches("order") {
-        return Some(Mode::Order {
-            form: unit_form(order),
-            arg: number_of(order, "arg")?,
-        });
-    }
-    if let Some(replay) = matches.subcommand_matches("replay") {
-        return Some(Mode::Replay {
-            form: unit_form(replay),
-            arg: number_of(replay, "arg")?,
-            test: loop_test(replay)?,
-        });
-    }
-    if matches.subcommand_matches("asm").is_some() {
-        return Some(Mode::Asm);
-    }
-    matches.subcommand_matches("disasm")?;
-    Some(Mode::Disasm)
-}
-
-/// The job that the words ask for in which clap found these matches, or None as `mode_of`, `plan_of` and `ask_of` say.
+/// The job that the words ask for in which clap found these matches, or None where they name none of the program's
+/// subcommands, or give it a value as `number_of`, `loop_test`, `plan_of` and `ask_of` take none.
+#[tactic(auto, using(crate::proofs::CommandLaws::job_laws))]
 fn job_of(matches: &ArgMatches<'_>) -> Option<Job>
     ensures { Finds (AsksForJob (subcommand_rows_of matches.now)) result }
 {
-    if let Some(run) = matches.subcommand_matches("run") {
-        return Some(Job::Run {
-            form: unit_form(run),
-            arg: number_of(run, "arg")?,
-            plan: plan_of(run)?,
-        });
+    let (name, values) = matches.subcommand()?;
+    let form = unit_form(values);
+    match name {
+        "verify" => Some(Job::Serve(Mode::Verify { form })),
+        "order" => Some(Job::Serve(Mode::Order {
+            form,
+            arg: number_of(values, "arg")?,
+        })),
+        "run" => Some(Job::Run {
+            form,
+            arg: number_of(values, "arg")?,
+            plan: plan_of(values)?,
+        }),
+        "replay" => Some(Job::Serve(Mode::Replay {
+            form,
+            arg: number_of(values, "arg")?,
+            test: loop_test(values)?,
+        })),
+        "facts" => Some(Job::Facts(ask_of(values)?)),
+        "asm" => Some(Job::Serve(Mode::Asm)),
+        "disasm" => Some(Job::Serve(Mode::Disasm)),
+        _ => None,
     }
-    if let Some(facts) = matches.subcommand_matches("facts") {
-        return Some(Job::Facts(ask_of(facts)?));
-    }
-    Some(Job::Serve(mode_of(matches)?))
 }
 
 /// Whether the words ask for stats in which clap found these matches: run by its flag --stats, and no other subcommand.
@@ -108,7 +91,10 @@ pub fn read_command_line<R: Env + AllocGlobal>(rt: &R) -> Result<Request, LineFa
     let alloc = rt.alloc();
     let arguments = match env::args(rt) {
         Ok(arguments) => arguments,
-        Err(error) => return Err(words_fault(alloc, &error)?),
+        Err(error) if matches!(error.kind(), io::ErrorKind::OutOfMemory) => {
+            return Err(LineFault::Memory);
+        }
+        Err(_) => return Err(own_fault(alloc, bpfspec_command(alloc)?, "a word isn't UTF-8")?),
     };
     let words: Vec<String> = arguments.collect(alloc)?;
     read_words(alloc, &words)
