@@ -1,15 +1,16 @@
 -- What refusals mean from one step of loading to the next.
-use Rattle.std.proofs.Common.{◌≡◌, ℕ, Bool, true, false, if◌then◌else◌, List, Ok, Err, refl, ap, ◌∙◌}
+use Rattle.std.proofs.Common.{◌≡◌, ℕ, Bool, true, false, if◌then◌else◌, List, Ok, Err, refl, ap}
 use Rattle.std.specs.{Prelude.{Result, IsUtf8}, Str.{is_utf8}}
 use Rattle.std.proofs.lemmas.Str.{is_utf8-from_IsUtf8, IsUtf8-from_is_utf8}
-use Rattle.bpf_insn_types.specs.{Program.{Program}, Outcome.{RefusalMatches}}
+use Rattle.bpf_insn_types.specs.{declared.insn.Insn.{Insn}, Outcome.{RefusalMatches}}
+use Rattle.bpf_insn.specs.{declared.codec_error.CodecError.{CodecError}, CodecRefusal.{codec_refusal}}
+use Rattle.bpf_insn.specs.declared.codec_error.CodecError.TheVariants as codec
 use Rattle.bpf_text_lex.specs.{declared.text_error.TextError.{TextError}, Refusals.{text_refusal}}
 use Rattle.bpf_text_lex.specs.declared.text_error.TextFault.TheVariants as text_faults
 use Rattle.bpf_text_lex.specs.declared.text_error.TextError.TheVariants as text
-use Rattle.bpf_text.specs.HexText.{SizesAndBytes}
 use Rattle.bpfspec_machine.specs.declared.load_error.LoadError.{LoadError, TheVariants.{Text, Codec, Rule, Memory}}
-use Rattle.bpfspec_machine.specs.Loading.{load_refusal, text_load_error, as_loaded, readable, program_of_text}
-use Rattle.bpfspec_machine.specs.Loading.{parts_of_text, program_of_parts, loaded}
+use Rattle.bpfspec_machine.specs.Loading.{and_then, load_refusal, text_load_error, as_loaded, readable}
+use Rattle.bpfspec_machine.specs.Loading.{codec_load_error, with_sizes}
 
 -- bytes that are UTF-8 are a text
 pub reads : (bytes : List ℕ) → IsUtf8 bytes → readable bytes ≡ Ok bytes
@@ -34,36 +35,20 @@ pub text_fails : {X : Type 0} (error : TextError) (meaning : Result X TextError)
 text_fails (text.Refused fault line) meaning is = ap as_loaded is
 text_fails text.Memory meaning is = tt
 
--- where a step passes errors on, an error stays what is meant
-passes : {X Y : Type 0} (step : Result X LoadError → Result Y LoadError)
-    → ((error : LoadError) → step (Err error) ≡ Err error)
-    → (error : LoadError) (meaning : Result X LoadError) → RefusalMatches (load_refusal error) meaning
-    → RefusalMatches (load_refusal error) (step meaning)
-passes step same (Text fault line) meaning is = ap step is ∙ same (Text fault line)
-passes step same (Codec fault slot) meaning is = ap step is ∙ same (Codec fault slot)
-passes step same (Rule rule slot) meaning is = ap step is ∙ same (Rule rule slot)
-passes step same Memory meaning is = tt
+-- the error of a program's bytes is what they mean
+pub codec_fails : (sizes : List ℕ) (error : CodecError) (meaning : Result (List Insn) CodecError)
+    → RefusalMatches (codec_refusal error) meaning
+    → RefusalMatches (load_refusal (codec_load_error error)) (with_sizes sizes meaning)
+codec_fails sizes (codec.Refused fault slot) meaning is = ap (with_sizes sizes) is
+codec_fails sizes codec.Memory meaning is = tt
 
-pub passes_text : (error : LoadError) (meaning : Result (List ℕ) LoadError)
-    → RefusalMatches (load_refusal error) meaning
-    → RefusalMatches (load_refusal error) (program_of_text meaning)
-unfolding program_of_text
-passes_text error meaning is = passes program_of_text (λ e. refl) error meaning is
+-- an error of what gives a value is an error of what the value gives
+pub passes : {X Y : Type 0} (gives : X → Result Y LoadError) (error : LoadError) (meaning : Result X LoadError)
+    → RefusalMatches (load_refusal error) meaning → RefusalMatches (load_refusal error) (and_then gives meaning)
+unfolding and_then
+passes gives (Text fault line) meaning is = ap (and_then gives) is
+passes gives (Codec fault slot) meaning is = ap (and_then gives) is
+passes gives (Rule rule slot) meaning is = ap (and_then gives) is
+passes gives Memory meaning is = tt
 
-pub passes_parts_text : (error : LoadError) (meaning : Result (List ℕ) LoadError)
-    → RefusalMatches (load_refusal error) meaning
-    → RefusalMatches (load_refusal error) (parts_of_text meaning)
-unfolding parts_of_text
-passes_parts_text error meaning is = passes parts_of_text (λ e. refl) error meaning is
-
-pub passes_parts : (error : LoadError) (meaning : Result SizesAndBytes LoadError)
-    → RefusalMatches (load_refusal error) meaning
-    → RefusalMatches (load_refusal error) (program_of_parts meaning)
-unfolding program_of_parts
-passes_parts error meaning is = passes program_of_parts (λ e. refl) error meaning is
-
-pub passes_program : (error : LoadError) (meaning : Result Program LoadError)
-    → RefusalMatches (load_refusal error) meaning
-    → RefusalMatches (load_refusal error) (loaded meaning)
-unfolding loaded
-passes_program error meaning is = passes loaded (λ e. refl) error meaning is
+pub ruleset load_laws = (text_fails, codec_fails, passes)

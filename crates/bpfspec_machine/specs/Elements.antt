@@ -18,21 +18,19 @@ abbrev pub element_of : MapList → (map index : ℕ) → Option ℕ
 element_of maps map index =
     if has_element maps.sizes map index then Some (slice_index maps.words (base_of maps.sizes map + index)) else None
 
--- a machine with another value there
-abbrev pub with_element : MachineState → (map index value : ℕ) → MachineState
-with_element machine map index value = record {
+-- a machine with these words in its maps
+abbrev pub with_words : MachineState → List ℕ → MachineState
+with_words machine words = record {
   program = machine.program;
-  maps = record {
-    sizes = machine.maps.sizes;
-    words = slice_set machine.maps.words (base_of machine.maps.sizes map + index) value;
-  };
+  maps = record { sizes = machine.maps.sizes; words = words };
   loops = machine.loops;
 }
 
--- a machine with another value there, where there is the element
+-- a machine with another value of an element, where there is the element
 abbrev pub with_element_if : Bool → MachineState → (map index value : ℕ) → MachineState
 with_element_if there machine map index value =
-    if there then with_element machine map index value else machine
+    if there then with_words machine (slice_set machine.maps.words (base_of machine.maps.sizes map + index) value)
+    else machine
 
 -- a map is of this size, where there is the map
 abbrev pub is_size : Option ℕ → (count : ℕ) → Bool
@@ -48,18 +46,10 @@ abbrev pub words_of : MapList → (map : ℕ) → List ℕ
 words_of maps map =
     slice_range maps.words (base_of maps.sizes map) (base_of maps.sizes map + slice_index maps.sizes map)
 
--- a machine with other values there
-abbrev pub with_words : MachineState → (map : ℕ) → List ℕ → MachineState
-with_words machine map values = record {
-  program = machine.program;
-  maps = record {
-    sizes = machine.maps.sizes;
-    words = words_after_run (base_of machine.maps.sizes map) (λ k. Write (slice_index values k)) (length values)
-        machine.maps.words;
-  };
-  loops = machine.loops;
-}
-
--- a machine with other values there, where there is the map
+-- a machine with other values of a map's elements, where there is the map
 abbrev pub with_words_if : Bool → MachineState → (map : ℕ) → List ℕ → MachineState
-with_words_if there machine map values = if there then with_words machine map values else machine
+with_words_if there machine map values =
+    if there then with_words machine
+    (words_after_run (base_of machine.maps.sizes map) (λ k. Write (slice_index values k)) (length values)
+    machine.maps.words)
+    else machine

@@ -6,7 +6,7 @@ use Rattle.bpf_insn.specs.declared.codec_error.CodecError.TheVariants as codec
 use Rattle.bpf_text_lex.specs.declared.text_error.TextError.{TextError}
 use Rattle.bpf_text_lex.specs.declared.text_error.TextFault.TheVariants as text_faults
 use Rattle.bpf_text_lex.specs.declared.text_error.TextError.TheVariants as text
-use Rattle.bpf_text.specs.{HexText.{SizesAndBytes, hex_text}, AssemblerText.{assembler_text}}
+use Rattle.bpf_text.specs.{HexText.{hex_text}, AssemblerText.{assembler_text}}
 use Rattle.bpf_verify_model.specs.Accepted.{BrokenRule, first_fault}
 use Rattle.bpfspec_machine.specs.declared.load_error.LoadError.{LoadError, TheVariants.{Text, Codec, Rule, Memory}}
 use Rattle.bpfspec_machine.specs.Machines.{MachineState, new_machine}
@@ -14,9 +14,7 @@ use Rattle.bpfspec_machine.specs.Machines.{MachineState, new_machine}
 -- the refusal of an error, unless memory ran out
 abbrev pub load_refusal : LoadError → Option LoadError
 load_refusal Memory = None
-load_refusal (Text fault line) = Some (Text fault line)
-load_refusal (Codec fault slot) = Some (Codec fault slot)
-load_refusal (Rule rule slot) = Some (Rule rule slot)
+load_refusal error = Some error
 
 -- the error of a text
 abbrev pub text_load_error : TextError → LoadError
@@ -33,17 +31,18 @@ abbrev pub as_loaded : {X : Type 0} → Result X TextError → Result X LoadErro
 as_loaded (Ok x) = Ok x
 as_loaded (Err error) = Err (text_load_error error)
 
+-- what a value gives, or the error in its place
+unfoldable pub and_then : {X Y : Type 0} → (X → Result Y LoadError) → Result X LoadError → Result Y LoadError
+and_then gives (Ok x) = gives x
+and_then gives (Err error) = Err error
+
 -- bytes as a text: they are UTF-8
 unfoldable pub readable : List ℕ → Result (List ℕ) LoadError
 readable bytes = if is_utf8 bytes then Ok bytes else Err (Text text_faults.Form 0)
 
 -- the program of an assembler text
-unfoldable pub program_of_text : Result (List ℕ) LoadError → Result Program LoadError
-program_of_text (Ok text) = as_loaded (assembler_text text)
-program_of_text (Err error) = Err error
-
 abbrev pub text_program : List ℕ → Result Program LoadError
-text_program bytes = program_of_text (readable bytes)
+text_program bytes = and_then (λ text. as_loaded (assembler_text text)) (readable bytes)
 
 -- the program of sizes and instructions
 abbrev pub with_sizes : List ℕ → Result (List Insn) CodecError → Result Program LoadError
@@ -54,18 +53,11 @@ with_sizes sizes (Err error) = Err (codec_load_error error)
 abbrev pub insns_program : (sizes bytes : List ℕ) → Result Program LoadError
 insns_program sizes bytes = with_sizes sizes (reading bytes)
 
--- what a text in hex form gives
-unfoldable pub parts_of_text : Result (List ℕ) LoadError → Result SizesAndBytes LoadError
-parts_of_text (Ok text) = as_loaded (hex_text text)
-parts_of_text (Err error) = Err error
-
--- the program of what a text in hex form gives
-unfoldable pub program_of_parts : Result SizesAndBytes LoadError → Result Program LoadError
-program_of_parts (Ok parts) = insns_program parts.sizes parts.bytes
-program_of_parts (Err error) = Err error
-
+-- the program of a text in hex form
 abbrev pub hex_program : List ℕ → Result Program LoadError
-hex_program bytes = program_of_parts (parts_of_text (readable bytes))
+hex_program bytes =
+    and_then (λ parts. insns_program parts.sizes parts.bytes)
+    (and_then (λ text. as_loaded (hex_text text)) (readable bytes))
 
 -- a program that breaks no rule is loaded, else refused by its first fault
 abbrev pub unless_rule_broken : Program → Option BrokenRule → Result MachineState LoadError
@@ -73,6 +65,5 @@ unless_rule_broken program None = Ok (new_machine program)
 unless_rule_broken program (Some fault) = Err (Rule fault.rule fault.slot)
 
 -- the machine of a program
-unfoldable pub loaded : Result Program LoadError → Result MachineState LoadError
-loaded (Ok program) = unless_rule_broken program (first_fault program)
-loaded (Err error) = Err error
+abbrev pub loaded : Result Program LoadError → Result MachineState LoadError
+loaded program = and_then (λ p. unless_rule_broken p (first_fault p)) program

@@ -1,8 +1,11 @@
 //! Why no machine is made.
 
-use bpf_insn::CodecFault;
-use bpf_text_lex::TextFault;
+ghost use Rattle.std.specs.Prelude.{◌≡◌};
+
+use bpf_insn::{CodecError, CodecFault};
+use bpf_text_lex::{TextError, TextFault};
 use bpf_verify_model::Rule;
+use std::alloc::AllocError;
 
 /// Why no machine is made.
 #[derive(Clone, Copy, Debug, PartialEq)]
@@ -16,4 +19,40 @@ pub enum LoadError {
     Rule { rule: Rule, slot: u32 },
     /// There was no memory.
     Memory,
+}
+
+impl From<TextError> for LoadError {
+    ghost use Rattle.bpfspec_machine.specs.Loading.{text_load_error};
+
+    ghost from_gives = { λ error given. given ≡ text_load_error error };
+
+    fn from(error: TextError) -> LoadError {
+        match error {
+            TextError::Refused { fault, line } => LoadError::Text { fault, line },
+            TextError::Memory => LoadError::Memory,
+        }
+    }
+}
+
+impl From<CodecError> for LoadError {
+    ghost use Rattle.bpfspec_machine.specs.Loading.{codec_load_error};
+
+    ghost from_gives = { λ error given. given ≡ codec_load_error error };
+
+    fn from(error: CodecError) -> LoadError {
+        match error {
+            CodecError::Refused { fault, slot } => LoadError::Codec { fault, slot },
+            CodecError::Memory => LoadError::Memory,
+        }
+    }
+}
+
+impl From<AllocError> for LoadError {
+    ghost use Rattle.bpfspec_machine.specs.declared.load_error.LoadError.TheVariants.{Memory};
+
+    ghost from_gives = { λ _ given. given ≡ Memory };
+
+    fn from(_error: AllocError) -> LoadError {
+        LoadError::Memory
+    }
 }

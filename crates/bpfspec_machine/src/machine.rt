@@ -1,16 +1,15 @@
 //! Machines.
 
-ghost use Rattle.std.specs.{Prelude.{◌≡◌, ◌<◌, ◌≤◌, if◌then◌else◌, length, slice_get}, List.{sum}};
-ghost use Rattle.bpf_verify_sound.specs.Soundness.{most_from};
+ghost use Rattle.std.specs.Prelude.{◌≡◌, IfOk, if◌then◌else◌, length, slice_get};
 ghost use Rattle.bpfspec_machine.specs.Machines.{new_machine, MachineRan, RanEach, count_at};
 ghost use Rattle.bpfspec_machine.specs.Elements.{has_element, element_of, with_element_if, has_words, words_of};
 ghost use Rattle.bpfspec_machine.specs.Elements.{with_words_if};
-ghost use Rattle.array_maps.specs.MapList.{zero_maps, base_of};
 
-use array_maps::Maps;
+use array_maps::{Maps, MapsError};
 use bpf_verify::Verified;
-use loop_core_model::LoopReport;
+use loop_core_model::{LoopReport, Verdict};
 use spec_run_main::run_in_place;
+use std::alloc::{AllocError, Global};
 use std::marker::Model;
 
 /// A program with its maps, which runs many times. In contracts it is its program, its maps, and the lines of the loop
@@ -35,18 +34,29 @@ impl Model for Machine {
 }
 
 impl Machine {
-    /// The machine of a program with its maps, which are all zero, and enough lines for its loop calls.
-    pub(crate) fn new(program: Verified, maps: Maps, lines: Vec<LoopReport>) -> Machine
-        requires maps { maps ≡ zero_maps program.sizes }
-        requires room { most_from program 0 ≤ length lines.items }
-        ensures { result ≡ new_machine program }
+    /// The machine of an accepted program: its maps are all zero, and it has a line for each loop call that main can
+    /// make.
+    #[tactic(auto, unfolding(bpf_verify_model::specs::Count::count_of))]
+    pub(crate) fn new(alloc: Global, program: Verified) -> Result<Machine, AllocError>
+        ensures { IfOk result (λ machine. machine ≡ new_machine program) }
     {
-        Machine {
+        let maps = match Maps::new(alloc, program.sizes()) {
+            Ok(maps) => maps,
+            Err(MapsError::Limits) => unreachable!(),
+            Err(MapsError::Memory) => return Err(AllocError),
+        };
+        let blank = LoopReport {
+            slot: 0,
+            answer: 0,
+            verdict: Verdict::InOrder,
+        };
+        let lines = Vec::from_elem(alloc, blank, program.count(0) as usize)?;
+        Ok(Machine {
             program,
             maps,
             lines,
             calls: 0,
-        }
+        })
     }
 
     /// Runs the program on the maps, its argument in R1, each loop in order, and gives its return value. What it leaves
@@ -90,20 +100,14 @@ impl Machine {
     pub fn size(&self, map: u32) -> Option<u32>
         ensures { result ≡ slice_get self.now.maps.sizes map }
     {
-        match self.maps.sizes().get(map as usize) {
-            Some(size) => Some(*size),
-            None => None,
-        }
+        self.maps.sizes().get(map as usize).copied()
     }
 
     /// Whether there is an element.
     fn has(&self, map: u32, index: u32) -> bool
         ensures { result ≡ has_element self.now.maps.sizes map index }
     {
-        match self.size(map) {
-            Some(size) => index < size,
-            None => false,
-        }
+        self.size(map).is_some_and(|size| index < size)
     }
 
     /// The value of an element; none where there is no such element.
@@ -132,18 +136,7 @@ impl Machine {
     fn has_words(&self, map: u32, count: usize) -> bool
         ensures { result ≡ has_words self.now.maps.sizes map count }
     {
-        match self.size(map) {
-            Some(size) => size as usize == count,
-            None => false,
-        }
-    }
-
-    /// Where the values of a map begin.
-    fn first(&self, map: u32) -> u32
-        requires { map < length self.now.maps.sizes }
-        ensures { result ≡ base_of self.now.maps.sizes map }
-    {
-        sum_of(&self.maps.sizes()[..map as usize])
+        self.size(map).is_some_and(|size| size as usize == count)
     }
 
     /// Copies the values of a map's elements out, and returns whether there is a map of as many elements.
@@ -167,8 +160,8 @@ impl Machine {
         if !self.has_words(map, words.len()) {
             return false;
         }
-        let _sizes = self.maps.sizes(); // as many as there are words
-        let first = self.first(map);
+        let sizes = self.maps.sizes(); // as many as there are words
+        let first = sizes[..map as usize].iter().sum();
         self.maps.store_run(first, words);
         true
     }
@@ -178,24 +171,9 @@ impl Machine {
         ensures { result ≡ slice_get self.now.loops number }
     {
         if number < self.calls {
-            match self.lines.get(number) {
-                Some(line) => Some(*line),
-                None => None,
-            }
+            self.lines.get(number).copied()
         } else {
             None
         }
     }
-}
-
-/// The sum of sizes that are small enough.
-fn sum_of(sizes: &[u32]) -> u32
-    requires { sum sizes.now ≤ 65536 }
-    ensures { result ≡ sum sizes.now }
-{
-    let mut total = 0;
-    for size in sizes {
-        total += *size;
-    }
-    total
 }
