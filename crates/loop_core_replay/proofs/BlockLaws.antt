@@ -1,27 +1,13 @@
 -- Blocks that are under way, and blocks that were run.
-use Rattle.std.proofs.Common.{◌≡◌, ℕ, zero, suc, ◌+◌, ◌++◌, ◌<◌, ◌⊎◌, inl, inr, List, [], ◌∷◌, length, Option, Some}
+use Rattle.std.proofs.Common.{◌≡◌, ℕ, ◌+◌, ◌++◌, ◌<◌, ◌⊎◌, inl, inr, List, [], ◌∷◌, length, Option, Some}
 use Rattle.std.{proofs.Common.{None, refl, sym, ◌∙◌, ap, subst, arith}, specs.List.{insert}}
 use Rattle.std.{specs.Prelude.{Bool, replicate, slice_get, slice_index_or, slice_set}, proofs.lemmas.Bool.{cases_eq}}
-use Rattle.std.proofs.lemmas.List.{length-set, get_or-set_same, get_or-set_other, length-replicate, replicate_more}
+use Rattle.std.proofs.lemmas.List.{length-set, get_or-set_same, get_or-set_other, replicate_more}
 use Rattle.std.proofs.lemmas.Option.{slice_get_read, get_or_from_slice_get}
 use Rattle.loop_core_model.specs.{Gather.{is_bound}, Intervals.{blocks_of}}
 use Rattle.loop_core_block.specs.{declared.block.Block.{Block}, Blocks.{BlockOf}, Shown.{shown}, Loops.{LoopOf}}
 use Rattle.loop_core_block.specs.LoopBlocks.{IsBlockOf}
 use Rattle.loop_core_replay.specs.Replays.{BlocksOf, IfBlockOf, AreBlocks, BreaksAt, BlockHasRun}
-
-none_at : (n k : ℕ) (nothing : Option Block) → slice_index_or (replicate n nothing) k nothing ≡ nothing
-none_at zero k nothing = refl
-none_at (suc n) zero nothing = refl
-none_at (suc n) (suc k) nothing = none_at n k nothing
-
--- none at first
-pub none_begun : (s : LoopOf) (blocks : BlocksOf) → blocks.under_way ≡ replicate (blocks_of s.bounds) None
-    → blocks.ran ≡ [] → AreBlocks s blocks
-none_begun s blocks nothing empty = record {
-  count = ap length nothing ∙ length-replicate (blocks_of s.bounds) None;
-  under_way = λ number. rw (nothing, none_at (blocks_of s.bounds) number None) tt;
-  ran = rw empty tt;
-}
 
 -- one place of a table changed
 changed : (s : LoopOf) (us : List (Option Block)) (number : ℕ) (new : Option Block) → number < length us

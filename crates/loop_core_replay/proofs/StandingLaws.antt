@@ -8,11 +8,16 @@ use Rattle.loop_core_model.specs.Events as events
 use Rattle.loop_core_replay.specs.declared.worker.{Worker.{Worker, TheVariants.{Idle}}, Shared.{Shared}}
 use Rattle.loop_core_replay.specs.{declared.moves.WorkerTransition.{WorkerTransition}, Steps.{LeadsTo}}
 use Rattle.loop_core_replay.specs.Standing.{schedule_worker, shared_of, Standing, state, WorkerFits, WorkersFit}
-use Rattle.loop_core_replay.specs.Moves.{TransitionFits, transition_result, after_transition, IsTransition}
+use Rattle.loop_core_replay.specs.Moves.{TransitionFits, transition_result, IsTransition}
 
 pub seen_at : (workers : List Worker) (number : ℕ) → slice_index_or (map schedule_worker workers) number events.Idle
     ≡ schedule_worker (slice_index_or workers number Idle)
 seen_at workers number = get_or-map schedule_worker workers number Idle
+
+-- workers after one of them moved
+abbrev pub after_transition : Standing → (number : ℕ) → WorkerTransition → Standing
+after_transition standing number move =
+    record { shared = move.shared; workers = slice_set standing.workers number move.worker }
 
 -- they share the blocks of the split still
 pub fits_after : (bounds : List ℕ) (standing : Standing) (number : ℕ) (move : WorkerTransition)
@@ -55,10 +60,11 @@ leads bounds e place broke old move h is = λ breaks runs so.
 
 -- the same of workers that are seen as their fields
 pub stepped : (bounds : List ℕ) (e : Event) (place : ℕ) (broke : Bool) (shared : Shared) (workers : List Worker)
-    (number : ℕ) (old new : Standing) (move : WorkerTransition) → record { shared = shared; workers = workers } ≡ old
+    (number : ℕ) (old : Standing) (move : WorkerTransition) → record { shared = shared; workers = workers } ≡ old
     → number ≡ e.worker → number < 16 →
     IsTransition bounds e.kind (slice_index_or workers number Idle) shared broke move
-    → new ≡ after_transition old number move → LeadsTo bounds e place broke old new move.ran
-stepped bounds e place broke shared workers number old new move same named below_16 is made =
-    rw (made, ← same, named)
+    → LeadsTo bounds e place broke old (after_transition (record { shared = shared; workers = workers }) number move)
+    move.ran
+stepped bounds e place broke shared workers number old move same named below_16 is =
+    rw (← same, named)
     (leads bounds e place broke (record { shared = shared; workers = workers }) move (omega arith) (rw named at is))

@@ -1,5 +1,5 @@
 -- A list of events, one after another.
-use Rattle.std.proofs.Common.{◌≡◌, ℕ, suc, ◌+◌, Bool, true, false, List, [], ◌∷◌, ◌++◌, length, take, drop, Some}
+use Rattle.std.proofs.Common.{◌≡◌, ℕ, suc, ◌+◌, Bool, List, [], ◌∷◌, ◌++◌, length, take, drop, Some}
 use Rattle.std.{proofs.Common.{Ok, Err, Result, refl, sym, ◌∙◌, ap, arith}, specs.Prelude.{if◌then◌else◌}}
 use Rattle.std.specs.Prelude.{slice_get, slice_index_or}
 use Rattle.std.proofs.{Math.Seq.{take-length, drop-cons}, lemmas.Option.{slice_get_within, get_or_from_slice_get}}
@@ -7,7 +7,10 @@ use Rattle.std.proofs.lemmas.List.{length-take-le, take_more, take-append-drop}
 use Rattle.loop_core_model.specs.declared.{event.Event.{Event}, replay_fault.ReplayFault.{ReplayFault}}
 use Rattle.loop_core_model.specs.{declared.replay_fault.ReplayFault.TheVariants.{NotEnded}, Schedule.{if_ended, replay}}
 use Rattle.loop_core_model.specs.Schedule.{ScheduleState, at_first, after_event, after_events, and_then, has_ended}
-use Rattle.loop_core_replay.specs.InTurn.{LeadTo, EventsInTurn}
+
+-- the events before this place lead to this state
+abbrev pub LeadTo : (ℕ → Bool) → List ℕ → List Event → (place : ℕ) → ScheduleState → Type 0
+LeadTo breaks bounds events place state = after_events breaks bounds (take place events) 0 at_first ≡ Ok state
 
 module _ (breaks : ℕ → Bool) (bounds : List ℕ) where
   -- events, and others from a place on
@@ -40,7 +43,8 @@ module _ (breaks : ℕ → Bool) (bounds : List ℕ) where
       ∙ ap (λ (x : Event). and_then (after_events breaks bounds more (place + 1))
       (after_event breaks bounds x place old)) (get_or_from_slice_get events place e e there)
 
-  next : (events : List Event) (place : ℕ) (e : Event) (old new : ScheduleState) → slice_get events place ≡ Some e
+  -- one event more leads on
+  pub next : (events : List Event) (place : ℕ) (e : Event) (old new : ScheduleState) → slice_get events place ≡ Some e
       → LeadTo breaks bounds events place old → after_event breaks bounds e place old ≡ Ok new
       → LeadTo breaks bounds events (place + 1) new
   next events place e old new there led h =
@@ -48,29 +52,23 @@ module _ (breaks : ℕ → Bool) (bounds : List ℕ) where
       (take_more events place e (slice_get_within events place e there))
       ∙ from_there events [] place e old there led ∙ ap (and_then (after_events breaks bounds [] (place + 1))) h
 
-  faulty : (events : List Event) (place : ℕ) (e : Event) (old : ScheduleState) (fault : ReplayFault)
+  -- or has the list's fault
+  pub faulty : (events : List Event) (place : ℕ) (e : Event) (old : ScheduleState) (fault : ReplayFault)
       → slice_get events place ≡ Some e → LeadTo breaks bounds events place old
-      → after_event breaks bounds e place old ≡ Err fault → after_events breaks bounds events 0 at_first ≡ Err fault
+      → after_event breaks bounds e place old ≡ Err fault → replay breaks bounds events ≡ Err fault
   faulty events place e old fault there led h =
       let more : List Event = drop (suc place) events in
+      let all : after_events breaks bounds events 0 at_first ≡ Err fault =
       ap (λ (xs : List Event). after_events breaks bounds xs 0 at_first) (sym (take-append-drop place events)
       ∙ ap (λ (xs : List Event). take place events ++ xs)
       (drop-cons events place e (slice_get_within events place e there)))
-      ∙ from_there events more place e old there led ∙ ap (and_then (after_events breaks bounds more (place + 1))) h
+      ∙ from_there events more place e old there led ∙ ap (and_then (after_events breaks bounds more (place + 1))) h in
+      ap (and_then (if_ended events)) all
 
-  all_ended : (events : List Event) (state : ScheduleState) (ended : Bool) → has_ended events state ≡ ended
+  -- where there is none more the list has ended or not
+  pub all_ended : (events : List Event) (state : ScheduleState) (ended : Bool) → has_ended events state ≡ ended
       → after_events breaks bounds (take (length events) events) 0 at_first ≡ Ok state →
       replay breaks bounds events ≡ (if ended then Ok state else Err (NotEnded (length events)))
   all_ended events state ended e h =
       let all : after_events breaks bounds events 0 at_first ≡ Ok state = rw (take-length events) at h in
       rw (all, e) refl
-
-pub events_in_turn : EventsInTurn
-events_in_turn = record {
-  first = λ breaks bounds events. refl;
-  next = next;
-  fault = λ breaks bounds events place e old fault there so_far h.
-      ap (and_then (if_ended events)) (faulty breaks bounds events place e old fault there so_far h);
-  ended = λ breaks bounds events state h e. all_ended breaks bounds events state true e h;
-  not_ended = λ breaks bounds events state h e. all_ended breaks bounds events state false e h;
-}

@@ -1,5 +1,4 @@
 pub mod Standing
 pub mod Moves
 pub mod Steps
-pub mod InTurn
 pub mod Replays

@@ -1,11 +1,11 @@
 -- What an event makes of a worker.
-use Rattle.std.specs.Prelude.{◌≡◌, ℕ, ◌<◌, ◌≤◌, Bool, List, ◌++◌, slice_set, IfSome, Some, None}
+use Rattle.std.specs.Prelude.{◌≡◌, ℕ, ◌<◌, ◌≤◌, Bool, List, ◌++◌, IfSome, Some, None}
 use Rattle.std.specs.Option.{option_to_list}
 use Rattle.loop_core_model.specs.{declared.event.EventKind.{EventKind}, Intervals.{blocks_of}}
 use Rattle.loop_core_model.specs.{Events.{Moved, becomes, transition}, declared.event.EventKind.TheVariants.{Turn}}
 use Rattle.loop_core_replay.specs.declared.worker.{Worker.{Worker, TheVariants.{Running}}, Shared.{Shared}}
 use Rattle.loop_core_replay.specs.declared.moves.WorkerTransition.{WorkerTransition}
-use Rattle.loop_core_replay.specs.Standing.{schedule_worker, shared_of, Standing, WorkerFits}
+use Rattle.loop_core_replay.specs.Standing.{schedule_worker, shared_of, WorkerFits}
 
 -- what a worker and what it shares become, where these blocks were run before
 abbrev pub transition_result : WorkerTransition → List ℕ → Moved
@@ -17,11 +17,6 @@ pub record TransitionFits (bounds : List ℕ) (move : WorkerTransition) : Type 0
   pub next : move.shared.next ≤ blocks_of bounds
   pub worker : WorkerFits bounds move.worker
   pub ran : IfSome move.ran (λ block. block < blocks_of bounds)
-
--- workers after one of them moved
-abbrev pub after_transition : Standing → (number : ℕ) → WorkerTransition → Standing
-after_transition standing number move =
-    record { shared = move.shared; workers = slice_set standing.workers number move.worker }
 
 -- where the event is a worker's turn, its iteration breaks or not
 abbrev pub TurnIs : (ℕ → Bool) → EventKind → Worker → Bool → Type 0

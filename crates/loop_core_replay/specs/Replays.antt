@@ -5,19 +5,14 @@ use Rattle.bpf_step_model.specs.{Run.{Ended}, Iteration.{Iterated}}
 use Rattle.loop_core_model.specs.{Block.{block_run, break_from}, Gather.{is_bound}, Outcome.{breaks_at}}
 use Rattle.loop_core_model.specs.declared.event.{Event.{Event}, EventKind.{EventKind, TheVariants.{Turn}}}
 use Rattle.loop_core_replay.specs.declared.worker.Worker.{Worker, TheVariants.{Running}}
-use Rattle.loop_core_model.specs.{Intervals.{blocks_of, start_of, end_of}, Schedule.{ScheduleState, replay}}
-use Rattle.loop_core_replay.specs.{Standing.{Standing, WorkersFit, state}, InTurn.{LeadTo}}
+use Rattle.loop_core_model.specs.{Intervals.{blocks_of, start_of, end_of}, Schedule.{replay}}
+use Rattle.loop_core_replay.specs.Standing.{Standing, state}
 use Rattle.loop_core_block.specs.{declared.block.Block.{Block}, Loops.{LoopOf}, LoopBlocks.{IsBlockOf}, Shown.{shown}}
 
 -- the blocks that are active, by number, and those that were run, the latest first
 pub record BlocksOf : Type 0 where
   pub under_way : List (Option Block)
   pub ran : List Block
-
--- what the workers do, and the blocks
-pub record ReplayOf : Type 0 where
-  pub workers : Standing
-  pub blocks : BlocksOf
 
 -- which iterations of a loop break on its start words
 abbrev pub loop_breaks : LoopOf → ℕ → Bool
@@ -26,10 +21,6 @@ loop_breaks l = breaks_at l.program 4096 l.call l.start.words
 -- the numbers of blocks
 abbrev pub block_numbers : List Block → List ℕ
 block_numbers blocks = map (λ b. (shown b).number) blocks
-
--- a replay as a schedule's state
-abbrev pub state_of : ReplayOf → ScheduleState
-state_of r = state r.workers (block_numbers r.blocks.ran)
 
 -- the loop's block of this number, where there is one
 abbrev pub IfBlockOf : LoopOf → ℕ → Option Block → Type 0
@@ -58,12 +49,6 @@ TurnBreaks s kind worker breaks = Unit {0}
 pub record BlockHasRun (s : LoopOf) (number : ℕ) (old new : BlocksOf) : Type 0 where
   pub blocks : AreBlocks s new
   pub numbers : block_numbers new.ran ≡ number ∷ block_numbers old.ran
-
--- the events before this place lead to its state
-pub record HasCome (s : LoopOf) (events : List Event) (place : ℕ) (r : ReplayOf) : Type 0 where
-  pub led : LeadTo (loop_breaks s) s.bounds events place (state_of r)
-  pub fits : WorkersFit s.bounds r.workers
-  pub blocks : AreBlocks s r.blocks
 
 -- the list has ended, and these blocks were run
 pub record IsLeft (s : LoopOf) (events : List Event) (ran : List Block) : Type 0 where

@@ -3,7 +3,7 @@
 ghost use Rattle.std.specs.Prelude.{◌≡◌, ◌<◌, [], replicate, None, IfOk, OnOk};
 ghost use Rattle.loop_core_model.specs.{Gather.{is_bound}, Intervals.{blocks_of}};
 ghost use Rattle.loop_core_block.specs.{LoopBlocks.{IsBlockOf}, Shown.{shown}};
-ghost use Rattle.loop_core_replay.specs.{Standing.{WorkerFits}, Replays.{AreBlocks, BreaksAt, TurnBreaks, BlockHasRun}};
+ghost use Rattle.loop_core_replay.specs.{Standing.{WorkerFits}, Replays.{AreBlocks, TurnBreaks, BlockHasRun}};
 
 use crate::worker::Worker;
 use loop_core_block::{Block, SpeculativeLoop};
@@ -56,28 +56,6 @@ impl<'a> Blocks<'a> {
         })
     }
 
-    /// Whether a block, which is active then, breaks at this index.
-    fn begin(
-        &mut self,
-        of: &SpeculativeLoop<'_, 'a>,
-        number: u32,
-        index: u32,
-    ) -> Result<bool, AllocError>
-        requires within { number < blocks_of of.now.bounds }
-        requires blocks { AreBlocks of.now self.old }
-        ensures blocks { OnOk result (AreBlocks of.now self.new) }
-        ensures ran { self.new.ran ≡ self.old.ran }
-        ensures breaks { IfOk result (BreaksAt of.now number index) }
-    {
-        if let Some(block) = &self.under_way[number as usize] {
-            return Ok(is_at(block.broke(), index));
-        }
-        let block = of.run_block(number, &NoGate)?;
-        let breaks = is_at(block.broke(), index);
-        self.under_way[number as usize] = Some(block);
-        Ok(breaks)
-    }
-
     /// Whether the iteration breaks that a worker does by this event, whose block is active then. `false` where it is
     /// no worker's turn.
     pub(crate) fn breaks(
@@ -93,7 +71,15 @@ impl<'a> Blocks<'a> {
         ensures breaks { IfOk result (TurnBreaks of.now kind worker) }
     {
         match (kind, worker) {
-            (EventKind::Turn, Worker::Running { block, index }) => self.begin(of, block, index),
+            (EventKind::Turn, Worker::Running { block, index }) => {
+                if let Some(active) = &self.under_way[block as usize] {
+                    return Ok(is_at(active.broke(), index));
+                }
+                let active = of.run_block(block, &NoGate)?;
+                let breaks = is_at(active.broke(), index);
+                self.under_way[block as usize] = Some(active);
+                Ok(breaks)
+            }
             _ => Ok(false),
         }
     }

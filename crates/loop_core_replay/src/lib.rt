@@ -13,7 +13,6 @@
 
 mod blocks;
 mod error;
-mod laws;
 mod moves;
 mod replay;
 mod replaying;

@@ -1,7 +1,7 @@
 //! What each event does to a worker and to what it shares.
 
 ghost use Rattle.std.specs.Prelude.{◌≡◌, ◌<◌, ◌≤◌, ℕ, Bool, List, IfSome, IfNone, Some, None};
-ghost use Rattle.loop_core_model.specs.{Intervals.{blocks_of, end_of}, Events.{claims, looks, iterates, posts}};
+ghost use Rattle.loop_core_model.specs.{Intervals.{blocks_of, end_of}, Events.{claims, looks, iterates}};
 ghost use Rattle.loop_core_replay.specs.Standing.{schedule_worker, shared_of, WorkerFits};
 ghost use Rattle.loop_core_replay.specs.Moves.{TransitionFits, transition_result, IsTransition, IsNeverEnabled};
 
@@ -17,23 +17,13 @@ pub(crate) struct WorkerTransition {
     pub(crate) ran: Option<u32>,
 }
 
-fn becomes(worker: Worker, shared: Shared) -> WorkerTransition
-    ensures { result ≡ record { worker = worker; shared = shared; ran = None } }
+fn becomes(worker: Worker, shared: Shared, ran: Option<u32>) -> WorkerTransition
+    ensures { result ≡ record { worker = worker; shared = shared; ran = ran } }
 {
     WorkerTransition {
         worker,
         shared,
-        ran: None,
-    }
-}
-
-fn having_run(block: u32, worker: Worker, shared: Shared) -> WorkerTransition
-    ensures { result ≡ record { worker = worker; shared = shared; ran = Some block } }
-{
-    WorkerTransition {
-        worker,
-        shared,
-        ran: Some(block),
+        ran,
     }
 }
 
@@ -47,9 +37,10 @@ fn claim(split: &Split, shared: Shared) -> WorkerTransition
         becomes(
             Worker::Holding { block: shared.next },
             Shared { next, ..shared },
+            None,
         )
     } else {
-        becomes(Worker::Drained, shared)
+        becomes(Worker::Drained, shared, None)
     }
 }
 
@@ -61,9 +52,9 @@ fn look(split: &Split, block: u32, shared: Shared) -> WorkerTransition
 {
     let start = split.start(block);
     if is_late(shared.least, start) {
-        becomes(Worker::Idle, shared)
+        becomes(Worker::Idle, shared, None)
     } else if start == split.end(block) {
-        having_run(block, Worker::Idle, shared)
+        becomes(Worker::Idle, shared, Some(block))
     } else {
         becomes(
             Worker::Running {
@@ -71,6 +62,7 @@ fn look(split: &Split, block: u32, shared: Shared) -> WorkerTransition
                 index: start,
             },
             shared,
+            None,
         )
     }
 }
@@ -86,9 +78,9 @@ fn iterate(split: &Split, block: u32, index: u32, broke: bool, shared: Shared) -
 {
     let end = split.end(block);
     if broke {
-        having_run(block, Worker::Posting { index }, shared)
+        becomes(Worker::Posting { index }, shared, Some(block))
     } else if index + 1 == end {
-        having_run(block, Worker::Idle, shared)
+        becomes(Worker::Idle, shared, Some(block))
     } else {
         becomes(
             Worker::Running {
@@ -96,22 +88,9 @@ fn iterate(split: &Split, block: u32, index: u32, broke: bool, shared: Shared) -
                 index: index + 1,
             },
             shared,
+            None,
         )
     }
-}
-
-fn post(split: &Split, index: u32, shared: Shared) -> WorkerTransition
-    requires { shared.next ≤ blocks_of split.now }
-    ensures fits { TransitionFits split.now result }
-    ensures posts { (runs : List ℕ) → posts index (shared_of shared runs) ≡ transition_result result runs }
-{
-    becomes(
-        Worker::Idle,
-        Shared {
-            least: lesser(Some(index), shared.least),
-            ..shared
-        },
-    )
 }
 
 /// What an event of this kind makes of a worker, or `None` where it isn't enabled. Where it is the worker's turn, the
@@ -134,8 +113,11 @@ pub(crate) fn transition_of(
         (EventKind::Turn, Worker::Running { block, index }) => {
             Some(iterate(split, block, index, breaks, shared))
         }
-        (EventKind::Post, Worker::Posting { index }) => Some(post(split, index, shared)),
-        (EventKind::Stop, Worker::Drained) => Some(becomes(Worker::Stopped, shared)),
+        (EventKind::Post, Worker::Posting { index }) => {
+            let least = lesser(Some(index), shared.least);
+            Some(becomes(Worker::Idle, Shared { least, ..shared }, None))
+        }
+        (EventKind::Stop, Worker::Drained) => Some(becomes(Worker::Stopped, shared, None)),
         _ => None,
     }
 }

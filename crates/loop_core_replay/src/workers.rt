@@ -4,10 +4,10 @@ ghost use Rattle.std.specs.Prelude.{◌≡◌, ◌<◌, ℕ, true, false, List, 
 ghost use Rattle.std.specs.{Prelude.{OnErr, slice_index_or}, List.{list_all}};
 ghost use Rattle.loop_core_model.specs.declared.replay_fault.ReplayFault.TheVariants.{NotEnded};
 ghost use Rattle.loop_core_model.specs.{Intervals.{blocks_of}, Schedule.{at_first, has_ended, is_stopped, worker_of}};
-ghost use Rattle.loop_core_replay.specs.{Standing.{WorkersFit, state}, Moves.{after_transition}};
-ghost use Rattle.loop_core_replay.specs.{Steps.{LeadsTo, Faults}, declared.worker.Worker.TheVariants.{Idle}};
+ghost use Rattle.loop_core_replay.specs.{Standing.{WorkersFit, state}, Steps.{LeadsTo, Faults}};
+ghost use Rattle.loop_core_replay.specs.declared.worker.Worker.TheVariants.{Idle};
 
-use crate::moves::{WorkerTransition, transition_of};
+use crate::moves::transition_of;
 use crate::worker::{Shared, Worker};
 use loop_core_model::{Event, MAX_WORKERS, ReplayFault};
 use loop_core_split::Split;
@@ -79,7 +79,8 @@ impl Workers {
         }
         match transition_of(split, event.kind, self.workers[number], self.shared, breaks) {
             Some(change) => {
-                self.apply(number, change);
+                self.workers[number] = change.worker;
+                self.shared = change.shared;
                 Ok(change.ran)
             }
             None => Err(ReplayFault::NotEnabled { event: place }),
@@ -100,14 +101,6 @@ impl Workers {
                 events: events.len(),
             })
         }
-    }
-
-    fn apply(&mut self, number: usize, change: WorkerTransition)
-        requires { number < 16 }
-        ensures { self.new ≡ after_transition self.old number change }
-    {
-        self.workers[number] = change.worker;
-        self.shared = change.shared;
     }
 
     fn has_stopped(&self, number: u8) -> bool

@@ -11,8 +11,12 @@ use Rattle.bpf_step.specs.{Mains.{MainOf}, Turns.{IsFilled}}
 use Rattle.bpf_step.specs.declared.main_function.Turned.TheVariants as turned
 use Rattle.spec_run_main.specs.Reports.{EndsWithItsLoops}
 use Rattle.spec_run_main.proofs.Turns.{StillRuns, NextTurn, exits, refuses, refusal_lessens, at_call, call_sizes}
-use Rattle.spec_run_replay.specs.{FirstLoop.{ValidLoop, first_of, first_loop}, FoundLoop.{CameToLoop}}
+use Rattle.spec_run_replay.specs.{FirstLoop.{ValidLoop, first_valid, first_loop}, FoundLoop.{CameToLoop}}
 use Rattle.spec_run_replay.specs.declared.first_loop.NumberedCall.{NumberedCall}
+
+-- the first valid loop call of a program that finished, whose loop calls are numbered from this number
+abbrev pub first_of : ℕ → Finished → Option ValidLoop
+first_of number f = first_valid number f.loops
 
 -- a refused call before is one number more
 one_refused : (number slot : ℕ) (call : RefusedCall) (words : List ℕ) (e : BoundedResult Finished)

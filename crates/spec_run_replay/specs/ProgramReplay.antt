@@ -1,5 +1,5 @@
 -- The outcome of the replay of a program's first valid loop call.
-use Rattle.std.specs.Prelude.{◌≡◌, ℕ, pos, List, Option, Some, None, Result, Ok, Err}
+use Rattle.std.specs.{Prelude.{◌≡◌, ℕ, pos, List, Option, Some, None, Result, Ok, Err}, Result.{result_map_both}}
 use Rattle.bpf_insn_types.specs.Program.{Program}
 use Rattle.bpf_step_model.specs.Run.{BoundedResult, Ended, mapped}
 use Rattle.loop_core_model.specs.declared.{event.Event.{Event}, loop_test.Test.{Test}, verdict.LoopReport.{LoopReport}}
@@ -24,12 +24,6 @@ with_outcome valid o = record {
   words = o.words;
 }
 
--- the loop's outcome where the events are a schedule of it
-abbrev pub of_schedule : ValidLoop → Result (BoundedResult Outcome) ReplayFault
-    → Result (BoundedResult LoopReplay) ReplayRefusal
-of_schedule valid (Err fault) = Err (Schedule fault)
-of_schedule valid (Ok outcome) = Ok (mapped (with_outcome valid) outcome)
-
 -- what the schedule gives, if the bounds are a split of the loop; else the split's fault
 abbrev pub of_split : Result (BoundedResult LoopReplay) ReplayRefusal → Option SplitFault
     → Result (BoundedResult LoopReplay) ReplayRefusal
@@ -41,20 +35,15 @@ abbrev pub of_loop : Test → Program → ℕ → (bounds : List ℕ) → List E
     → Result (BoundedResult LoopReplay) ReplayRefusal
 of_loop test program bound bounds events None = Err NoLoop
 of_loop test program bound bounds events (Some valid) =
-    of_split (of_schedule valid (replayed test program bound valid.call valid.words bounds events))
-    (split_fault bounds valid.call.n)
-
--- what ended with a value, or was refused
-abbrev pub ended_or_refused : {A : Type 0} → Result A ReplayRefusal → Result (BoundedResult A) ReplayRefusal
-ended_or_refused (Ok value) = Ok (Ended value)
-ended_or_refused (Err refusal) = Err refusal
+    of_split (result_map_both (mapped (with_outcome valid)) Schedule
+    (replayed test program bound valid.call valid.words bounds events)) (split_fault bounds valid.call.n)
 
 -- from these words a program reaches its first valid loop call, or its end, and its replay has this outcome
 pub record ReplaysFrom (test : Test) (program : Program) (argument : ℕ) (words bounds : List ℕ) (events : List Event)
     (comes : Result LoopReplay ReplayRefusal) : Type 0 where
   pub valid : Option ValidLoop
   pub first : first_loop program 4096 argument words ≡ Ended valid
-  pub replays : of_loop test program 4096 bounds events valid ≡ ended_or_refused comes
+  pub replays : of_loop test program 4096 bounds events valid ≡ result_map_both Ended (λ refusal. refusal) comes
 
 -- what is given or refused is as wanted, or memory ran out
 abbrev pub ReplaysUnlessMemory : (Result LoopReplay ReplayRefusal → Type 0) → Result Replayed NoReplay → Type 0

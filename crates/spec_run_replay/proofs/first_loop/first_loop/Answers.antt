@@ -2,7 +2,7 @@ use Rattle.std.proofs.Common.{rules, refl, arith}
 use Rattle.bpf_step.proofs.Limits.{few_steps}
 use Rattle.bpf_step_model.specs.Run.{mapped}
 use Rattle.spec_run_main.proofs.Turns.{Laws, program_ends, words_fit, starts, few_left, refusal_lessens}
-use Rattle.spec_run_replay.{specs.FirstLoop.{first_of, first_loop}, proofs.MainTurns.{ends_without, goes_on, calls}}
+use Rattle.spec_run_replay.{specs.FirstLoop.{first_loop}, proofs.MainTurns.{first_of, ends_without, goes_on, calls}}
 use Rattle.spec_run_replay.proofs.first_loop.first_loop.Goals.{After-words_fit}
 use Rattle.spec_run_replay.proofs.first_loop.first_loop.Goals as goal
 

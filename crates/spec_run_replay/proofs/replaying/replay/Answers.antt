@@ -46,8 +46,8 @@ returns-in-Ok-replay_loop-clause-replayed c =
       answer = cast_signed w64 (cast_unsigned w64 c.from.result);
       verdict = left.verdict;
     } in
-    loop_replayed c.args.test program c.args.argument c.args.maps new bounds c.args.events.now found
-    c.law_of_filled_calls.ensures (sound at) (split at) (came at) o ended report
+    loop_replayed c.args.test program c.args.argument c.args.maps new bounds c.args.events.now found (came at)
+    c.law_of_filled_calls.ensures (sound at) (split at) o ended report
     (ap (λ (s : ℕ). record {
       slot = s;
       answer = cast_signed w64 (cast_unsigned w64 c.from.result);
@@ -67,5 +67,5 @@ returns-in-Err-Fault-clause-replayed c =
     ∙ c.in-Err-Fault.ensures.fault c.in-Err-Fault.fault (ap Err c.in-Err-Fault.field-0-is) in
     subst (λ (fault : ReplayFault). ReplaysFrom c.args.test program c.args.argument c.args.maps.words bounds
     c.args.events.now (Err (Schedule fault))) (sym c.in-Err-Fault.fault-is)
-    (schedule_refused c.args.test program c.args.argument c.args.maps new bounds c.args.events.now found
-    c.law_of_filled_calls.ensures (sound at) (split at) (came at) c.in-Err-Fault.fault amiss)
+    (schedule_refused c.args.test program c.args.argument c.args.maps new bounds c.args.events.now found (came at)
+    c.law_of_filled_calls.ensures (sound at) (split at) c.in-Err-Fault.fault amiss)
