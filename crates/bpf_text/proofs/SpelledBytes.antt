@@ -4,19 +4,19 @@ use Rattle.std.{proofs.Common.{sym, subst, arith}, specs.Prelude.{IfOk, ℤ, pos
 use Rattle.std.{specs.Int.{w16, w32, to_le_bytes, cast_unsigned}, proofs.lemmas.{List.{length-append}, Bool.{leb-true}}}
 use Rattle.bpf_insn_types.{proofs.Cases.{each_width, each_size, each_compare}, specs.declared.insn.Width.{Width}}
 use Rattle.bpf_insn_types.specs.declared.insn.{Width.TheVariants.{W32, W64}, Size.{Size}, Compare.{Compare}}
-use Rattle.bpf_insn_types.specs.declared.insn.{Operand.TheVariants.{Imm, Reg}, ImmKind.{ImmKind}, Insn.{Insn}}
+use Rattle.bpf_insn_types.specs.declared.insn.{AluOp.{AluOp}, Operand.TheVariants.{Imm, Reg}, ImmKind.{ImmKind}, Insn.{Insn}}
 use Rattle.bpf_insn_types.specs.{Slots.{slots_of}, Values.{AreInsns}, Program.{slot_count}}
 use Rattle.bpf_insn_types.specs.declared.insn.Size.TheVariants as size
 use Rattle.bpf_insn_types.specs.declared.insn.MovsxBits.TheVariants as movsx
 use Rattle.bpf_insn_types.specs.declared.insn.ByteOrder.TheVariants as order
 use Rattle.bpf_insn_types.specs.declared.insn.Insn.TheVariants as insn
-use Rattle.bpf_insn.specs.declared.{form.{AluCode.{AluCode}, Form.{Form}}, slot.Slot.{Slot}}
+use Rattle.bpf_insn.specs.declared.{form.Form.{Form}, slot.Slot.{Slot}}
 use Rattle.bpf_insn.specs.{declared.codec_error.CodecFault.{CodecFault}, SlotBytes.{slot_bytes, slots_bytes}}
 use Rattle.bpf_insn.specs.Opcode.{alu_class, jump_class, alu_code, jump_code, size_bits, opcode}
-use Rattle.bpf_insn.specs.Spelling.{code_of, has_next, two_slots, spelling, bytes_at, spelling_from}
+use Rattle.bpf_insn.specs.Spelling.{has_next, two_slots, spelling, bytes_at, spelling_from}
 use Rattle.bpf_insn.proofs.{Bytes.{HasBytes, HaveBytes}, HasBytes.{spelling_has}, Lengths.{spelled_len}}
 use Rattle.bpf_insn.proofs.Programs.{of_ok, both_ok, bytes_ok}
-use Rattle.bpf_insn.specs.declared.form.AluCode.TheVariants as alu
+use Rattle.bpf_insn_types.specs.declared.insn.AluOp.TheVariants as alu
 use Rattle.bpf_insn.specs.declared.form.Form.TheVariants as form
 
 -- ---- opcodes
@@ -27,7 +27,7 @@ class_small w = leb-true (alu_class w) 7 (each_width (λ w. nat_le (alu_class w)
 jump_small : (w : Width) → jump_class w ≤ 7
 jump_small w = leb-true (jump_class w) 7 (each_width (λ w. nat_le (jump_class w) 7 ≡ true) (assumption) w)
 
-alu_small : (c : AluCode) → alu_code c ≤ 12
+alu_small : (c : AluOp) → alu_code c ≤ 12
 alu_small alu.Add = omega arith
 alu_small _ = omega arith
 
@@ -65,8 +65,8 @@ two_small kind false dst imm (pos zero) = (omega arith, (omega arith, tt))
 two_small kind _ dst imm next = tt
 
 spelling_small : (i : Insn) → IfOk (spelling i) Small
-spelling_small (insn.Alu w o dst (Imm imm)) = (opcode_small (form.AluImm w (code_of o)), tt)
-spelling_small (insn.Alu w o dst (Reg src)) = (opcode_small (form.AluReg w (code_of o)), tt)
+spelling_small (insn.Alu w o dst (Imm imm)) = (opcode_small (form.AluImm w o), tt)
+spelling_small (insn.Alu w o dst (Reg src)) = (opcode_small (form.AluReg w o), tt)
 spelling_small (insn.Neg w dst) = (opcode_small (form.Neg w), tt)
 spelling_small (insn.Movsx W32 movsx.B32 dst src) = tt
 spelling_small (insn.Movsx w bits dst src) = (opcode_small (form.AluReg w alu.Mov), tt)
