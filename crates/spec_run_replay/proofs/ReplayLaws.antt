@@ -97,5 +97,25 @@ module _ (test : Test) (program : Program) (argument : ℕ) (old new : MapList) 
         loop_replayed o ended report report_is = record {
           valid = Some valid;
           first = at.first;
-          replays = rw (report_is, at.is.number, ← at.is.filled.slot) (replays_of (Ok (Ended o)) ended);
+          replays = replays_of (Ok (Ended o)) ended
+              ∙ ap (λ (n : ℕ). Ok (Ended (record {
+                number = n;
+                report = record {
+                  slot = valid.call.slot;
+                  answer = pos o.answer;
+                  verdict = o.verdict;
+                };
+                words = o.words;
+              }))) (sym at.is.number)
+              ∙ ap (λ (s : ℕ). Ok (Ended (record {
+                number = found.number;
+                report = record {
+                  slot = s;
+                  answer = pos o.answer;
+                  verdict = o.verdict;
+                };
+                words = o.words;
+              }))) (sym at.is.filled.slot)
+              ∙ ap (λ (t : LoopReport). Ok (Ended (record { number = found.number; report = t; words = o.words })))
+              (sym report_is);
         }

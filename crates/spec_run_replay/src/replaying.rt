@@ -61,18 +61,19 @@ pub enum NoReplay {
 pub fn replay(
     alloc: Global,
     program: &Verified,
-    mut maps: Maps,
+    maps: Maps,
     argument: u64,
     bounds: Vec<u32>,
     events: &[Event],
     test: Test,
 ) -> Result<Replayed, NoReplay>
     requires sizes { maps.sizes ≡ program.now.sizes }
-    ensures replayed { ReplaysUnlessMemory (ReplaysFrom test program.now argument maps.entry.words bounds.items
-        events.now) result }
+    ensures replayed { ReplaysUnlessMemory (ReplaysFrom test program.now argument maps.words bounds.items events.now)
+        result }
     ensures sizes { IfOk result (λ r. r.maps.sizes ≡ program.now.sizes) }
-    ensures ends { EndsWithItsLoops program.now (program_in_order program.now 4096 argument maps.entry.words) }
+    ensures ends { EndsWithItsLoops program.now (program_in_order program.now 4096 argument maps.words) }
 {
+    let mut maps = maps;
     let Some(first) = first_loop(program, &mut maps, argument) else {
         return Err(NoReplay::Refused(ReplayRefusal::NoLoop));
     };
