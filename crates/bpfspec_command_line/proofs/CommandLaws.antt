@@ -193,7 +193,8 @@ asks_for_none used name other rows named given is =
     subst (λ (n : Option (Text × List Row)). ((job : Job) → ¬ (Names other rows job))
     → (job : Job) → ¬ (AsksForJob n job))
     (sym (subcommand_named used name rows (sym named) (sym given)))
-    (subst (λ (o : Text). ((job : Job) → ¬ (Names o rows job)) → (job : Job) → ¬ (Names name rows job)) is (λ none. none))
+    (subst (λ (o : Text). ((job : Job) → ¬ (Names o rows job)) → (job : Job) → ¬ (Names name rows job)) is
+    (λ none. none))
 
 pub no_order : {Z : Type 0} (used : Option (Box SubCommand Z)) (name : Text) (rows : List Row)
     → Some name ≡ option_map (λ b. (out-SubCommand (box_value b)).name.now) used

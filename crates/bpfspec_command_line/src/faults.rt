@@ -25,8 +25,8 @@ pub(crate) fn own_fault(
     Ok(LineFault::Usage(error.to_string(alloc)?))
 }
 
-/// The first option of a subcommand whose value clap takes and the program doesn't: its name, its value's name, and what
-/// is wanted.
+/// The first option of a subcommand whose value clap takes and the program doesn't: its name, its value's name, and
+/// what is wanted.
 fn wrong_option(
     subcommand: &str,
     values: &ArgMatches<'_>,

@@ -27,4 +27,5 @@ returns-in_err-number_of-in-replay c =
     let none : c.from_residual-in_err-number_of-in-replay.result ≡ None = search rules in
     finds_none _ c.from_residual-in_err-number_of-in-replay.result none
     (no_replay _ c.in_ok-name.name.now (rows_of (found_of c.in_ok-name.values.now)) c.in_ok-name.ensures.name
-    c.in_ok-name.ensures.rows c.in-replay.is (λ n test given. absurd (none_of _ read.result read.ensures absent n given)))
+    c.in_ok-name.ensures.rows c.in-replay.is
+    (λ n test given. absurd (none_of _ read.result read.ensures absent n given)))
