@@ -4,7 +4,7 @@ use Rattle.bpf_insn_types.specs.Program.{Program}
 use Rattle.bpf_step_model.specs.Run.{BoundedResult, Ended, mapped}
 use Rattle.loop_core_model.specs.declared.{event.Event.{Event}, loop_test.Test.{Test}, verdict.LoopReport.{LoopReport}}
 use Rattle.loop_core_model.specs.{declared.faults.SplitFault.{SplitFault}, Split.{split_fault}}
-use Rattle.loop_core_model.specs.{declared.replay_fault.ReplayFault.{ReplayFault}, Outcome.{Outcome, replayed}}
+use Rattle.loop_core_model.specs.Outcome.{Outcome, replayed}
 use Rattle.spec_run_replay.specs.declared.replaying.ReplayRefusal.{ReplayRefusal, TheVariants.{NoLoop, Split, Schedule}}
 use Rattle.spec_run_replay.specs.declared.replaying.{Replayed.{Replayed}, NoReplay.{NoReplay}}
 use Rattle.spec_run_replay.specs.declared.replaying.NoReplay.TheVariants.{Refused, Memory}
