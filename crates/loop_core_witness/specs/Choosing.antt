@@ -15,39 +15,27 @@ span_around index count most = record {
 }
 
 -- the lesser of a focus' iterations and the greater one; without a focus the first
-abbrev pub lesser_of : Option Focus → ℕ
-lesser_of None = 0
-lesser_of (Some at) = min at.first at.second
-
-abbrev pub greater_of : Option Focus → ℕ
-greater_of None = 0
-greater_of (Some at) = max at.first at.second
+abbrev pub ends_of : Option Focus → ℕ × ℕ
+ends_of None = (0, 0)
+ends_of (Some at) = (min at.first at.second, max at.first at.second)
 
 -- two of `count` iterations are too far apart for one span
 abbrev pub are_apart : (low high count : ℕ) → Bool
 are_apart low high count = nat_le 64 (high - low) && nat_lt high count
 
--- the span that has both in its middle
-abbrev pub span_of_both : (low high count : ℕ) → Span
-span_of_both low high count = span_around (low + (high - low) / 2) count 64
+-- a span, and no iterations after it
+abbrev pub alone : Span → Span × Span
+alone span = (span, record { from = span.past; past = span.past })
 
--- no iterations, after a span
-abbrev pub none_after : Span → Span
-none_after span = record { from = span.past; past = span.past }
+-- the spans of `count` iterations that are shown: 32 around each end of a focus, if the ends are too far apart for one
+-- span; or the one that has both in its middle
+abbrev pub spans_between : (count : ℕ) → ℕ × ℕ → Span × Span
+spans_between count (low, high) =
+    if are_apart low high count then (span_around low count 32, span_around high count 32)
+    else alone (span_around (low + (high - low) / 2) count 64)
 
--- the spans of `count` iterations that are shown: the one that has both, or one of 32 around each
-abbrev pub first_span : (low high count : ℕ) → Span
-first_span low high count = if are_apart low high count then span_around low count 32 else span_of_both low high count
-
-abbrev pub second_span : (low high count : ℕ) → Span
-second_span low high count = if are_apart low high count then span_around high count 32
-    else none_after (span_of_both low high count)
-
-abbrev pub lower_span : (count : ℕ) → Option Focus → Span
-lower_span count focus = first_span (lesser_of focus) (greater_of focus) count
-
-abbrev pub upper_span : (count : ℕ) → Option Focus → Span
-upper_span count focus = second_span (lesser_of focus) (greater_of focus) count
+abbrev pub spans_of : (count : ℕ) → Option Focus → Span × Span
+spans_of count focus = spans_between count (ends_of focus)
 
 -- a span's indices
 abbrev pub indices_of : Span → List ℕ

@@ -3,9 +3,9 @@ use Rattle.std.specs.{Prelude.{◌≡◌, ℕ, min, List, ◌++◌, map, Option}
 use Rattle.bpf_insn_types.specs.Program.{Program}
 use Rattle.bpf_step_model.specs.{State.{LoopCall}, Run.{Ended}, Iteration.{Iterated, iteration}}
 use Rattle.loop_core_trace.specs.Traced.{AreSlots}
-use Rattle.loop_core_witness.specs.declared.{choosing.Span.{Span}, focus.Focus.{Focus}, grid.{Cell.{Cell}, Row.{Row}}}
+use Rattle.loop_core_witness.specs.declared.{focus.Focus.{Focus}, grid.{Cell.{Cell}, Row.{Row}}}
 use Rattle.loop_core_witness.specs.{declared.grid.Grid.{Grid}, Touching.{AreTouched}}
-use Rattle.loop_core_witness.specs.Choosing.{lower_span, upper_span, indices_of, shown_elements}
+use Rattle.loop_core_witness.specs.Choosing.{spans_of, indices_of, shown_elements}
 
 -- on these words the iteration of an index ends, and a cell has its slots at the cell's element
 pub record IsCell (program : Program) (call : LoopCall) (words : List ℕ) (index : ℕ) (cell : Cell) : Type 0 where
@@ -30,20 +30,14 @@ AreRows program call words elements rows = AllByRecursion (IsGridRow program cal
 abbrev pub indices : List Row → List ℕ
 indices rows = map (λ (row : Row). row.index) rows
 
--- a grid of two spans of a loop call's iterations on these words, around a focus: its columns are the elements that are
--- shown of those that the iterations access, its rows are the iterations, and each row has its iteration's cells; and
--- these are its spans
-pub record ShowsSpans (program : Program) (call : LoopCall) (words : List ℕ) (lower upper : Span)
-    (focus : Option Focus) (grid : Grid) : Type 0 where
+-- a grid of the first `count` iterations of a loop call on these words, or of all, around a focus: its spans are those
+-- that are shown of them; its columns are the elements that are shown of those that these access; its rows are the
+-- iterations, and each row has its iteration's cells
+pub record IsGrid (program : Program) (call : LoopCall) (words : List ℕ) (count : ℕ) (focus : Option Focus)
+    (grid : Grid) : Type 0 where
+  pub spans : (grid.lower, grid.upper) ≡ spans_of (min count call.n) focus
   pub accessed : List ℕ
-  pub touched : AreTouched program call words lower upper accessed
+  pub touched : AreTouched program call words grid.lower grid.upper accessed
   pub columns : grid.elements.items ≡ shown_elements focus accessed
-  pub iterations : indices grid.rows.items ≡ indices_of lower ++ indices_of upper
+  pub iterations : indices grid.rows.items ≡ indices_of grid.lower ++ indices_of grid.upper
   pub rows : AreRows program call words grid.elements.items grid.rows.items
-  pub lower_is : grid.lower ≡ lower
-  pub upper_is : grid.upper ≡ upper
-
--- so is a grid of the first `count` iterations, or of all, of which at most 64 are shown
-abbrev pub IsGrid : Program → LoopCall → List ℕ → (count : ℕ) → Option Focus → Grid → Type 0
-IsGrid program call words count focus grid =
-    ShowsSpans program call words (lower_span (min count call.n) focus) (upper_span (min count call.n) focus) focus grid

@@ -5,7 +5,7 @@ use Rattle.bpf_verify_sound.specs.Soundness.{OverApproximatesCall}
 use Rattle.loop_core_model.specs.declared.loop_test.Test.{Test}
 use Rattle.loop_core_witness.specs.declared.{finding.Search.{Search}, kind.Kind.{Kind}, place.Place.{Place}}
 use Rattle.loop_core_witness.specs.{declared.witness.Witness.{Witness}, Breaks.{AreCounted}, Firsts.{NoneDoes, FirstIs}}
-use Rattle.loop_core_witness.specs.{Reductions.{AreQuiet, HasEnd}, Surveys.{IsSurvey}, Witnesses.{Explains}}
+use Rattle.loop_core_witness.specs.{Reductions.{AreQuiet}, Surveys.{IsSurvey}, Witnesses.{Explains}}
 
 -- main of the program made the call, the start maps are of its sizes, it is the call's count of iterations, and the
 -- survey is of the call
@@ -34,7 +34,3 @@ FindsFirst search kind from found = FirstIs kind search.program.now search.call.
 abbrev pub FindsPair : Search → Test → Option Witness → Type 0
 FindsPair search test found = Explains test search.program.now search.call.now search.start.now.words search.element
     found
-
--- the access by which the element isn't reduction-only, where there is one
-abbrev pub FindsEnd : Search → Option Place → Type 0
-FindsEnd search found = HasEnd search.program.now search.call.now search.start.now.words search.element found

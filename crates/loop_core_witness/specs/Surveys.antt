@@ -6,21 +6,18 @@ use Rattle.bpf_insn_types.specs.Program.{Program}
 use Rattle.bpf_step_model.specs.{State.{LoopCall}, Run.{Ended}, Iteration.{Iterated}}
 use Rattle.loop_core_model.specs.{Actions.{is_same}, Block.{block_run, break_from}, Conflict.{at_element}}
 use Rattle.loop_core_model.specs.{LeastBreak.{accesses_of_each}, Marks.{numbered}, Planes.{bit_of}}
-use Rattle.shadow_marks.specs.declared.planes.{LrpdPlanes.{LrpdPlanes}, OperatorPlanes.{OperatorPlanes}}
+use Rattle.shadow_marks.specs.declared.planes.OperatorPlanes.{OperatorPlanes}
 use Rattle.shadow_marks.specs.declared.planes.{Planes.{Planes}, Tested.{Tested, TheVariants.{Lrpd, Flow}}}
 use Rattle.shadow_marks.specs.Standing.{StandFor}
 use Rattle.loop_core_witness.specs.declared.kind.Kind.{Kind, TheVariants.{FirstWrite, ExposedRead}}
 use Rattle.loop_core_witness.specs.declared.survey.{Stretch.{Stretch}, Survey.{Survey}}
 
 -- no iteration does what is looked for at an element, as planes for the LRPD test show: none writes it; none has an
--- exposed read of it
-abbrev pub lacks_kind : Kind → LrpdPlanes → ℕ → Bool
-lacks_kind FirstWrite planes e = not (bit_of planes.written.items e)
-lacks_kind ExposedRead planes e = not (bit_of planes.read_only.items e) && not (bit_of planes.read_and_written.items e)
-
--- planes for the flow test aren't asked
+-- exposed read of it; planes for the flow test aren't asked
 abbrev pub lacks_tested : Kind → Tested → ℕ → Bool
-lacks_tested kind (Lrpd planes) e = lacks_kind kind planes e
+lacks_tested FirstWrite (Lrpd planes) e = not (bit_of planes.written.items e)
+lacks_tested ExposedRead (Lrpd planes) e =
+    not (bit_of planes.read_only.items e) && not (bit_of planes.read_and_written.items e)
 lacks_tested kind (Flow planes) e = false
 
 -- no iteration does so, as planes of either test show; nothing is known of an element that the planes don't have

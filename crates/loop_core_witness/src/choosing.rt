@@ -1,8 +1,8 @@
 //! Which iterations and elements are shown.
 
 ghost use Rattle.std.specs.Prelude.{◌≡◌, ◌≤◌, IfOk};
-ghost use Rattle.loop_core_witness.specs.Choosing.{span_around, lesser_of, greater_of, are_apart};
-ghost use Rattle.loop_core_witness.specs.Choosing.{lower_span, upper_span, less_than, shown_elements};
+ghost use Rattle.loop_core_witness.specs.Choosing.{span_around, ends_of, are_apart, spans_of};
+ghost use Rattle.loop_core_witness.specs.Choosing.{less_than, shown_elements};
 
 use crate::focus::Focus;
 use std::alloc::{AllocError, Global};
@@ -34,23 +34,13 @@ fn span_around(index: u32, count: u32, most: u32) -> Span
     }
 }
 
-/// The lesser iteration of a focus; 0 where there is none.
-fn lesser_of(focus: Option<Focus>) -> u32
-    ensures { result ≡ lesser_of focus }
+/// The lesser iteration of a focus and the greater one; 0 where there is none.
+fn ends_of(focus: Option<Focus>) -> (u32, u32)
+    ensures { (result.0, result.1) ≡ ends_of focus }
 {
     match focus {
-        Some(at) => at.first.min(at.second),
-        None => 0,
-    }
-}
-
-/// The greater one.
-fn greater_of(focus: Option<Focus>) -> u32
-    ensures { result ≡ greater_of focus }
-{
-    match focus {
-        Some(at) => at.first.max(at.second),
-        None => 0,
+        Some(at) => (at.first.min(at.second), at.first.max(at.second)),
+        None => (0, 0),
     }
 }
 
@@ -61,34 +51,30 @@ fn are_apart(low: u32, high: u32, count: u32) -> bool
     high.saturating_sub(low) >= MOST && high < count
 }
 
-/// The first span of `count` iterations that is shown: with both iterations of a focus in its middle, or around the
-/// lesser one.
-pub(crate) fn lower_span(count: u32, focus: Option<Focus>) -> Span
-    ensures is { result ≡ lower_span count focus }
-    ensures rising { result.from ≤ result.past }
-    ensures within { result.past ≤ count }
+/// The spans of `count` iterations that are shown: around each iteration of a focus, if these are too far apart for one
+/// span; or with both in the middle of the first, and the second empty.
+pub(crate) fn spans_of(count: u32, focus: Option<Focus>) -> (Span, Span)
+    ensures are { (result.0, result.1) ≡ spans_of count focus }
+    ensures rising { result.0.from ≤ result.0.past }
+    ensures within { result.0.past ≤ count }
+    ensures upper_rising { result.1.from ≤ result.1.past }
+    ensures upper_within { result.1.past ≤ count }
 {
-    let low = lesser_of(focus);
-    let high = greater_of(focus);
+    let (low, high) = ends_of(focus);
     if are_apart(low, high, count) {
-        span_around(low, count, MOST / 2)
-    } else {
-        span_around(low + high.saturating_sub(low) / 2, count, MOST)
+        return (
+            span_around(low, count, MOST / 2),
+            span_around(high, count, MOST / 2),
+        );
     }
-}
-
-/// The second one: around the greater one, or empty where the first has both.
-pub(crate) fn upper_span(count: u32, focus: Option<Focus>) -> Span
-    ensures is { result ≡ upper_span count focus }
-    ensures rising { result.from ≤ result.past }
-    ensures within { result.past ≤ count }
-{
-    let high = greater_of(focus);
-    if are_apart(lesser_of(focus), high, count) {
-        return span_around(high, count, MOST / 2);
-    }
-    let past = lower_span(count, focus).past;
-    Span { from: past, past }
+    let both = span_around(low + high.saturating_sub(low) / 2, count, MOST);
+    (
+        both,
+        Span {
+            from: both.past,
+            past: both.past,
+        },
+    )
 }
 
 /// How many of some elements are less than that of a focus.

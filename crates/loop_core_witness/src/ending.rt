@@ -3,7 +3,7 @@
 ghost use Rattle.std.specs.Prelude.{◌≡◌, IfOk};
 ghost use Rattle.bpf_verify_sound.specs.Soundness.{OverApproximatesCall};
 ghost use Rattle.loop_core_witness.specs.{Breaks.{IsBreak}, Reductions.{operator_after, end_slot, HasEnd}};
-ghost use Rattle.loop_core_witness.specs.{Searches.{IsSearch, FindsEnd}, Surveys.{IsSurvey}};
+ghost use Rattle.loop_core_witness.specs.Surveys.{IsSurvey};
 
 use crate::counting::counted_by;
 use crate::finding::Search;
@@ -35,37 +35,6 @@ fn end_slot(op: Option<Op>, slots: Slots) -> Option<u32>
     }
 }
 
-/// The first counted access of the element that isn't a reduce by the operator of the first one.
-fn end_of_reduction(search: &Search<'_>) -> Result<Option<Place>, AllocError>
-    requires { IsSearch search.now }
-    ensures { IfOk result (FindsEnd search.now) }
-{
-    let mut maps = search.start.try_copy(search.alloc)?;
-    let mut op = None;
-    let mut index = 0;
-    while index < search.count {
-        let next = search.skip_quiet(op, index).min(search.count);
-        if index < next {
-            index = next;
-            continue;
-        }
-        let trace = trace_iteration(
-            search.alloc,
-            search.program,
-            search.call,
-            &mut maps,
-            index,
-            search.element,
-        )?;
-        if let Some(slot) = end_slot(op, trace.slots) {
-            return Ok(Some(Place { index, slot }));
-        }
-        op = operator_after(op, trace.slots.reduce);
-        index += 1;
-    }
-    Ok(None)
-}
-
 /// The access by which an element isn't reduction-only: of the counted iterations of a loop call that main of this
 /// program made, each run on the start maps, the first access of the element that isn't a reduce by the operator of the
 /// first one. `None` if the element is reduction-only, or isn't accessed. The start maps are of the program's sizes,
@@ -94,5 +63,21 @@ pub fn find_end_of_reduction(
         count: counted_by(program, call, start, broke),
         survey,
     };
-    end_of_reduction(&search)
+    let mut maps = start.try_copy(alloc)?;
+    let mut op = None;
+    let mut index = 0;
+    while index < search.count {
+        let next = search.skip_quiet(op, index).min(search.count);
+        if index < next {
+            index = next;
+            continue;
+        }
+        let trace = trace_iteration(alloc, program, call, &mut maps, index, element)?;
+        if let Some(slot) = end_slot(op, trace.slots) {
+            return Ok(Some(Place { index, slot }));
+        }
+        op = operator_after(op, trace.slots.reduce);
+        index += 1;
+    }
+    Ok(None)
 }

@@ -3,9 +3,9 @@
 ghost use Rattle.std.specs.Prelude.{◌≡◌, ◌<◌, ◌≤◌, ◌++◌, IfOk, OnOk};
 ghost use Rattle.bpf_verify_sound.specs.Soundness.{OverApproximatesCall};
 ghost use Rattle.loop_core_witness.specs.Choosing.{indices_of};
-ghost use Rattle.loop_core_witness.specs.Grids.{IsGridRow, AreRows, ShowsSpans, IsGrid, indices};
+ghost use Rattle.loop_core_witness.specs.Grids.{IsGridRow, AreRows, IsGrid, indices};
 
-use crate::choosing::{Span, lower_span, shown_elements, upper_span};
+use crate::choosing::{Span, shown_elements, spans_of};
 use crate::focus::Focus;
 use crate::grid::{Cell, Grid, Row};
 use crate::touching::touched_elements;
@@ -68,38 +68,6 @@ fn add_rows(
     Ok(())
 }
 
-/// What the iterations of two spans do at the elements that they access.
-fn grid_of_spans(
-    alloc: Global,
-    program: &Verified,
-    call: &LoopCall,
-    start: &Maps,
-    lower: Span,
-    upper: Span,
-    focus: Option<Focus>,
-) -> Result<Grid, AllocError>
-    requires known { OverApproximatesCall program.now call.now }
-    requires sizes { start.now.sizes ≡ program.now.sizes }
-    requires rising { lower.from ≤ lower.past }
-    requires within { lower.past ≤ call.now.n }
-    requires upper_rising { upper.from ≤ upper.past }
-    requires upper_within { upper.past ≤ call.now.n }
-    ensures { IfOk result (ShowsSpans program.now call.now start.now.words lower upper focus) }
-{
-    let touched = touched_elements(alloc, program, call, start, lower, upper)?;
-    let elements = shown_elements(alloc, touched.as_slice(), focus)?;
-    let mut rows = Vec::new(alloc);
-    let columns = elements.as_slice();
-    add_rows(&mut rows, alloc, program, call, start, lower, columns)?;
-    add_rows(&mut rows, alloc, program, call, start, upper, columns)?;
-    Ok(Grid {
-        elements,
-        rows,
-        lower,
-        upper,
-    })
-}
-
 /// What the first `count` iterations of a loop call that main of this program made do, each run on the start maps:
 /// at most 64 of them, and at most 64 of the elements that these access, with both iterations and the element of a
 /// focus in their middle where that can be. Iterations of a focus that are further apart have 32 rows each around them.
@@ -117,8 +85,17 @@ pub fn grid_of_loop(
     requires sizes { start.now.sizes ≡ program.now.sizes }
     ensures { IfOk result (IsGrid program.now call.now start.now.words count focus) }
 {
-    let shown = count.min(call.n());
-    let lower = lower_span(shown, focus);
-    let upper = upper_span(shown, focus);
-    grid_of_spans(alloc, program, call, start, lower, upper, focus)
+    let (lower, upper) = spans_of(count.min(call.n()), focus);
+    let touched = touched_elements(alloc, program, call, start, lower, upper)?;
+    let elements = shown_elements(alloc, touched.as_slice(), focus)?;
+    let columns = elements.as_slice();
+    let mut rows = Vec::new(alloc);
+    add_rows(&mut rows, alloc, program, call, start, lower, columns)?;
+    add_rows(&mut rows, alloc, program, call, start, upper, columns)?;
+    Ok(Grid {
+        elements,
+        rows,
+        lower,
+        upper,
+    })
 }

@@ -39,6 +39,7 @@ mod witness;
 
 pub use breaking::find_break;
 pub use choosing::Span;
+pub use counting::counted_by;
 pub use ending::find_end_of_reduction;
 pub use explained::{Cause, Explained, LoopExplained};
 pub use focus::Focus;
@@ -47,4 +48,5 @@ pub use grid::{Cell, Grid, Row};
 pub use pairing::find_pair;
 pub use place::Place;
 pub use survey::{Stretch, Survey};
+pub use touching::block_of;
 pub use witness::Witness;

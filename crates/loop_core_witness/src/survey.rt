@@ -1,12 +1,12 @@
 //! What the iterations of a loop did, stretch by stretch.
 
 ghost use Rattle.std.specs.Prelude.{◌≡◌, ◌/◌, ◌<◌, length};
-ghost use Rattle.shadow_marks.specs.{Standing.{ArePlanes, EachPlane}, Ending.{LrpdHave}};
-ghost use Rattle.loop_core_witness.specs.Surveys.{lacks_kind, is_other, reduces_by_other, does_more};
+ghost use Rattle.shadow_marks.specs.Standing.{ArePlanes, EachPlane};
+ghost use Rattle.loop_core_witness.specs.Surveys.{is_other, reduces_by_other, does_more};
 
 use crate::kind::Kind;
 use array_maps::Op;
-use shadow_marks::{LrpdPlanes, OperatorPlanes, Planes, Tested, is_set};
+use shadow_marks::{OperatorPlanes, Planes, Tested, is_set};
 
 /// Iterations of a loop call that follow each other, each run on the start maps. None of them breaks the loop.
 #[derive(Drop)]
@@ -26,17 +26,6 @@ pub struct Survey {
     pub size: u32,
     /// The stretches.
     pub stretches: Vec<Stretch>,
-}
-
-/// Whether no iteration does what is looked for at an element, as planes show.
-fn lacks_kind(kind: Kind, planes: &LrpdPlanes, e: u32) -> bool
-    requires { LrpdHave planes.now e }
-    ensures { result ≡ lacks_kind kind planes.now e }
-{
-    match kind {
-        Kind::FirstWrite => !is_set(&planes.written, e),
-        Kind::ExposedRead => !is_set(&planes.read_only, e) && !is_set(&planes.read_and_written, e),
-    }
 }
 
 /// Whether an operator isn't the one that is kept, if one is.
@@ -77,15 +66,19 @@ impl Stretch {
     ghost use Rattle.loop_core_witness.specs.Surveys.{lacks, is_quiet};
 
     /// Whether none of its iterations does what is looked for at an element, as its planes show.
-    pub(crate) fn lacks(&self, kind: Kind, element: u32) -> bool
+    pub(crate) fn lacks(&self, kind: Kind, e: u32) -> bool
         requires { ArePlanes self.now.planes }
-        ensures { result ≡ lacks kind self.now.planes element }
+        ensures { result ≡ lacks kind self.now.planes e }
     {
-        match &self.planes.tested {
-            Tested::Lrpd(planes) => element < self.planes.elements
-                && lacks_kind(kind, planes, element),
-            Tested::Flow(_) => false,
-        }
+        let Tested::Lrpd(planes) = &self.planes.tested else {
+            return false;
+        };
+        e < self.planes.elements
+            && match kind {
+                Kind::FirstWrite => !is_set(&planes.written, e),
+                Kind::ExposedRead => !is_set(&planes.read_only, e)
+                    && !is_set(&planes.read_and_written, e),
+            }
     }
 
     /// Whether its iterations don't end a reduction of an element by an operator, as its planes show; if there was

@@ -1,11 +1,10 @@
 //! Which elements iterations access.
 
-ghost use Rattle.std.specs.Prelude.{◌≡◌, ◌<◌, ◌≤◌, ◌||◌, if◌then◌else◌, [], ◌∷◌, ◌++◌, None, IfOk, OnOk};
+ghost use Rattle.std.specs.Prelude.{◌≡◌, ◌≤◌, IfOk};
 ghost use Rattle.bpf_verify_sound.specs.Soundness.{OverApproximatesCall};
 ghost use Rattle.loop_core_block.specs.{Ran.{RecordsRun}, Shown.{shown}};
-ghost use Rattle.loop_core_model.specs.declared.loop_test.Test.TheVariants.{Flow};
 ghost use Rattle.shadow_marks.specs.Standing.{ArePlanes};
-ghost use Rattle.loop_core_witness.specs.{Surveys.{does_more}, Touching.{AreTouched, marked_by}};
+ghost use Rattle.loop_core_witness.specs.Touching.{AreTouched, marked_by};
 
 use crate::choosing::Span;
 use crate::survey::does_more;
@@ -18,28 +17,16 @@ use loop_core_split::{NoGate, Split};
 use shadow_marks::Planes;
 use std::alloc::{AllocError, Global};
 
-/// The split of a call's n iterations of which block 1 is a span.
+/// What the iterations of a span of a loop call that main of this program made do, up to the first that breaks; each
+/// runs on the start maps, which are of the program's sizes. The planes are for this test.
 #[tactic(auto, using(crate::proofs::SpanLaws::no_fault))]
-fn split_at(alloc: Global, span: Span, n: u32) -> Result<Split, AllocError>
-    requires rising { span.from ≤ span.past }
-    requires within { span.past ≤ n }
-    ensures { IfOk result (λ split. split ≡ 0 ∷ span.from ∷ span.past ∷ n ∷ []) }
-{
-    let mut bounds = Vec::new(alloc);
-    bounds.extend_from_slice(&[0, span.from, span.past, n])?;
-    match Split::of(bounds, n) {
-        Ok(split) => Ok(split),
-        Err(_) => unreachable!(),
-    }
-}
-
-/// What the iterations of a span do.
-fn block_of<'a>(
+pub fn block_of<'a>(
     alloc: Global,
     program: &Verified,
     call: &LoopCall,
     start: &'a Maps,
     span: Span,
+    test: Test,
 ) -> Result<Block<'a>, AllocError>
     requires known { OverApproximatesCall program.now call.now }
     requires sizes { start.now.sizes ≡ program.now.sizes }
@@ -47,30 +34,15 @@ fn block_of<'a>(
     requires within { span.past ≤ call.now.n }
     ensures first { IfOk result (λ b. (shown b).first ≡ span.from) }
     ensures past { IfOk result (λ b. (shown b).past ≡ span.past) }
-    ensures ran { IfOk result (λ b. RecordsRun Flow program.now call.now start.now.words (shown b)) }
+    ensures ran { IfOk result (λ b. RecordsRun test program.now call.now start.now.words (shown b)) }
 {
-    let split = split_at(alloc, span, call.n())?;
-    run_block(alloc, program, call, start, &split, 1, &NoGate, Test::Flow)
-}
-
-/// Adds an element, if iterations of one of two blocks accessed it.
-fn add_if_marked(
-    elements: &mut Vec<u32>,
-    lower: &Planes,
-    upper: &Planes,
-    element: u32,
-) -> Result<(), AllocError>
-    requires lower { ArePlanes lower.now }
-    requires upper { ArePlanes upper.now }
-    requires in_lower { element < lower.now.elements }
-    requires in_upper { element < upper.now.elements }
-    ensures { OnOk result (elements.new.items ≡ elements.old.items
-        ++ (if does_more lower.now None element || does_more upper.now None element then element ∷ [] else [])) }
-{
-    if does_more(lower, None, element) || does_more(upper, None, element) {
-        elements.push(element)?;
-    }
-    Ok(())
+    let n = call.n();
+    let mut bounds = Vec::new(alloc);
+    bounds.extend_from_slice(&[0, span.from, span.past, n])?;
+    let Ok(split) = Split::of(bounds, n) else {
+        unreachable!()
+    };
+    run_block(alloc, program, call, start, &split, 1, &NoGate, test)
 }
 
 /// The elements that the planes of one of two blocks mark as accessed, rising.
@@ -82,7 +54,9 @@ fn marked_elements(alloc: Global, lower: &Planes, upper: &Planes) -> Result<Vec<
 {
     let mut elements = Vec::new(alloc);
     for element in 0..lower.elements {
-        add_if_marked(&mut elements, lower, upper, element)?;
+        if does_more(lower, None, element) || does_more(upper, None, element) {
+            elements.push(element)?;
+        }
     }
     Ok(elements)
 }
@@ -106,7 +80,7 @@ pub(crate) fn touched_elements(
     ensures { IfOk result (λ elements.
         AreTouched program.now call.now start.now.words lower upper elements.items) }
 {
-    let below = block_of(alloc, program, call, start, lower)?;
-    let above = block_of(alloc, program, call, start, upper)?;
+    let below = block_of(alloc, program, call, start, lower, Test::Flow)?;
+    let above = block_of(alloc, program, call, start, upper, Test::Flow)?;
     marked_elements(alloc, below.planes(), above.planes())
 }

@@ -1,6 +1,6 @@
 -- The loop calls that main made so far, explained one by one.
 use Rattle.std.proofs.Common.{◌≡◌, ℕ, ℤ, pos, List, [], ◌∷◌, ◌++◌, None, refl, sym, ap, subst, ◌∙◌}
-use Rattle.std.specs.Prelude.{Bool}
+use Rattle.std.specs.Prelude.{Bool, true, false}
 use Rattle.bpf_insn_types.specs.Program.{Program}
 use Rattle.bpf_step_model.specs.{declared.refused_call.RefusedCall.{RefusedCall}, State.{LoopCall}, Run.{Ended, mapped}}
 use Rattle.bpf_step_model.specs.ProgramInOrder.{LoopMade, valid_call, refused_call}
@@ -27,12 +27,16 @@ wants_on wants loops last added is so_far =
     is ∙ ap (λ (b : Bool). still_wants b last.grid) so_far ∙ sym (wants_last wants loops last)
     ∙ ap (wants_after wants) (sym added)
 
+with_none : (wants : Bool) → wants ≡ still_wants wants None
+with_none true = refl
+with_none false = refl
+
 -- a call of which no grid is shown changes nothing
 pub wants_still : (wants : Bool) (loops : List LoopExplained) {now : Bool} {explained : List LoopExplained}
     (last : LoopExplained) → explained ≡ loops ++ last ∷ [] → last.grid ≡ None → now ≡ wants_after wants loops
     → now ≡ wants_after wants explained
 wants_still wants loops {now} last added none so_far =
-    wants_on wants loops last added (ap (still_wants now) (sym none)) so_far
+    wants_on wants loops last added (with_none now ∙ ap (still_wants now) (sym none)) so_far
 
 module _ {test : Test} {program : Program} {most : ℕ} where
   -- one call more is explained

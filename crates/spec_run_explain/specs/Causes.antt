@@ -1,6 +1,6 @@
 -- Which way loops go, and why they conflict.
 use Rattle.std.specs.Prelude.{◌≡◌, ℕ, pos, Bool, true, false, ◌&&◌, List, [], ◌∷◌, Option, Some, None, map, length}
-use Rattle.std.specs.{Prelude.{take}, List.{AllByRecursion}}
+use Rattle.std.specs.{Prelude.{take, is_none}, List.{AllByRecursion}}
 use Rattle.array_maps.specs.Accesses.{Access}
 use Rattle.bpf_insn_types.specs.Program.{Program}
 use Rattle.bpf_step_model.specs.{declared.refused_call.RefusedCall.{RefusedCall}, State.{LoopCall}}
@@ -13,24 +13,17 @@ use Rattle.loop_core_witness.specs.declared.explained.LoopExplained.{LoopExplain
 use Rattle.loop_core_model.specs.{declared.{loop_test.Test.{Test}, verdict.LoopReport.{LoopReport}}, Report.{verdict}}
 use Rattle.loop_core_model.specs.{declared.verdict.Verdict.TheVariants.{Refused}, LeastBreak.{counted_runs}}
 use Rattle.loop_core_model.specs.Conflict.{fails, at_element, conflicting}
-use Rattle.loop_core_split.specs.declared.{strategy.Strategy.{Strategy}, plan.{Plan.{Plan}, Policy.TheVariants.{Pays}}}
+use Rattle.loop_core_split.specs.declared.{strategy.Strategy.{Strategy}, plan.Policy.TheVariants.{Pays}}
 use Rattle.spec_run_loop.specs.{Strategies.{IsStrategyUsed}, Jobs.{JobOf}}
 use Rattle.spec_run_explain.specs.Showing.{is_conflict, Shows}
 
--- the plan of a run that isn't given workers and blocks: at most 2 and 4 of them, each loop going the way that pays
-abbrev pub default_plan : Test → Plan
-default_plan test = record { workers = 2; blocks = 4; test = test; policy = Pays }
-
--- a loop call that goes by that plan
+-- a loop call in a run that isn't given workers and blocks: at most 2 and 4 of them, each loop going the way that pays
 abbrev pub job_by : Test → Program → LoopCall → JobOf
-job_by test program call = record { program = program; call = call; plan = default_plan test }
-
--- which way it goes from these words is reported
-pub record HasStrategy (test : Test) (program : Program) (call : LoopCall) (words : List ℕ) (reported : Option Strategy)
-    : Type 0 where
-  pub strategy : Strategy
-  pub is : reported ≡ Some strategy
-  pub goes : IsStrategyUsed (job_by test program call) words strategy
+job_by test program call = record {
+  program = program;
+  call = call;
+  plan = record { workers = 2; blocks = 4; test = test; policy = Pays };
+}
 
 -- the counted iterations of a loop call on these words fail a test at an element
 pub record FailsAt (test : Test) (program : Program) (call : LoopCall) (words : List ℕ) (element : ℕ) : Type 0 where
@@ -48,19 +41,8 @@ pub record IsCause (test : Test) (program : Program) (call : LoopCall) (words : 
   pub pair : Explains test program call words cause.element (Some cause.witness)
   pub end : HasEnd program call words cause.element cause.end
 
--- each cause is so
-abbrev pub AreCauses : Test → Program → LoopCall → List ℕ → List Cause → Type 0
-AreCauses test program call words causes = AllByRecursion (IsCause test program call words) causes
-
--- these are the elements that conflict, or the least of them, at most `most`
-pub record AreLeast (test : Test) (program : Program) (call : LoopCall) (words : List ℕ) (most : ℕ)
-    (elements : List ℕ) : Type 0 where
-  pub runs : List (List Access)
-  pub counted : counted_runs program 4096 call words ≡ Ended runs
-  pub least : elements ≡ take most (conflicting test runs (length words))
-
 -- so a loop call on these words is explained that answers this in order: its causes are those of the least elements
--- that conflict; which way it goes is reported; and a grid is shown, if it conflicts and one is wanted
+-- that conflict, at most `most`; which way it goes is reported; and a grid is shown, if it conflicts and one is wanted
 pub record IsExplained (test : Test) (program : Program) (call : LoopCall) (words : List ℕ) (most : ℕ)
     (wants_grid : Bool) (answer : ℕ) (explained : LoopExplained) : Type 0 where
   pub slot : explained.line.slot ≡ call.slot
@@ -69,9 +51,13 @@ pub record IsExplained (test : Test) (program : Program) (call : LoopCall) (word
   pub iterations : explained.iterations ≡ call.n
   pub flags : explained.flags ≡ 0
   pub broke : IsBreak program call words explained.broke
-  pub strategy : HasStrategy test program call words explained.strategy
-  pub elements : AreLeast test program call words most (cause_elements explained.causes.items)
-  pub causes : AreCauses test program call words explained.causes.items
+  pub course : Strategy
+  pub strategy : explained.strategy ≡ Some course
+  pub goes : IsStrategyUsed (job_by test program call) words course
+  pub runs : List (List Access)
+  pub counted : counted_runs program 4096 call words ≡ Ended runs
+  pub elements : cause_elements explained.causes.items ≡ take most (conflicting test runs (length words))
+  pub causes : AllByRecursion (IsCause test program call words) explained.causes.items
   pub grid : Shows program call words explained.causes.items (wants_grid && is_conflict explained.line.verdict)
       explained.grid
 
@@ -91,8 +77,7 @@ pub data IsCallExplained (test : Test) (program : Program) (most : ℕ) (wants_g
 
 -- whether a grid is wanted after a loop call of which this one is shown, or none
 abbrev pub still_wants : (wants_grid : Bool) → Option Grid → Bool
-still_wants wants_grid None = wants_grid
-still_wants wants_grid (Some grid) = false
+still_wants wants_grid grid = wants_grid && is_none grid
 
 -- and after several
 abbrev pub wants_after : Bool → List LoopExplained → Bool

@@ -4,15 +4,13 @@ use Rattle.bpf_insn_types.specs.Program.{Program}
 use Rattle.bpf_step_model.specs.State.{LoopCall}
 use Rattle.loop_core_witness.specs.{declared.{focus.Focus.{Focus}, grid.Grid.{Grid}}, Grids.{IsGrid}}
 use Rattle.loop_core_witness.specs.declared.explained.Cause.{Cause}
-use Rattle.loop_core_model.specs.declared.verdict.Verdict.{Verdict, TheVariants.{Parallel, Conflict, Refused, InOrder}}
+use Rattle.loop_core_model.specs.declared.verdict.Verdict.{Verdict, TheVariants.{Conflict}}
 use Rattle.loop_core_model.specs.LeastBreak.{counted}
 
 -- whether a loop conflicts
 abbrev pub is_conflict : Verdict → Bool
-is_conflict Parallel = false
 is_conflict (Conflict count least) = true
-is_conflict Refused = false
-is_conflict InOrder = false
+is_conflict _ = false
 
 -- the element of a cause, its writer and its reader
 abbrev pub pair_of : Cause → Focus

@@ -1,10 +1,9 @@
 //! Explaining a loop call.
 
-ghost use Rattle.std.specs.{Prelude.{◌≡◌, Some, IfOk}, List.{All}};
+ghost use Rattle.std.specs.{Prelude.{◌≡◌, IfOk}, List.{All, AllByRecursion}};
 ghost use Rattle.bpf_verify_sound.specs.Soundness.{OverApproximatesCall};
-ghost use Rattle.loop_core_witness.specs.{Breaks.{IsBreak}, Reductions.{HasEnd}, Surveys.{IsSurvey}};
-ghost use Rattle.loop_core_witness.specs.Witnesses.{Explains};
-ghost use Rattle.spec_run_explain.specs.Causes.{AreCauses, FailsAt, IsExplained, cause_elements, job_by};
+ghost use Rattle.loop_core_witness.specs.{Breaks.{IsBreak}, Surveys.{IsSurvey}};
+ghost use Rattle.spec_run_explain.specs.Causes.{FailsAt, IsCause, IsExplained, cause_elements, job_by};
 ghost use Rattle.spec_run_loop.specs.Strategies.{IsStrategyUsed};
 
 use crate::finding::find_conflicts;
@@ -21,40 +20,8 @@ use loop_core_witness::{
 use spec_run_loop::{LoopJob, Strategy, predict_strategy};
 use std::alloc::{AllocError, Global};
 
-/// The cause of an element at which the loop fails the test.
-#[tactic(auto, using(crate::proofs::CauseLaws::fails_here))]
-fn cause_of(
-    alloc: Global,
-    program: &Verified,
-    call: &LoopCall,
-    start: &Maps,
-    test: Test,
-    element: u32,
-    broke: Option<Place>,
-    survey: &Survey,
-) -> Result<Cause, AllocError>
-    requires known { OverApproximatesCall program.now call.now }
-    requires sizes { start.now.sizes ≡ program.now.sizes }
-    requires broke { IsBreak program.now call.now start.now.words broke }
-    requires survey { IsSurvey program.now call.now start.now.words survey.now }
-    requires failing { FailsAt test program.now call.now start.now.words element }
-    ensures element { IfOk result (λ cause. cause.element ≡ element) }
-    ensures pair { IfOk result (λ cause.
-        Explains test program.now call.now start.now.words cause.element (Some cause.witness)) }
-    ensures end { IfOk result (λ cause. HasEnd program.now call.now start.now.words cause.element cause.end) }
-{
-    let end = find_end_of_reduction(alloc, program, call, start, element, broke, survey)?;
-    match find_pair(alloc, program, call, start, test, element, broke, survey)? {
-        Some(witness) => Ok(Cause {
-            element,
-            witness,
-            end,
-        }),
-        None => unreachable!(),
-    }
-}
-
 /// The causes of elements at which the loop fails the test.
+#[tactic(auto, using(crate::proofs::CauseLaws::fails_here))]
 fn causes_of(
     alloc: Global,
     program: &Verified,
@@ -71,12 +38,20 @@ fn causes_of(
     requires survey { IsSurvey program.now call.now start.now.words survey.now }
     requires failing { All (FailsAt test program.now call.now start.now.words) elements.now }
     ensures elements { IfOk result (λ causes. cause_elements causes.items ≡ elements.now) }
-    ensures causes { IfOk result (λ causes. AreCauses test program.now call.now start.now.words causes.items) }
+    ensures causes { IfOk result (λ causes.
+        AllByRecursion (IsCause test program.now call.now start.now.words) causes.items) }
 {
     let mut causes = Vec::new(alloc);
     for element in elements {
-        let cause = cause_of(alloc, program, call, start, test, *element, broke, survey)?;
-        causes.push(cause)?;
+        let element = *element;
+        let end = find_end_of_reduction(alloc, program, call, start, element, broke, survey)?;
+        let pair = find_pair(alloc, program, call, start, test, element, broke, survey)?;
+        let Some(witness) = pair else { unreachable!() };
+        causes.push(Cause {
+            element,
+            witness,
+            end,
+        })?;
     }
     Ok(causes)
 }

@@ -2,7 +2,6 @@
 
 ghost use Rattle.std.specs.Prelude.{◌≡◌, None, IfOk};
 ghost use Rattle.bpf_verify_sound.specs.Soundness.{OverApproximatesCall};
-ghost use Rattle.loop_core_model.specs.Split.{even_bounds};
 ghost use Rattle.spec_run_explain.specs.Conflicting.{AreConflicts};
 
 use crate::conflicts::Conflicts;
@@ -16,20 +15,10 @@ use loop_core_model::Test;
 use loop_core_split::{NoGate, Split};
 use std::alloc::{AllocError, Global};
 
-/// The split of n iterations into one block.
-#[tactic(auto, using(crate::proofs::ListLaws::one_block))]
-fn one_block(n: u32) -> Split
-    ensures { result ≡ even_bounds n 1 }
-{
-    match Split::even(n, 1) {
-        Ok(split) => split,
-        Err(_) => unreachable!(),
-    }
-}
-
 /// The verdict by a test on a loop call that main of this program made, where it breaks, and the least elements that
 /// conflict: at most `most`, rising. Its iterations run on the start maps, which are of the program's sizes and don't
 /// change, up to the first that breaks.
+#[tactic(auto, using(crate::proofs::ListLaws::one_block))]
 pub fn find_conflicts(
     alloc: Global,
     program: &Verified,
@@ -44,7 +33,9 @@ pub fn find_conflicts(
 {
     // For the proof: there are at most 65,536 words.
     let _words = start.words();
-    let split = one_block(call.n());
+    let Ok(split) = Split::even(call.n(), 1) else {
+        unreachable!()
+    };
     let block = run_block(alloc, program, call, start, &split, 0, &NoGate, test)?;
     let plane = conflict_plane(alloc, block.planes())?;
     let least = least_elements(alloc, plane.as_slice(), most)?;

@@ -1,45 +1,22 @@
 //! What is shown of a loop call that conflicts.
 
-ghost use Rattle.std.specs.Prelude.{◌≡◌, ◌<◌, ◌&&◌, Some, IfOk};
+ghost use Rattle.std.specs.Prelude.{◌≡◌, ◌&&◌, IfOk};
 ghost use Rattle.bpf_verify_sound.specs.Soundness.{OverApproximatesCall};
-ghost use Rattle.loop_core_model.specs.LeastBreak.{count_to};
-ghost use Rattle.loop_core_witness.specs.{declared.place.Place.{Place as At}, Breaks.{IsBreak, index_of}};
+ghost use Rattle.loop_core_witness.specs.Breaks.{IsBreak};
 ghost use Rattle.spec_run_explain.specs.Showing.{first_pair, is_conflict, Shows};
 
 use array_maps::Maps;
 use bpf_step::LoopCall;
 use bpf_verify::Verified;
 use loop_core_model::Verdict;
-use loop_core_witness::{Cause, Focus, Grid, Place, grid_of_loop};
+use loop_core_witness::{Cause, Focus, Grid, Place, counted_by, grid_of_loop};
 use std::alloc::{AllocError, Global};
 
-/// Whether a loop conflicts.
-fn is_conflict(verdict: Verdict) -> bool
-    ensures { result ≡ is_conflict verdict }
-{
-    match verdict {
-        Verdict::Conflict { .. } => true,
-        Verdict::Parallel | Verdict::Refused | Verdict::InOrder => false,
-    }
-}
-
-/// Whether a grid is shown of a loop, if one is wanted.
+/// Whether a grid is shown of a loop: if one is wanted, and the loop conflicts.
 pub(crate) fn is_shown(wanted: bool, verdict: Verdict) -> bool
     ensures { result ≡ (wanted && is_conflict verdict) }
 {
-    wanted && is_conflict(verdict)
-}
-
-/// How many iterations count: up to the break, or all.
-fn counted_by(call: &LoopCall, broke: Option<Place>) -> u32
-    requires within { (place : At) → broke ≡ Some place → place.index < call.now.n }
-    ensures { result ≡ count_to call.now.n (index_of broke) }
-{
-    let n = call.n();
-    match broke {
-        Some(place) => place.index + 1,
-        None => n,
-    }
+    wanted && matches!(verdict, Verdict::Conflict { .. })
 }
 
 /// The pair of the first of some causes.
@@ -74,7 +51,7 @@ pub(crate) fn grid_if(
     if !wanted {
         return Ok(None);
     }
-    let count = counted_by(call, broke);
+    let count = counted_by(program, call, start, broke);
     let grid = grid_of_loop(alloc, program, call, start, count, first_pair(causes))?;
     Ok(Some(grid))
 }

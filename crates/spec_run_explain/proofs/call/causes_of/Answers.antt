@@ -1,15 +1,15 @@
-use Rattle.std.proofs.Common.{arith}
+use Rattle.std.proofs.Common.{refl, arith}
 use Rattle.spec_run_explain.proofs.{CauseLaws.{one_more, all_causes}, ExplainLaws.{all_last}}
 use Rattle.spec_run_explain.proofs.call.causes_of.Goals as goal
 
 pub loop-element-preserved : goal.loop-element-preserved
 loop-element-preserved c = record {
-  elements = one_more c.loop-element.causes.items c.push.new.self.items c.in_ok-cause.cause c.args.elements.now
-      c.loop-element.element-index _ c.loop-element-test.true c.in_ok-push.ensures.items c.in_ok-cause.ensures.element
+  elements = one_more c.loop-element.causes.items c.push.new.self.items _ c.args.elements.now
+      c.loop-element.element-index _ c.loop-element-test.true c.in_ok-push.ensures.items refl
       c.loop-element.invariant.elements;
-  causes_are = all_last _ c.loop-element.causes.items c.push.new.self.items c.in_ok-cause.cause
+  causes_are = all_last _ c.loop-element.causes.items c.push.new.self.items _
       c.in_ok-push.ensures.items c.loop-element.invariant.causes_are
-      (record { pair = c.in_ok-cause.ensures.pair; end = c.in_ok-cause.ensures.end });
+      (record { pair = rw c.in-Some.is at c.in_ok-pair.ensures.pair; end = c.in_ok-end.ensures.end });
 }
 
 pub returns : goal.returns

@@ -16,9 +16,9 @@ returns c =
       least = c.in_ok-least.least;
     })
     c.in_ok-block.ensures.ran
-    (c.in_ok-block.ensures.first ∙ ap (λ (bounds : List ℕ). start_of bounds 0) c.one_block-split.ensures
+    (c.in_ok-block.ensures.first ∙ ap (λ (bounds : List ℕ). start_of bounds 0) c.in-Ok.ensures.ok
     ∙ one_starts c.n.result)
-    (c.in_ok-block.ensures.past ∙ ap (λ (bounds : List ℕ). end_of bounds 0) c.one_block-split.ensures
+    (c.in_ok-block.ensures.past ∙ ap (λ (bounds : List ℕ). end_of bounds 0) c.in-Ok.ensures.ok
     ∙ one_ends c.n.result ∙ c.n.ensures)
     c.in_ok-plane.ensures.words
     (subst (λ (p : Planes). (visits : ℕ → List Visit) → StandFor p visits → elements_in_plane plane

@@ -1,16 +1,7 @@
-use Rattle.std.{proofs.Common.{◌≡◌, ℕ, Option, Some, None, refl, sym, subst, ◌∙◌}, specs.Prelude.{Bool}}
-use Rattle.loop_core_witness.specs.{declared.focus.Focus.{Focus}, Grids.{IsGrid}, Breaks.{IsBreak}}
-use Rattle.loop_core_witness.proofs.BreakLaws.{break_within, counted_is}
-use Rattle.loop_core_model.specs.LeastBreak.{counted}
+use Rattle.std.{proofs.Common.{ℕ, Option, Some, None, refl, sym, subst}, specs.Prelude.{Bool}}
+use Rattle.loop_core_witness.specs.{declared.focus.Focus.{Focus}, Grids.{IsGrid}}
 use Rattle.spec_run_explain.specs.Showing.{first_pair, Shows}
 use Rattle.spec_run_explain.proofs.showing.grid_if.Goals as goal
-
-pub counted_by-count-requires : goal.counted_by-count-requires
-counted_by-count-requires c = record {
-  within = λ place same.
-      break_within c.args.program.now c.args.call.now c.args.start.now.words place
-      (subst (IsBreak c.args.program.now c.args.call.now c.args.start.now.words) same c.requires.broke);
-}
 
 pub returns-then-not-wanted : goal.returns-then-not-wanted
 returns-then-not-wanted c =
@@ -24,9 +15,7 @@ returns c =
     let words = c.args.start.now.words in
     let causes = c.args.causes.now in
     let grid = c.in_ok-grid.grid in
-    let count_is : c.counted_by-count.result ≡ counted program 4096 call words =
-    c.counted_by-count.ensures ∙ counted_is program call words c.args.broke c.requires.broke in
     subst (λ (wanted : Bool). Shows program call words causes wanted (Some grid)) (sym c.if-not-wanted.false)
-    (subst (λ (count : ℕ). IsGrid program call words count (first_pair causes) grid) count_is
+    (subst (λ (count : ℕ). IsGrid program call words count (first_pair causes) grid) c.counted_by-count.ensures.all
     (subst (λ (focus : Option Focus). IsGrid program call words c.counted_by-count.result focus grid)
     c.first_pair.ensures c.in_ok-grid.ensures))
