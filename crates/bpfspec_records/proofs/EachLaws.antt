@@ -4,8 +4,8 @@ use Rattle.std.proofs.Common.{append_assoc, add-one, sym, ap, ◌∙◌, arith, 
 use Rattle.bpf_insn_types.specs.{declared.insn.Insn.{Insn}, Program.{Program}}
 use Rattle.bpf_verify_model.specs.declared.{abstract_value.AbstractValue.{AbstractValue}, state.State.{State}}
 use Rattle.bpf_verify_model.specs.States.{known_register}
-use Rattle.bpfspec_records.specs.declared.records.Record.{Record, TheVariants.{Map}}
-use Rattle.bpfspec_records.specs.Units.{each_below, map_records, read_record, value_record}
+use Rattle.bpfspec_records.specs.declared.records.Record.{Record}
+use Rattle.bpfspec_records.specs.Units.{each_below, read_record, value_record}
 
 -- of no number there are no records
 pub each_begun : (records : ℕ → List Record) (start : List Record) → start ≡ start ++ each_below records 0
@@ -30,17 +30,6 @@ front_suc (first ∷ xs) (suc i) x within read = front_suc xs i x (omega arith) 
 pub front : {X : Type 0} (xs : List X) (i : ℕ) (x : X) → i < length xs → x ≡ get_or xs i x → drop i xs ≡ x
     ∷ drop (i + 1) xs
 front xs i x within read = rw add-one (front_suc xs i x within read)
-
--- one more map
-pub map_more : (sizes : List ℕ) (map elements : ℕ) (before after whole : List Record) → map < length sizes
-    → elements ≡ get_or sizes map elements → before ++ map_records map (drop map sizes) ≡ whole
-    → after ≡ before ++ Map map elements ∷ []
-    → after ++ map_records (map + 1) (drop (map + 1) sizes) ≡ whole
-map_more sizes map elements before after whole within read so_far added =
-    ap (λ (rs : List Record). rs ++ map_records (map + 1) (drop (map + 1) sizes)) added
-    ∙ append_assoc before (Map map elements ∷ []) (map_records (map + 1) (drop (map + 1) sizes))
-    ∙ ap (λ (ss : List ℕ). before ++ map_records map ss) (sym (front sizes map elements within read))
-    ∙ so_far
 
 -- the value of one register more
 pub value_next : (slot : ℕ) (to : Option ℕ) (state : State) (n register : ℕ) (value : AbstractValue)

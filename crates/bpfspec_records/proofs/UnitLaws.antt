@@ -1,6 +1,6 @@
 -- The instructions up to the first fault, and what is known there.
-use Rattle.std.proofs.Common.{◌≡◌, ℕ, ◌+◌, ◌<◌, ◌≤◌, Bool, true, false, not, ◌||◌, List, [], ◌∷◌, ◌++◌}
-use Rattle.std.proofs.Common.{length, drop, get_or, append-nil, append_assoc, refl, sym, ap, ◌∙◌, arith, Option, Some}
+use Rattle.std.proofs.Common.{◌≡◌, ℕ, ◌+◌, ◌<◌, ◌≤◌, Bool, true, false, not, ◌||◌, List, [], ◌++◌}
+use Rattle.std.proofs.Common.{length, drop, get_or, append_assoc, refl, sym, ap, ◌∙◌, arith, Option, Some}
 use Rattle.std.{proofs.Common.{None, is_some}, specs.Prelude.{IfSome, nat_eq, nat_lt, if◌then◌else◌}}
 use Rattle.std.proofs.lemmas.Bool.Decides.{nat_tests}
 use Rattle.bpf_insn_types.specs.{declared.insn.Insn.{Insn}, Limits.{sizes_fit}, Slots.{slots_of}}
@@ -97,16 +97,3 @@ insns-more with_values program insns slot next i insn before after whole within 
     ∙ ap (λ (rs : List Record). before ++ rs) (sym all)
     ∙ ap (λ (is : List Insn). before ++ insn_records with_values program slot is) (sym (front insns i insn within read))
     ∙ so_far
-
--- none past the first fault
-pub insns-past : (with_values : Bool) (program : Program) (insns : List Insn) (slot : ℕ)
-    → is_up_to (first_fault program) slot ≡ false → insn_records with_values program slot insns ≡ []
-insns-past with_values program [] slot past = refl
-insns-past with_values program (insn ∷ insns) slot past =
-    ap (λ (b : Bool). if b then slot_records with_values program slot insn
-    ++ insn_records with_values program (slot + slots_of insn) insns else []) past
-
--- all are added
-pub insns-done : (records whole rest : List Record) → records ++ rest ≡ whole → rest ≡ [] → records ≡ whole
-insns-done records whole rest so_far none =
-    sym (append-nil records) ∙ ap (λ (rs : List Record). records ++ rs) (sym none) ∙ so_far

@@ -6,10 +6,6 @@ use Rattle.std.specs.Fmt.{decimal, signed_decimal}
 abbrev pub key : List ℕ → List ℕ
 key name = codes ",\"" ++ name ++ codes "\":"
 
--- a field that doesn't apply
-unfoldable pub absent : List ℕ → List ℕ
-absent name = key name ++ codes "null"
-
 -- a number of at most 32 bits
 unfoldable pub number : List ℕ → ℕ → List ℕ
 number name n = key name ++ decimal n
@@ -18,9 +14,9 @@ number name n = key name ++ decimal n
 unfoldable pub signed : List ℕ → ℤ → List ℕ
 signed name n = key name ++ signed_decimal n
 
--- a number, if there is one
+-- a number, if there is one; else the field doesn't apply
 unfoldable pub optional : List ℕ → Option ℕ → List ℕ
-optional name None = absent name
+optional name None = key name ++ codes "null"
 optional name (Some n) = number name n
 
 -- a word of 64 bits: its digits as a string

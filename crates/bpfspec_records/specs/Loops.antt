@@ -2,40 +2,30 @@
 use Rattle.std.specs.Prelude.{ℕ, ◌+◌, List, [], ◌∷◌, ◌++◌, map}
 use Rattle.loop_core_witness.specs.declared.explained.{Cause.{Cause}, Explained.{Explained}}
 use Rattle.loop_core_witness.specs.declared.explained.LoopExplained.{LoopExplained}
-use Rattle.bpfspec_records.specs.{declared.loop_facts.{LoopFact.{LoopFact}, PairFact.{PairFact}}, Elements.{map_of}}
-use Rattle.bpfspec_records.specs.{declared.records.Record.{Record}, Grids.{shown_records}}
+use Rattle.bpfspec_records.specs.{declared.records.Record.{Record}, Elements.{map_of}, Grids.{shown_records}}
 use Rattle.bpfspec_records.specs.declared.records.Record.TheVariants as records
 
--- a loop call that has this number
-abbrev pub loop_fact : (number : ℕ) → LoopExplained → LoopFact
-loop_fact number explained = record {
-  number = number;
-  slot = explained.line.slot;
-  iterations = explained.iterations;
-  flags = explained.flags;
-  answer = explained.line.answer;
-  verdict = explained.line.verdict;
-  strategy = explained.strategy;
-  broke = explained.broke;
-}
-
 -- why an element, which is one of a map, conflicts
-abbrev pub pair_fact : (sizes : List ℕ) → (number : ℕ) → Cause → PairFact
-pair_fact sizes number cause = record {
+abbrev pub pair_record : (sizes : List ℕ) → (number : ℕ) → Cause → Record
+pair_record sizes number cause = records.Pair (record {
   number = number;
   map = (map_of sizes cause.element).0;
   element = (map_of sizes cause.element).1;
   pair = cause.witness;
   end = cause.end;
-}
-
-abbrev pub pair_record : (sizes : List ℕ) → (number : ℕ) → Cause → Record
-pair_record sizes number cause = records.Pair (pair_fact sizes number cause)
+})
 
 -- a loop call, then its pairs, then what is shown of it
 abbrev pub call_records : (sizes : List ℕ) → (number : ℕ) → LoopExplained → List Record
 call_records sizes number explained =
-    records.Loop (loop_fact number explained) ∷ map (pair_record sizes number) explained.causes.items
+    records.Loop (record {
+      number = number;
+      line = explained.line;
+      iterations = explained.iterations;
+      flags = explained.flags;
+      strategy = explained.strategy;
+      broke = explained.broke;
+    }) ∷ map (pair_record sizes number) explained.causes.items
     ++ shown_records sizes number explained.grid
 
 -- loop calls from the one on that has this number

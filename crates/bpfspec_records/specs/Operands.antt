@@ -1,6 +1,6 @@
 -- The registers that an instruction reads.
 use Rattle.std.specs.Prelude.{ℕ, ◌==◌, ◌&&◌, ◌||◌, nat_le, Bool, false, Option, Some, None}
-use Rattle.bpf_insn_types.specs.declared.insn.{AluOp.{AluOp, TheVariants.{Mov}}, AtomicOp.{AtomicOp}, Operand.{Operand}}
+use Rattle.bpf_insn_types.specs.declared.insn.{AluOp.TheVariants.{Mov}, Operand.{Operand}}
 use Rattle.bpf_insn_types.specs.declared.insn.{AtomicOp.TheVariants.{Cmpxchg}, Operand.TheVariants.{Imm, Reg}}
 use Rattle.bpf_insn_types.specs.declared.insn.Insn.{Insn, TheVariants.{StoreImm, Store, Atomic}}
 use Rattle.bpf_insn_types.specs.declared.insn.Insn.TheVariants.{Alu, Neg, Movsx, Endian, Jump, Call, Exit, Load, LoadSx}
@@ -11,25 +11,17 @@ abbrev pub is_operand : Operand → (reg : ℕ) → Bool
 is_operand (Imm imm) reg = false
 is_operand (Reg src) reg = src == reg
 
--- whether arithmetic reads a register: a move reads its second operand alone
-abbrev pub arithmetic_reads : AluOp → (dst : ℕ) → Operand → (reg : ℕ) → Bool
-arithmetic_reads Mov dst operand reg = is_operand operand reg
-arithmetic_reads op dst operand reg = (dst == reg) || is_operand operand reg
-
--- whether an atomic operation does: one that compares reads R0 too
-abbrev pub atomic_reads : AtomicOp → (dst src reg : ℕ) → Bool
-atomic_reads Cmpxchg dst src reg = (dst == reg) || (src == reg) || (reg == 0)
-atomic_reads op dst src reg = (dst == reg) || (src == reg)
-
 -- how many arguments a helper has, from R1 on
 abbrev pub argument_count : Option Helper → ℕ
 argument_count (Some Lookup) = 2
 argument_count (Some Loop) = 4
 argument_count None = 0
 
--- whether an instruction reads a register
+-- whether an instruction reads a register: a move reads its second operand alone, and an atomic operation that compares
+-- reads R0 too
 abbrev pub reads_register : Insn → (reg : ℕ) → Bool
-reads_register (Alu width op dst operand) reg = arithmetic_reads op dst operand reg
+reads_register (Alu width Mov dst operand) reg = is_operand operand reg
+reads_register (Alu width op dst operand) reg = (dst == reg) || is_operand operand reg
 reads_register (Neg width dst) reg = dst == reg
 reads_register (Movsx width bits dst src) reg = src == reg
 reads_register (Endian order bits dst) reg = dst == reg
@@ -40,5 +32,6 @@ reads_register (Load size dst src offset) reg = src == reg
 reads_register (LoadSx size dst src offset) reg = src == reg
 reads_register (StoreImm size dst offset imm) reg = dst == reg
 reads_register (Store size dst src offset) reg = (dst == reg) || (src == reg)
-reads_register (Atomic width op dst src offset) reg = atomic_reads op dst src reg
+reads_register (Atomic width Cmpxchg dst src offset) reg = (dst == reg) || (src == reg) || (reg == 0)
+reads_register (Atomic width op dst src offset) reg = (dst == reg) || (src == reg)
 reads_register _ reg = false

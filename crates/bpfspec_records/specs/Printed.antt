@@ -1,9 +1,9 @@
 -- The lines of records.
-use Rattle.std.specs.Prelude.{ℕ, List, ◌++◌, codes, Some, None}
+use Rattle.std.specs.Prelude.{ℕ, if◌then◌else◌, List, ◌++◌, codes, Some, None}
 use Rattle.bpf_text_lex.specs.PrintedLines.{insn_spelling}
 use Rattle.bpf_verify_origin.specs.declared.source.Source.{Source}
 use Rattle.bpf_verify_origin.specs.declared.source.Source.TheVariants as sources
-use Rattle.bpfspec_records.specs.{declared.records.Record.{Record}, Words.{form_word, frame_word, test_word}}
+use Rattle.bpfspec_records.specs.{declared.records.Record.{Record}, Words.{frame_word, test_word}}
 use Rattle.bpfspec_records.specs.Fields.{flag, number, object, optional, signed, wide, word}
 use Rattle.bpfspec_records.specs.{Refusals.{printed_refusal}, Values.{value_fields}}
 use Rattle.bpfspec_records.specs.LoopsPrinted.{printed_cell, printed_grid, printed_loop, printed_pair}
@@ -20,7 +20,7 @@ source_fields (sources.Meeting slot) = word (codes "source") (codes "join") ++ o
 unfoldable pub printed : Record → List ℕ
 printed (records.Header hex argument test states all grid) = object (codes "header")
     (number (codes "version") 1
-    ++ word (codes "form") (form_word hex)
+    ++ word (codes "form") (if hex then codes "hex" else codes "text")
     ++ wide (codes "argument") argument
     ++ word (codes "test") (test_word test)
     ++ flag (codes "states") states
@@ -40,19 +40,19 @@ printed (records.Insn slot insn reached ahead aside) = object (codes "insn")
     ++ flag (codes "reached") reached
     ++ optional (codes "ahead") ahead
     ++ optional (codes "aside") aside)
-printed (records.Value slot register value) = object (codes "value")
+printed (records.Value slot None register value) = object (codes "value")
     (number (codes "slot") slot
+    ++ number (codes "register") register
+    ++ value_fields value)
+printed (records.Value slot (Some to) register value) = object (codes "edge")
+    (number (codes "slot") slot
+    ++ number (codes "to") to
     ++ number (codes "register") register
     ++ value_fields value)
 printed (records.Read slot register source) = object (codes "read")
     (number (codes "slot") slot
     ++ number (codes "register") register
     ++ source_fields source)
-printed (records.Edge slot to register value) = object (codes "edge")
-    (number (codes "slot") slot
-    ++ number (codes "to") to
-    ++ number (codes "register") register
-    ++ value_fields value)
 printed (records.Unwritten slot frame offset) = object (codes "unwritten")
     (number (codes "slot") slot
     ++ word (codes "frame") (frame_word frame)

@@ -1,6 +1,6 @@
 -- The records of a unit: its maps, and its instructions up to the first fault.
 use Rattle.std.specs.Prelude.{ℕ, zero, suc, ℤ, pos, negsuc, ◌+◌, ◌+ℤ◌, ◌-ℤ◌, ◌==◌, ◌||◌, ◌&&◌, nat_le, Bool, true}
-use Rattle.std.specs.Prelude.{false, if◌then◌else◌, List, [], ◌∷◌, ◌++◌, Option, Some, None, is_some}
+use Rattle.std.specs.Prelude.{false, if◌then◌else◌, List, [], ◌∷◌, ◌++◌, Option, Some, None, is_some, unwrap_or}
 use Rattle.bpf_insn_types.specs.{declared.insn.Insn.{Insn, TheVariants.{Load, LoadSx, Atomic, Call}}, Slots.{slots_of}}
 use Rattle.bpf_insn_types.specs.{Sizes.{bytes_of, atomic_bytes}, Program.{Program, insn_at}}
 use Rattle.bpf_verify_model.specs.{Written.{all_written, none_written}, declared.helper.Helper.{Helper}}
@@ -14,8 +14,7 @@ use Rattle.bpf_verify_origin.specs.declared.inflow.Inflow.{Inflow, TheVariants.{
 use Rattle.bpf_verify_origin.specs.{Edges.{flow_passed, inflow}, Inspected.{is_up_to}, Sources.{source_before}}
 use Rattle.bpfspec_records.specs.declared.records.{FrameOf.{FrameOf, TheVariants.{Own, Main}}, Record.{Record}}
 use Rattle.bpfspec_records.specs.{declared.unwritten.MemoryRead.{MemoryRead}, Operands.{reads_register}}
-use Rattle.bpfspec_records.specs.declared.records.Record.TheVariants.{Map, Insn as InsnRecord, Value, Read}
-use Rattle.bpfspec_records.specs.declared.records.Record.TheVariants.{Edge as EdgeRecord, Unwritten}
+use Rattle.bpfspec_records.specs.declared.records.Record.TheVariants.{Map, Insn as InsnRecord, Value, Read, Unwritten}
 
 -- maps, the first of which has this number
 abbrev pub map_records : ℕ → List ℕ → List Record
@@ -27,15 +26,10 @@ unfoldable pub each_below : (ℕ → List Record) → ℕ → List Record
 each_below records zero = []
 each_below records (suc n) = each_below records n ++ records n
 
--- a register's value before a slot, or on the edges from there to another
-abbrev pub register_record : (slot : ℕ) → (to : Option ℕ) → (register : ℕ) → AbstractValue → Record
-register_record slot None register value = Value slot register value
-register_record slot (Some to) register value = EdgeRecord slot to register value
-
--- the same, unless it is unwritten
+-- a register's value before a slot, or on the edges from there to another, unless it is unwritten
 abbrev pub value_record : (slot : ℕ) → (to : Option ℕ) → (register : ℕ) → AbstractValue → List Record
 value_record slot to register value =
-    if is_unwritten value then [] else register_record slot to register value ∷ []
+    if is_unwritten value then [] else Value slot to register value ∷ []
 
 -- what R0 to R9 may have
 abbrev pub value_records : (slot : ℕ) → (to : Option ℕ) → State → List Record
@@ -96,14 +90,11 @@ known_records program slot insn out (Some state) = value_records slot None state
 abbrev pub known_before : Program → ℕ → Option State
 known_before program slot = if is_too_large program then None else state_before program slot
 
--- an instruction, whether it is reached, and where its edges lead: nowhere from the first fault on
-abbrev pub insn_record : Program → ℕ → Insn → Record
-insn_record program slot insn = InsnRecord slot insn (is_some (known_before program slot))
-    (target_of (flow_passed program slot).ahead) (target_of (flow_passed program slot).aside)
-
--- an instruction, and what is known there if it is asked for
+-- an instruction, whether it is reached, and where its edges lead, nowhere from the first fault on; and what is known
+-- there if it is asked for
 abbrev pub slot_records : (with_values : Bool) → Program → ℕ → Insn → List Record
-slot_records with_values program slot insn = insn_record program slot insn ∷
+slot_records with_values program slot insn = InsnRecord slot insn (is_some (known_before program slot))
+    (target_of (flow_passed program slot).ahead) (target_of (flow_passed program slot).aside) ∷
     (if with_values then known_records program slot insn (flow_passed program slot) (known_before program slot) else [])
 
 -- instructions, the first of which is at a slot, up to the first fault
@@ -143,17 +134,12 @@ place_records slot frame written size (pos position) =
     if nat_le (position + size) 512 then byte_records slot frame written position size else []
 place_records slot frame written size (negsuc _) = []
 
--- the written bytes of main's frame, in a callback
-abbrev pub caller_bytes : Option (List Bool) → List Bool
-caller_bytes None = none_written
-caller_bytes (Some written) = written
-
 -- the bytes that a read at this base has and that aren't written
 abbrev pub base_records : (slot : ℕ) → State → (offset : ℤ) → (size : ℕ) → AbstractValue → List Record
 base_records slot state offset size (Frame position) =
     place_records slot Own state.own size (pos position +ℤ offset)
 base_records slot state offset size (Ctx position) =
-    place_records slot Main (caller_bytes state.caller) size (pos position +ℤ offset)
+    place_records slot Main (unwrap_or state.caller none_written) size (pos position +ℤ offset)
 base_records slot state offset size _ = []
 
 abbrev pub unread_records : (slot : ℕ) → State → Option MemoryRead → List Record

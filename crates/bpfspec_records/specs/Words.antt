@@ -1,15 +1,12 @@
 -- The fixed words of records: the name of a fault is that of its variant.
-use Rattle.std.specs.Prelude.{ℕ, Bool, true, false, List, codes}
+use Rattle.std.specs.Prelude.{ℕ, List, codes}
 use Rattle.bpf_verify_model.specs.declared.rule.Rule.{Rule}
 use Rattle.bpf_verify_model.specs.declared.rule.Rule.TheVariants as rules
 use Rattle.bpf_text_lex.specs.declared.text_error.TextFault.{TextFault}
 use Rattle.bpf_text_lex.specs.declared.text_error.TextFault.TheVariants as texts
 use Rattle.bpf_insn.specs.declared.codec_error.CodecFault.{CodecFault}
 use Rattle.bpf_insn.specs.declared.codec_error.CodecFault.TheVariants as bytes
-use Rattle.loop_core_model.specs.declared.{faults.SplitFault.{SplitFault}, replay_fault.ReplayFault.{ReplayFault}}
 use Rattle.loop_core_model.specs.declared.{loop_test.Test.{Test}, verdict.Verdict.{Verdict}}
-use Rattle.loop_core_model.specs.declared.faults.SplitFault.TheVariants as splits
-use Rattle.loop_core_model.specs.declared.replay_fault.ReplayFault.TheVariants as schedules
 use Rattle.loop_core_model.specs.declared.loop_test.Test.TheVariants as tests
 use Rattle.loop_core_model.specs.declared.verdict.Verdict.TheVariants as verdicts
 use Rattle.bpfspec_records.specs.declared.records.FrameOf.{FrameOf}
@@ -66,35 +63,6 @@ codec_fault_name bytes.LoadKind = codes "load_kind"
 codec_fault_name bytes.Immediate = codes "immediate"
 codec_fault_name bytes.Offset = codes "offset"
 codec_fault_name bytes.SecondSlot = codes "second_slot"
-
--- the code of a split's fault
-abbrev pub split_fault_code : SplitFault → List ℕ
-split_fault_code splits.Falling = codes "S1"
-split_fault_code splits.Number = codes "S2"
-split_fault_code splits.Ends = codes "S3"
-
--- the name of a split's fault
-abbrev pub split_fault_name : SplitFault → List ℕ
-split_fault_name splits.Falling = codes "falling"
-split_fault_name splits.Number = codes "number"
-split_fault_name splits.Ends = codes "ends"
-
--- the code of the fault of a list of events
-abbrev pub schedule_fault_code : ReplayFault → List ℕ
-schedule_fault_code (schedules.NoSuchWorker event) = codes "E1"
-schedule_fault_code (schedules.NotEnabled event) = codes "E2"
-schedule_fault_code (schedules.NotEnded events) = codes "E3"
-
--- the name of the fault of a list of events
-abbrev pub schedule_fault_name : ReplayFault → List ℕ
-schedule_fault_name (schedules.NoSuchWorker event) = codes "no_such_worker"
-schedule_fault_name (schedules.NotEnabled event) = codes "not_enabled"
-schedule_fault_name (schedules.NotEnded events) = codes "not_ended"
-
--- the form of a unit
-abbrev pub form_word : Bool → List ℕ
-form_word true = codes "hex"
-form_word false = codes "text"
 
 -- the name of a test
 abbrev pub test_word : Test → List ℕ

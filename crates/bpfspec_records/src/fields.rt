@@ -1,8 +1,8 @@
 //! The fields of records, and the object of JSON that a record is.
 
-ghost use Rattle.std.specs.{Prelude.{◌≡◌, ◌++◌, OnOk, IfOk}, String.{string_bytes}};
+ghost use Rattle.std.specs.{Prelude.{◌≡◌, ◌++◌, OnOk}, String.{string_bytes}};
 ghost use Rattle.bpf_text_lex.specs.PrintedLines.{insn_spelling};
-ghost use Rattle.bpfspec_records.specs.Fields.{absent, flag, number, object_end, object_start, optional, signed, wide};
+ghost use Rattle.bpfspec_records.specs.Fields.{flag, number, object_end, object_start, optional, signed, wide};
 ghost use Rattle.bpfspec_records.specs.Fields.{word};
 
 use bpf_insn_types::Insn;
@@ -25,14 +25,6 @@ pub(crate) fn end(out: &mut String) -> Result<(), AllocError>
     out.push_str("}\n")
 }
 
-/// Adds a field that doesn't apply.
-#[tactic(auto, unfolding(crate::specs::Fields::absent))]
-pub(crate) fn add_absent(out: &mut String, name: &str) -> Result<(), AllocError>
-    ensures { OnOk result (string_bytes out.new ≡ string_bytes out.old ++ absent name.now) }
-{
-    write!(out, ",\"{name}\":null")
-}
-
 /// Adds a number.
 #[tactic(auto, unfolding(crate::specs::Fields::number))]
 pub(crate) fn add_number(out: &mut String, name: &str, n: u64) -> Result<(), AllocError>
@@ -49,13 +41,13 @@ pub(crate) fn add_signed(out: &mut String, name: &str, n: i64) -> Result<(), All
     write!(out, ",\"{name}\":{n}")
 }
 
-/// Adds a number, if there is one.
+/// Adds a number, if there is one; else the field doesn't apply.
 #[tactic(auto, unfolding(crate::specs::Fields::optional))]
 pub(crate) fn add_optional(out: &mut String, name: &str, n: Option<u64>) -> Result<(), AllocError>
     ensures { OnOk result (string_bytes out.new ≡ string_bytes out.old ++ optional name.now n) }
 {
     match n {
-        None => add_absent(out, name),
+        None => write!(out, ",\"{name}\":null"),
         Some(n) => add_number(out, name, n),
     }
 }
@@ -84,19 +76,7 @@ pub(crate) fn add_flag(out: &mut String, name: &str, holds: bool) -> Result<(), 
     write!(out, ",\"{name}\":{holds}")
 }
 
-/// An instruction as text.
-fn insn_text(alloc: Global, insn: &Insn) -> Result<String, AllocError>
-    ensures { IfOk result (λ text. string_bytes text ≡ insn_spelling insn.now) }
-{
-    let mut line = String::new(alloc);
-    print_insn(&mut line, insn)?;
-    match line.as_str().strip_suffix('\n') {
-        Some(text) => String::from_str(alloc, text),
-        None => Ok(line),
-    }
-}
-
-/// Adds an instruction.
+/// Adds an instruction as text.
 pub(crate) fn add_insn(
     out: &mut String,
     alloc: Global,
@@ -105,6 +85,10 @@ pub(crate) fn add_insn(
 ) -> Result<(), AllocError>
     ensures { OnOk result (string_bytes out.new ≡ string_bytes out.old ++ word name.now (insn_spelling insn.now)) }
 {
-    let text = insn_text(alloc, insn)?;
-    add_word(out, name, text.as_str())
+    let mut line = String::new(alloc);
+    print_insn(&mut line, insn)?;
+    match line.as_str().strip_suffix('\n') {
+        Some(text) => add_word(out, name, text),
+        None => add_word(out, name, line.as_str()),
+    }
 }

@@ -3,8 +3,7 @@
 ghost use Rattle.std.specs.{Prelude.{◌≡◌, ◌++◌, OnOk}, Option.{option_map}};
 ghost use Rattle.bpf_verify_origin.specs.Inspected.{broken_rule, is_up_to};
 ghost use Rattle.bpfspec_records.specs.Units.{edge_records, edges_records, is_join, other_target};
-ghost use Rattle.bpfspec_records.specs.Units.{read_record, read_records, register_record, target_of, value_record};
-ghost use Rattle.bpfspec_records.specs.Units.{value_records};
+ghost use Rattle.bpfspec_records.specs.Units.{read_records, target_of, value_record, value_records};
 
 use crate::adding::add;
 use crate::reading::reads;
@@ -14,25 +13,6 @@ use bpf_verify_model::{AbstractValue, Edge, Outflow, State, reg};
 use bpf_verify_origin::{Fault, Inflow, Inspection, state_to};
 use bpf_verify_values::is_unwritten;
 use std::alloc::AllocError;
-
-/// The record of a register's value before a slot, or on the edges from there to another.
-fn register_record(slot: u32, to: Option<u32>, register: Reg, value: &AbstractValue) -> Record
-    ensures { result ≡ register_record slot to register value.now }
-{
-    match to {
-        None => Record::Value {
-            slot,
-            register,
-            value: *value,
-        },
-        Some(to) => Record::Edge {
-            slot,
-            to,
-            register,
-            value: *value,
-        },
-    }
-}
 
 /// Adds the value of a register before a slot, or on the edges from there to another, unless it is unwritten.
 fn add_value(
@@ -47,7 +27,15 @@ fn add_value(
     if is_unwritten(*value) {
         return Ok(());
     }
-    add(records, register_record(slot, to, register, value))
+    add(
+        records,
+        Record::Value {
+            slot,
+            to,
+            register,
+            value: *value,
+        },
+    )
 }
 
 /// Adds the values of r0 to r9 before a slot, or on the edges from there to another.
@@ -66,31 +54,6 @@ pub(crate) fn add_values(
     Ok(())
 }
 
-/// Adds where a register's value comes from, if the instruction at a slot reads it.
-fn add_read(
-    records: &mut Vec<Record>,
-    inspection: &Inspection,
-    slot: u32,
-    insn: &Insn,
-    register: Reg,
-) -> Result<(), AllocError>
-    ensures { OnOk result (records.new.items
-        ≡ records.old.items ++ read_record inspection.now slot insn.now register) }
-{
-    if !reads(insn, register) {
-        return Ok(());
-    }
-    let source = inspection.source(slot, register);
-    add(
-        records,
-        Record::Read {
-            slot,
-            register,
-            source,
-        },
-    )
-}
-
 /// Adds where the values of the registers come from that the instruction at a slot reads.
 pub(crate) fn add_reads(
     records: &mut Vec<Record>,
@@ -101,7 +64,18 @@ pub(crate) fn add_reads(
     ensures { OnOk result (records.new.items ≡ records.old.items ++ read_records inspection.now slot insn.now) }
 {
     for number in 0..11u8 {
-        add_read(records, inspection, slot, insn, reg(number))?;
+        let register = reg(number);
+        if reads(insn, register) {
+            let source = inspection.source(slot, register);
+            add(
+                records,
+                Record::Read {
+                    slot,
+                    register,
+                    source,
+                },
+            )?;
+        }
     }
     Ok(())
 }

@@ -1,31 +1,27 @@
 //! The records of loops.
 
 ghost use Rattle.std.specs.{Prelude.{◌≡◌, ◌++◌, OnOk}, String.{string_bytes}};
-ghost use Rattle.bpfspec_records.specs.LoopsPrinted.{call_fields, conflict_count, strategy_fields, optional_place};
-ghost use Rattle.bpfspec_records.specs.LoopsPrinted.{outcome_fields, place_fields, reduce_slot, way_fields};
-ghost use Rattle.bpfspec_records.specs.{LoopsPrinted.{witness_fields}, Printed.{printed}};
+ghost use Rattle.bpfspec_records.specs.{LoopsPrinted.{place_fields, strategy_fields, way_fields}, Printed.{printed}};
+ghost use Rattle.bpfspec_records.specs.Words.{blocks_word};
 ghost use Rattle.bpfspec_records.specs.declared.records.Record.TheVariants as records;
 
-use crate::fields::{
-    add_absent, add_number, add_optional, add_signed, add_wide, add_word, begin, end,
-};
+use crate::fields::{add_number, add_optional, add_signed, add_wide, add_word, begin, end};
 use crate::loop_facts::{CellFact, GridFact, LoopFact, PairFact};
 use crate::optional::widened;
-use crate::words::{blocks_word, verdict_word};
 use loop_core_model::Verdict;
-use loop_core_split::Strategy;
-use loop_core_trace::FirstReduce;
-use loop_core_witness::{Place, Witness};
+use loop_core_split::{BlocksReason, Strategy};
+use loop_core_witness::Place;
 use std::alloc::AllocError;
 
-/// How many elements conflict; none of a call that is refused.
-fn conflict_count(verdict: Verdict) -> Option<u64>
-    ensures { result ≡ conflict_count verdict }
+/// Why a loop went by blocks.
+fn blocks_word(why: BlocksReason) -> &'static str
+    ensures { result.now ≡ blocks_word why }
 {
-    match verdict {
-        Verdict::Parallel => Some(0),
-        Verdict::Conflict { count, .. } => Some(u64::from(count)),
-        Verdict::Refused | Verdict::InOrder => None,
+    match why {
+        BlocksReason::Asked => "asked",
+        BlocksReason::Lrpd => "lrpd",
+        BlocksReason::Work => "work",
+        BlocksReason::ReadsWritten => "reads_written",
     }
 }
 
@@ -54,10 +50,10 @@ fn add_way(out: &mut String, strategy: Option<Strategy>) -> Result<(), AllocErro
 {
     match strategy {
         None => {
-            add_absent(out, "way")?;
-            add_absent(out, "blocks")?;
-            add_absent(out, "workers")?;
-            add_absent(out, "reason")
+            add_optional(out, "way", None)?;
+            add_optional(out, "blocks", None)?;
+            add_optional(out, "workers", None)?;
+            add_optional(out, "reason", None)
         }
         Some(Strategy::InOrder) => add_strategy(out, "in_order", None, 1, "asked"),
         Some(Strategy::Sums { workers }) => add_strategy(
@@ -78,53 +74,26 @@ fn add_way(out: &mut String, strategy: Option<Strategy>) -> Result<(), AllocErro
     }
 }
 
-/// Adds an iteration and a slot in it.
-#[tactic(auto, unfolding(crate::specs::LoopsPrinted::place_fields))]
-fn add_place(out: &mut String, index: &str, slot: &str, place: &Place) -> Result<(), AllocError>
-    ensures { OnOk result (string_bytes out.new ≡ string_bytes out.old ++ place_fields index.now slot.now place.now) }
-{
-    add_number(out, index, u64::from(place.index))?;
-    add_number(out, slot, u64::from(place.slot))
-}
-
 /// Adds an iteration and a slot in it, if there are any.
-#[tactic(auto, unfolding(crate::specs::LoopsPrinted::optional_place))]
-fn add_optional_place(
+#[tactic(auto, unfolding(crate::specs::LoopsPrinted::place_fields))]
+fn add_place(
     out: &mut String,
     index: &str,
     slot: &str,
     place: Option<Place>,
 ) -> Result<(), AllocError>
-    ensures { OnOk result (string_bytes out.new ≡ string_bytes out.old ++ optional_place index.now slot.now place) }
+    ensures { OnOk result (string_bytes out.new ≡ string_bytes out.old ++ place_fields index.now slot.now place) }
 {
     match place {
         None => {
-            add_absent(out, index)?;
-            add_absent(out, slot)
+            add_optional(out, index, None)?;
+            add_optional(out, slot, None)
         }
-        Some(place) => add_place(out, index, slot, &place),
+        Some(place) => {
+            add_number(out, index, u64::from(place.index))?;
+            add_number(out, slot, u64::from(place.slot))
+        }
     }
-}
-
-/// Adds which call of a loop it is, and what it asks for.
-#[tactic(auto, unfolding(crate::specs::LoopsPrinted::call_fields))]
-fn add_call(out: &mut String, fact: &LoopFact) -> Result<(), AllocError>
-    ensures { OnOk result (string_bytes out.new ≡ string_bytes out.old ++ call_fields fact.now) }
-{
-    add_number(out, "loop", fact.number as u64)?;
-    add_number(out, "slot", u64::from(fact.slot))?;
-    add_number(out, "iterations", u64::from(fact.iterations))?;
-    add_wide(out, "flags", fact.flags)
-}
-
-/// Adds how a call of a loop comes out.
-#[tactic(auto, unfolding(crate::specs::LoopsPrinted::outcome_fields))]
-fn add_outcome(out: &mut String, fact: &LoopFact) -> Result<(), AllocError>
-    ensures { OnOk result (string_bytes out.new ≡ string_bytes out.old ++ outcome_fields fact.now) }
-{
-    add_signed(out, "answer", fact.answer)?;
-    add_word(out, "verdict", verdict_word(fact.verdict))?;
-    add_optional(out, "conflicts", conflict_count(fact.verdict))
 }
 
 /// Adds a call of a loop.
@@ -133,20 +102,22 @@ pub(crate) fn add_loop(out: &mut String, fact: &LoopFact) -> Result<(), AllocErr
     ensures { OnOk result (string_bytes out.new ≡ string_bytes out.old ++ printed (records.Loop fact.now)) }
 {
     begin(out, "loop")?;
-    add_call(out, fact)?;
-    add_outcome(out, fact)?;
+    add_number(out, "loop", fact.number as u64)?;
+    add_number(out, "slot", u64::from(fact.line.slot))?;
+    add_number(out, "iterations", u64::from(fact.iterations))?;
+    add_wide(out, "flags", fact.flags)?;
+    add_signed(out, "answer", fact.line.answer)?;
+    let (verdict, conflicts) = match fact.line.verdict {
+        Verdict::Parallel => ("parallel", Some(0)),
+        Verdict::Conflict { count, .. } => ("conflict", Some(u64::from(count))),
+        Verdict::Refused => ("refused", None),
+        Verdict::InOrder => ("in_order", None),
+    };
+    add_word(out, "verdict", verdict)?;
+    add_optional(out, "conflicts", conflicts)?;
     add_way(out, fact.strategy)?;
-    add_optional_place(out, "break_iteration", "break_slot", fact.broke)?;
+    add_place(out, "break_iteration", "break_slot", fact.broke)?;
     end(out)
-}
-
-/// Adds the two iterations of a pair.
-#[tactic(auto, unfolding(crate::specs::LoopsPrinted::witness_fields))]
-fn add_witness(out: &mut String, pair: &Witness) -> Result<(), AllocError>
-    ensures { OnOk result (string_bytes out.new ≡ string_bytes out.old ++ witness_fields pair.now) }
-{
-    add_place(out, "writer", "writer_slot", &pair.writer)?;
-    add_place(out, "reader", "reader_slot", &pair.reader)
 }
 
 /// Adds two iterations that conflict.
@@ -158,8 +129,9 @@ pub(crate) fn add_pair(out: &mut String, fact: &PairFact) -> Result<(), AllocErr
     add_number(out, "loop", fact.number as u64)?;
     add_number(out, "map", fact.map as u64)?;
     add_number(out, "element", u64::from(fact.element))?;
-    add_witness(out, &fact.pair)?;
-    add_optional_place(out, "end", "end_slot", fact.end)?;
+    add_place(out, "writer", "writer_slot", Some(fact.pair.writer))?;
+    add_place(out, "reader", "reader_slot", Some(fact.pair.reader))?;
+    add_place(out, "end", "end_slot", fact.end)?;
     end(out)
 }
 
@@ -170,21 +142,11 @@ pub(crate) fn add_grid(out: &mut String, fact: &GridFact) -> Result<(), AllocErr
 {
     begin(out, "grid")?;
     add_number(out, "loop", fact.number as u64)?;
-    add_number(out, "lower", u64::from(fact.lower))?;
-    add_number(out, "lower_past", u64::from(fact.lower_past))?;
-    add_number(out, "upper", u64::from(fact.upper))?;
-    add_number(out, "upper_past", u64::from(fact.upper_past))?;
+    add_number(out, "lower", u64::from(fact.lower.from))?;
+    add_number(out, "lower_past", u64::from(fact.lower.past))?;
+    add_number(out, "upper", u64::from(fact.upper.from))?;
+    add_number(out, "upper_past", u64::from(fact.upper.past))?;
     end(out)
-}
-
-/// The slot of a first reduce.
-fn reduce_slot(reduce: Option<FirstReduce>) -> Option<u64>
-    ensures { result ≡ reduce_slot reduce }
-{
-    match reduce {
-        None => None,
-        Some(first) => Some(u64::from(first.slot)),
-    }
 }
 
 /// Adds what an iteration does at an element.
@@ -199,6 +161,10 @@ pub(crate) fn add_cell(out: &mut String, fact: &CellFact) -> Result<(), AllocErr
     add_number(out, "element", u64::from(fact.element))?;
     add_optional(out, "write", widened(fact.slots.write))?;
     add_optional(out, "read", widened(fact.slots.read))?;
-    add_optional(out, "reduce", reduce_slot(fact.slots.reduce))?;
+    let reduce = match fact.slots.reduce {
+        None => None,
+        Some(first) => Some(u64::from(first.slot)),
+    };
+    add_optional(out, "reduce", reduce)?;
     end(out)
 }

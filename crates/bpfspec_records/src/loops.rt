@@ -1,14 +1,14 @@
 //! The records of a program's loop calls.
 
 ghost use Rattle.std.specs.Prelude.{◌≡◌, ◌++◌, map, IfOk, OnOk};
-ghost use Rattle.bpfspec_records.specs.Loops.{call_records, loop_records, pair_record};
+ghost use Rattle.bpfspec_records.specs.Loops.{loop_records, pair_record};
 
 use crate::adding::add;
 use crate::elements::map_of;
 use crate::grids::add_shown;
 use crate::loop_facts::{LoopFact, PairFact};
 use crate::records::Record;
-use loop_core_witness::{Cause, Explained, LoopExplained};
+use loop_core_witness::{Cause, Explained};
 use std::alloc::{AllocError, Global};
 
 /// Adds the records of why elements of a loop call conflict.
@@ -35,31 +35,6 @@ fn add_pairs(
     Ok(())
 }
 
-/// Adds the records of a loop call.
-fn add_call(
-    records: &mut Vec<Record>,
-    sizes: &[u32],
-    number: usize,
-    explained: &LoopExplained,
-) -> Result<(), AllocError>
-    ensures { OnOk result (records.new.items ≡ records.old.items
-        ++ call_records sizes.now number explained.now) }
-{
-    let fact = LoopFact {
-        number,
-        slot: explained.line.slot,
-        iterations: explained.iterations,
-        flags: explained.flags,
-        answer: explained.line.answer,
-        verdict: explained.line.verdict,
-        strategy: explained.strategy,
-        broke: explained.broke,
-    };
-    add(records, Record::Loop(fact))?;
-    add_pairs(records, sizes, number, explained.causes.as_slice())?;
-    add_shown(records, sizes, number, &explained.grid)
-}
-
 /// The records of the loop calls of a program whose maps have these sizes: of each the call, then its pairs, and then
 /// its grid with its cells, if it has one. It fails where there is no memory.
 pub fn loop_records(
@@ -72,7 +47,17 @@ pub fn loop_records(
     let mut records = Vec::new(alloc);
     let loops = explained.loops.as_slice();
     for (number, call) in loops.iter().enumerate() {
-        add_call(&mut records, sizes, number, call)?;
+        let fact = LoopFact {
+            number,
+            line: call.line,
+            iterations: call.iterations,
+            flags: call.flags,
+            strategy: call.strategy,
+            broke: call.broke,
+        };
+        add(&mut records, Record::Loop(fact))?;
+        add_pairs(&mut records, sizes, number, call.causes.as_slice())?;
+        add_shown(&mut records, sizes, number, &call.grid)?;
     }
     Ok(records)
 }

@@ -1,7 +1,7 @@
 //! The lines of records.
 
 ghost use Rattle.std.specs.{Prelude.{◌≡◌, ◌++◌, OnOk, IfOk}, List.{flat_map}, String.{string_bytes}};
-ghost use Rattle.bpfspec_records.specs.{Printed.{printed}, Units.{register_record}};
+ghost use Rattle.bpfspec_records.specs.Printed.{printed};
 ghost use Rattle.bpfspec_records.specs.declared.records.Record.TheVariants as records;
 
 use crate::fields::{
@@ -12,7 +12,6 @@ use crate::optional::widened;
 use crate::records::{FrameOf, Record};
 use crate::refusals::add_refusal;
 use crate::values::add_value;
-use crate::words::{form_word, frame_word, test_word};
 use bpf_insn_types::{Insn, Reg};
 use bpf_verify_model::AbstractValue;
 use bpf_verify_origin::Source;
@@ -36,9 +35,13 @@ fn add_header(
 {
     begin(out, "header")?;
     add_number(out, "version", 1)?;
-    add_word(out, "form", form_word(hex))?;
+    add_word(out, "form", if hex { "hex" } else { "text" })?;
     add_wide(out, "argument", argument)?;
-    add_word(out, "test", test_word(test))?;
+    let test = match test {
+        Test::Lrpd => "lrpd",
+        Test::Flow => "flow",
+    };
+    add_word(out, "test", test)?;
     add_flag(out, "states", states)?;
     add_flag(out, "all", all)?;
     add_flag(out, "grid", grid)?;
@@ -101,7 +104,7 @@ fn add_known(
     value: &AbstractValue,
 ) -> Result<(), AllocError>
     ensures { OnOk result (string_bytes out.new
-        ≡ string_bytes out.old ++ printed (register_record slot to register value.now)) }
+        ≡ string_bytes out.old ++ printed (records.Value slot to register value.now)) }
 {
     match to {
         None => {
@@ -146,7 +149,11 @@ fn add_unwritten(out: &mut String, slot: u32, frame: FrameOf, offset: i64) -> Re
 {
     begin(out, "unwritten")?;
     add_number(out, "slot", u64::from(slot))?;
-    add_word(out, "frame", frame_word(frame))?;
+    let whose = match frame {
+        FrameOf::Own => "own",
+        FrameOf::Main => "main",
+    };
+    add_word(out, "frame", whose)?;
     add_signed(out, "offset", offset)?;
     end(out)
 }
@@ -186,20 +193,15 @@ fn print_record(out: &mut String, alloc: Global, fact: &Record) -> Result<(), Al
         } => add_insn_record(out, alloc, slot, &insn, reached, ahead, aside),
         Record::Value {
             slot,
+            to,
             register,
             value,
-        } => add_known(out, slot, None, register, &value),
+        } => add_known(out, slot, to, register, &value),
         Record::Read {
             slot,
             register,
             source,
         } => add_read(out, slot, register, source),
-        Record::Edge {
-            slot,
-            to,
-            register,
-            value,
-        } => add_known(out, slot, Some(to), register, &value),
         Record::Unwritten {
             slot,
             frame,

@@ -48,9 +48,10 @@ pub enum Record {
         ahead: Option<u32>,
         aside: Option<u32>,
     },
-    /// What a register may have before a slot.
+    /// What a register may have before a slot, or on the edges from there to another.
     Value {
         slot: u32,
+        to: Option<u32>,
         register: Reg,
         value: AbstractValue,
     },
@@ -59,13 +60,6 @@ pub enum Record {
         slot: u32,
         register: Reg,
         source: Source,
-    },
-    /// What a register may have on the edges from a slot to another.
-    Edge {
-        slot: u32,
-        to: u32,
-        register: Reg,
-        value: AbstractValue,
     },
     /// A byte that an instruction reads and that isn't written, from -512 to -1 past the frame's end.
     Unwritten {

@@ -2,17 +2,14 @@
 
 ghost use Rattle.std.specs.{Prelude.{◌≡◌, ◌++◌, codes, OnOk}, String.{string_bytes}};
 ghost use Rattle.bpfspec_records.specs.{Fields.{word}, Printed.{printed}};
-ghost use Rattle.bpfspec_records.specs.Refusals.{cause_fields, refusal_code, refusal_name, refused_event};
-ghost use Rattle.bpfspec_records.specs.Refusals.{refused_line, refused_section, refused_slot};
+ghost use Rattle.bpfspec_records.specs.Refusals.{refusal_code, refusal_name, refused_event, refused_line};
+ghost use Rattle.bpfspec_records.specs.Refusals.{refused_section, refused_slot};
 ghost use Rattle.bpfspec_records.specs.declared.records.Record.TheVariants as records;
 
 use crate::fields::{add_optional, add_word, begin, end};
-use crate::words::{
-    codec_fault_name, rule_name, schedule_fault_code, schedule_fault_name, section_word,
-    split_fault_code, split_fault_name, text_fault_name,
-};
-use bpfspec_output::{Refusal, Section};
-use loop_core_model::ReplayFault;
+use crate::words::{codec_fault_name, rule_name, text_fault_name};
+use bpfspec_output::{Refusal, Section, section_name};
+use loop_core_model::{ReplayFault, SplitFault};
 use std::alloc::AllocError;
 
 /// The section that is refused.
@@ -39,8 +36,12 @@ fn add_code(out: &mut String, refusal: Refusal) -> Result<(), AllocError>
         Refusal::Sizes => add_word(out, "code", "P1"),
         Refusal::Plan => add_word(out, "code", "P2"),
         Refusal::NoLoop => add_word(out, "code", "no_loop"),
-        Refusal::Split(fault) => add_word(out, "code", split_fault_code(fault)),
-        Refusal::Schedule(fault) => add_word(out, "code", schedule_fault_code(fault)),
+        Refusal::Split(SplitFault::Falling) => add_word(out, "code", "S1"),
+        Refusal::Split(SplitFault::Number) => add_word(out, "code", "S2"),
+        Refusal::Split(SplitFault::Ends) => add_word(out, "code", "S3"),
+        Refusal::Schedule(ReplayFault::NoSuchWorker { .. }) => add_word(out, "code", "E1"),
+        Refusal::Schedule(ReplayFault::NotEnabled { .. }) => add_word(out, "code", "E2"),
+        Refusal::Schedule(ReplayFault::NotEnded { .. }) => add_word(out, "code", "E3"),
     }
 }
 
@@ -55,53 +56,31 @@ fn name_of(refusal: Refusal) -> &'static str
         Refusal::Sizes => "sizes",
         Refusal::Plan => "plan",
         Refusal::NoLoop => "no_loop",
-        Refusal::Split(fault) => split_fault_name(fault),
-        Refusal::Schedule(fault) => schedule_fault_name(fault),
+        Refusal::Split(SplitFault::Falling) => "falling",
+        Refusal::Split(SplitFault::Number) => "number",
+        Refusal::Split(SplitFault::Ends) => "ends",
+        Refusal::Schedule(ReplayFault::NoSuchWorker { .. }) => "no_such_worker",
+        Refusal::Schedule(ReplayFault::NotEnabled { .. }) => "not_enabled",
+        Refusal::Schedule(ReplayFault::NotEnded { .. }) => "not_ended",
     }
 }
 
-/// The line of a text at which it is.
-fn line_of(refusal: Refusal) -> Option<u64>
-    ensures { result ≡ refused_line refusal }
+/// Where a refusal is: a line of a text, a slot, and an event, or how many haven't ended.
+fn place_of(refusal: Refusal) -> (Option<u64>, Option<u64>, Option<u64>)
+    ensures line { result.0 ≡ refused_line refusal }
+    ensures slot { result.1 ≡ refused_slot refusal }
+    ensures event { result.2 ≡ refused_event refusal }
 {
     match refusal {
-        Refusal::Text { line, .. } => Some(u64::from(line)),
-        _ => None,
-    }
-}
-
-/// The slot at which it is.
-fn slot_of(refusal: Refusal) -> Option<u64>
-    ensures { result ≡ refused_slot refusal }
-{
-    match refusal {
-        Refusal::Codec { slot, .. } => Some(slot as u64),
-        Refusal::Rule { slot, .. } => Some(u64::from(slot)),
-        _ => None,
-    }
-}
-
-/// The event at which it is, or how many there are where they haven't ended.
-fn event_of(refusal: Refusal) -> Option<u64>
-    ensures { result ≡ refused_event refusal }
-{
-    match refusal {
+        Refusal::Text { line, .. } => (Some(u64::from(line)), None, None),
+        Refusal::Codec { slot, .. } => (None, Some(slot as u64), None),
+        Refusal::Rule { slot, .. } => (None, Some(u64::from(slot)), None),
         Refusal::Schedule(
             ReplayFault::NoSuchWorker { event } | ReplayFault::NotEnabled { event },
-        ) => Some(event as u64),
-        Refusal::Schedule(ReplayFault::NotEnded { events }) => Some(events as u64),
-        _ => None,
+        ) => (None, None, Some(event as u64)),
+        Refusal::Schedule(ReplayFault::NotEnded { events }) => (None, None, Some(events as u64)),
+        _ => (None, None, None),
     }
-}
-
-/// Adds what is refused, and why.
-#[tactic(auto, unfolding(crate::specs::Refusals::cause_fields))]
-fn add_cause(out: &mut String, refusal: Refusal) -> Result<(), AllocError>
-    ensures { OnOk result (string_bytes out.new ≡ string_bytes out.old ++ cause_fields refusal) }
-{
-    add_word(out, "section", section_word(section_of(refusal)))?;
-    add_code(out, refusal)?;
-    add_word(out, "name", name_of(refusal))
 }
 
 /// Adds the record of a refusal: what is refused, why, and where it is.
@@ -110,9 +89,12 @@ pub(crate) fn add_refusal(out: &mut String, refusal: Refusal) -> Result<(), Allo
     ensures { OnOk result (string_bytes out.new ≡ string_bytes out.old ++ printed (records.Refusal refusal)) }
 {
     begin(out, "refusal")?;
-    add_cause(out, refusal)?;
-    add_optional(out, "line", line_of(refusal))?;
-    add_optional(out, "slot", slot_of(refusal))?;
-    add_optional(out, "event", event_of(refusal))?;
+    add_word(out, "section", section_name(section_of(refusal)))?;
+    add_code(out, refusal)?;
+    add_word(out, "name", name_of(refusal))?;
+    let (line, slot, event) = place_of(refusal);
+    add_optional(out, "line", line)?;
+    add_optional(out, "slot", slot)?;
+    add_optional(out, "event", event)?;
     end(out)
 }

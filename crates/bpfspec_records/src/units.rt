@@ -4,7 +4,7 @@ ghost use Rattle.std.specs.Prelude.{◌≡◌, ◌++◌, true, Some, is_some, On
 ghost use Rattle.bpf_insn_types.specs.Program.{insn_at};
 ghost use Rattle.bpf_verify_model.specs.Accepted.{first_fault};
 ghost use Rattle.bpf_verify_origin.specs.Inspected.{is_up_to};
-ghost use Rattle.bpfspec_records.specs.Units.{insn_records, known_before, known_records, map_records, slot_records};
+ghost use Rattle.bpfspec_records.specs.Units.{insn_records, known_before, map_records, slot_records};
 ghost use Rattle.bpfspec_records.specs.Units.{unit_records, unwritten_records};
 
 use crate::adding::add;
@@ -12,7 +12,7 @@ use crate::known::{add_edges, add_reads, add_values, is_up_to, target};
 use crate::records::Record;
 use crate::unwritten::add_unwritten_bytes;
 use bpf_insn_types::{Insn, slots};
-use bpf_verify_model::{Outflow, Rule, State};
+use bpf_verify_model::{Rule, State};
 use bpf_verify_origin::Inspection;
 use std::alloc::AllocError;
 
@@ -30,26 +30,6 @@ fn add_maps(records: &mut Vec<Record>, sizes: &[u32]) -> Result<(), AllocError>
         )?;
     }
     Ok(())
-}
-
-/// Adds what is known at a slot, if it is reached, where this flows from it.
-fn add_known(
-    records: &mut Vec<Record>,
-    inspection: &Inspection,
-    slot: u32,
-    insn: &Insn,
-    out: &Outflow,
-    before: &Option<State>,
-) -> Result<(), AllocError>
-    ensures { OnOk result (records.new.items
-        ≡ records.old.items ++ known_records inspection.now slot insn.now out.now before.now) }
-{
-    let Some(state) = before else {
-        return Ok(());
-    };
-    add_values(records, slot, None, state)?;
-    add_reads(records, inspection, slot, insn)?;
-    add_edges(records, inspection, slot, out)
 }
 
 /// What is known before a slot up to the first fault where an instruction starts.
@@ -86,11 +66,15 @@ fn add_insn(
             aside: target(&out.aside),
         },
     )?;
-    if with_values {
-        add_known(records, inspection, slot, insn, &out, &before)
-    } else {
-        Ok(())
+    if !with_values {
+        return Ok(());
     }
+    let Some(state) = &before else {
+        return Ok(());
+    };
+    add_values(records, slot, None, state)?;
+    add_reads(records, inspection, slot, insn)?;
+    add_edges(records, inspection, slot, &out)
 }
 
 /// Adds the instructions up to the first fault.

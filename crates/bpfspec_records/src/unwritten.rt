@@ -1,8 +1,7 @@
 //! The bytes that an instruction reads and that aren't written.
 
-ghost use Rattle.std.specs.Prelude.{◌≡◌, ◌<◌, ◌≤◌, ◌+◌, ◌++◌, OnOk};
-ghost use Rattle.bpfspec_records.specs.Units.{base_records, byte_record, byte_records, memory_read, place_records};
-ghost use Rattle.bpfspec_records.specs.Units.{unread_records};
+ghost use Rattle.std.specs.Prelude.{◌≡◌, ◌≤◌, ◌+◌, ◌++◌, OnOk};
+ghost use Rattle.bpfspec_records.specs.Units.{byte_records, memory_read, place_records, unread_records};
 
 use crate::adding::add;
 use crate::records::{FrameOf, Record};
@@ -51,31 +50,6 @@ fn memory_read(insn: &Insn) -> Option<MemoryRead>
     Some(MemoryRead { base, offset, size })
 }
 
-/// Adds a byte of a frame that the instruction at a slot reads, unless it is written.
-fn add_byte(
-    records: &mut Vec<Record>,
-    slot: u32,
-    frame: FrameOf,
-    written: &WrittenBytes,
-    position: u32,
-) -> Result<(), AllocError>
-    requires { position < 512 }
-    ensures { OnOk result (records.new.items ≡ records.old.items ++ byte_record slot frame written.now position) }
-{
-    if written.all_written(position as usize, 1) {
-        return Ok(());
-    }
-    let offset = i64::from(position) - 512;
-    add(
-        records,
-        Record::Unwritten {
-            slot,
-            frame,
-            offset,
-        },
-    )
-}
-
 /// Adds those of n bytes from a position in a frame on that aren't written.
 fn add_bytes(
     records: &mut Vec<Record>,
@@ -90,7 +64,17 @@ fn add_bytes(
         ≡ records.old.items ++ byte_records slot frame written.now position size) }
 {
     for at in 0..size {
-        add_byte(records, slot, frame, written, position + at)?;
+        let offset = i64::from(position + at) - 512;
+        if !written.all_written((position + at) as usize, 1) {
+            add(
+                records,
+                Record::Unwritten {
+                    slot,
+                    frame,
+                    offset,
+                },
+            )?;
+        }
     }
     Ok(())
 }
@@ -112,32 +96,6 @@ fn add_bytes_at(
     add_bytes(records, slot, frame, written, place as u32, size)
 }
 
-/// Adds the unwritten bytes that a read at this base has.
-fn add_base(
-    records: &mut Vec<Record>,
-    slot: u32,
-    state: &State,
-    read: MemoryRead,
-    base: &AbstractValue,
-) -> Result<(), AllocError>
-    ensures { OnOk result (records.new.items
-        ≡ records.old.items ++ base_records slot state.now read.offset read.size base.now) }
-{
-    let offset = i64::from(read.offset);
-    match *base {
-        AbstractValue::Frame(position) => {
-            let place = i64::from(position) + offset;
-            add_bytes_at(records, slot, FrameOf::Own, &state.own, place, read.size)
-        }
-        AbstractValue::Ctx(position) => {
-            let place = i64::from(position) + offset;
-            let written = state.caller.unwrap_or(WrittenBytes::none());
-            add_bytes_at(records, slot, FrameOf::Main, &written, place, read.size)
-        }
-        _ => Ok(()),
-    }
-}
-
 /// Adds the bytes that the instruction at a slot reads and that aren't written.
 pub(crate) fn add_unwritten_bytes(
     records: &mut Vec<Record>,
@@ -148,8 +106,20 @@ pub(crate) fn add_unwritten_bytes(
     ensures { OnOk result (records.new.items
         ≡ records.old.items ++ unread_records slot state.now (memory_read insn.now)) }
 {
-    match memory_read(insn) {
-        None => Ok(()),
-        Some(read) => add_base(records, slot, state, read, &state.register(read.base)),
+    let Some(read) = memory_read(insn) else {
+        return Ok(());
+    };
+    let offset = i64::from(read.offset);
+    match state.register(read.base) {
+        AbstractValue::Frame(position) => {
+            let place = i64::from(position) + offset;
+            add_bytes_at(records, slot, FrameOf::Own, &state.own, place, read.size)
+        }
+        AbstractValue::Ctx(position) => {
+            let place = i64::from(position) + offset;
+            let written = state.caller.unwrap_or(WrittenBytes::none());
+            add_bytes_at(records, slot, FrameOf::Main, &written, place, read.size)
+        }
+        _ => Ok(()),
     }
 }
